@@ -3,7 +3,7 @@ use Rattle.std.proofs.Common.{◌≡◌, ℕ, List, [], ◌∷◌, refl, arith, 
 use Rattle.std.proofs.lemmas.List.Elements.{All-nil, All-cons}
 use Rattle.app_program.specs.declared.program.ProgramLine.{ProgramLine}
 use Rattle.app_program.specs.declared.program.ProgramLine.TheVariants.{Store, Spin, Submit, Reclaim, Reply}
-use Rattle.app_program.specs.Programs.{Submission, stores_of, submits_of, reclaims_of, reply_address, IsClientLine, IsServerLine, IsClientProgram, IsServerProgram}
+use Rattle.app_program.specs.Programs.{Submission, program_stores, program_submits, program_reclaims, reply_address, IsClientLine, IsServerLine, IsClientProgram, IsServerProgram}
 
 abbrev submission : ℕ → ℕ → ℕ → ℕ → Submission
 submission method number addr after = record { method = method; number = number; addr = addr; after = after }
@@ -13,13 +13,13 @@ submission method number addr after = record { method = method; number = number;
 abbrev one_call : List ProgramLine
 one_call = Store 2 150 ∷ Submit 0 2 ∷ []
 
-one_store : stores_of one_call ≡ (2, 150) ∷ []
+one_store : program_stores one_call ≡ (2, 150) ∷ []
 one_store = refl
 
-one_submission : submits_of 0 one_call ≡ submission 0 0 2 1 ∷ []
+one_submission : program_submits 0 one_call ≡ submission 0 0 2 1 ∷ []
 one_submission = refl
 
-nothing_back : reclaims_of one_call ≡ []
+nothing_back : program_reclaims one_call ≡ []
 nothing_back = refl
 
 fits_its_heap : IsClientProgram 64 one_call
@@ -35,13 +35,13 @@ fits_its_heap = record {
 abbrev two_calls : List ProgramLine
 two_calls = Store 2 7 ∷ Submit 0 2 ∷ Spin 2 3 5 6 ∷ Reclaim 9 ∷ Submit 1 4 ∷ Spin 0 3 8 8 ∷ []
 
-five_stores : stores_of two_calls ≡ (2, 7) ∷ (3, 5) ∷ (3, 6) ∷ (3, 5) ∷ (3, 6) ∷ []
+five_stores : program_stores two_calls ≡ (2, 7) ∷ (3, 5) ∷ (3, 6) ∷ (3, 5) ∷ (3, 6) ∷ []
 five_stores = refl
 
-each_behind_its_stores : submits_of 0 two_calls ≡ submission 0 0 2 1 ∷ submission 1 0 4 5 ∷ []
+each_behind_its_stores : program_submits 0 two_calls ≡ submission 0 0 2 1 ∷ submission 1 0 4 5 ∷ []
 each_behind_its_stores = refl
 
-one_back : reclaims_of two_calls ≡ 9 ∷ []
+one_back : program_reclaims two_calls ≡ 9 ∷ []
 one_back = refl
 
 -- a client doesn't reply, and word 0 is reserved

@@ -13,19 +13,19 @@ pub record Submission : Type 0 where
   pub after : ℕ
 
 -- two stores, repeated
-abbrev pub spun : ℕ → ℕ × ℕ → ℕ × ℕ → List (ℕ × ℕ)
-spun zero first second = []
-spun (suc times) first second = first ∷ second ∷ spun times first second
+abbrev pub repeated_stores : ℕ → ℕ × ℕ → ℕ × ℕ → List (ℕ × ℕ)
+repeated_stores zero first second = []
+repeated_stores (suc times) first second = first ∷ second ∷ repeated_stores times first second
 
 -- the stores of a line, each a place and a value
 abbrev pub line_stores : ProgramLine → List (ℕ × ℕ)
 line_stores (Store place value) = (place, value) ∷ []
-line_stores (Spin times place first second) = spun times (place, first) (place, second)
+line_stores (Spin times place first second) = repeated_stores times (place, first) (place, second)
 line_stores _ = []
 
 -- the stores of some lines
-abbrev pub stores_of : List ProgramLine → List (ℕ × ℕ)
-stores_of lines = flat_map line_stores lines
+abbrev pub program_stores : List ProgramLine → List (ℕ × ℕ)
+program_stores lines = flat_map line_stores lines
 
 -- what a line submits after `made` stores
 abbrev pub line_submits : ℕ → ProgramLine → List Submission
@@ -33,9 +33,9 @@ line_submits made (Submit method addr) = record { method = method; number = 0; a
 line_submits made _ = []
 
 -- what some lines submit, after `made` stores
-abbrev pub submits_of : ℕ → List ProgramLine → List Submission
-submits_of made [] = []
-submits_of made (line ∷ lines) = line_submits made line ++ submits_of (made + length (line_stores line)) lines
+abbrev pub program_submits : ℕ → List ProgramLine → List Submission
+program_submits made [] = []
+program_submits made (line ∷ lines) = line_submits made line ++ program_submits (made + length (line_stores line)) lines
 
 -- the block that a line reclaims
 abbrev pub line_reclaims : ProgramLine → List ℕ
@@ -43,8 +43,8 @@ line_reclaims (Reclaim block) = block ∷ []
 line_reclaims _ = []
 
 -- the blocks that some lines reclaim
-abbrev pub reclaims_of : List ProgramLine → List ℕ
-reclaims_of lines = flat_map line_reclaims lines
+abbrev pub program_reclaims : List ProgramLine → List ℕ
+program_reclaims lines = flat_map line_reclaims lines
 
 -- the address of the first reply among some lines, or 0 if there is none
 abbrev pub reply_address : List ProgramLine → ℕ
@@ -55,32 +55,32 @@ reply_address (line ∷ lines) = reply_address lines
 -- ---- valid programs
 
 -- a place that can be stored to: word 0 is reserved
-pub record IsPlace (words place : ℕ) : Type 0 where
+pub record IsStorePlace (words place : ℕ) : Type 0 where
   pub from_one : 1 ≤ place
   pub in_heap : place < words
 
 -- a line stores only to places of a heap of this size
-abbrev pub StoresIn : ℕ → ProgramLine → Type 0
-StoresIn words (Store place value) = IsPlace words place
-StoresIn words (Spin times place first second) = IsPlace words place
-StoresIn words _ = Unit {0}
+abbrev pub HasStoresIn : ℕ → ProgramLine → Type 0
+HasStoresIn words (Store place value) = IsStorePlace words place
+HasStoresIn words (Spin times place first second) = IsStorePlace words place
+HasStoresIn words _ = Unit {0}
 
 -- a line of a client whose heap has this size
 abbrev pub IsClientLine : ℕ → ProgramLine → Type 0
 IsClientLine words (Reclaim block) = (1 ≤ block) × (block ≤ 2 ^ 63)
 IsClientLine words (Reply addr) = ⊥
-IsClientLine words line = StoresIn words line
+IsClientLine words line = HasStoresIn words line
 
 -- a line of a server, except its last one
 abbrev pub IsServerLine : ℕ → ProgramLine → Type 0
-IsServerLine words (Store place value) = IsPlace words place
-IsServerLine words (Spin times place first second) = IsPlace words place
+IsServerLine words (Store place value) = IsStorePlace words place
+IsServerLine words (Spin times place first second) = IsStorePlace words place
 IsServerLine words _ = ⊥
 
 -- a client's program for a heap of this size
 pub record IsClientProgram (words : ℕ) (lines : List ProgramLine) : Type 0 where
   pub each : All (IsClientLine words) lines
-  pub stores : length (stores_of lines) ≤ MAX_STORES
+  pub stores : length (program_stores lines) ≤ MAX_STORES
   pub few : length lines ≤ MAX_LINES
 
 -- a server's program for a heap of this size: stores, followed by one reply
@@ -89,4 +89,4 @@ pub record IsServerProgram (words : ℕ) (lines : List ProgramLine) : Type 0 whe
   pub addr : ℕ
   pub ends : lines ≡ front ++ Reply addr ∷ []
   pub each : All (IsServerLine words) front
-  pub stores : length (stores_of lines) ≤ MAX_REQUEST_STORES
+  pub stores : length (program_stores lines) ≤ MAX_REQUEST_STORES

@@ -6,14 +6,14 @@ use Rattle.mrpc_table.specs.declared.table.Kind.TheVariants.{Uint64}
 use Rattle.mrpc_table.specs.declared.table.Label.TheVariants.{Plain}
 use Rattle.mrpc_table.specs.declared.table.Table.{Table}
 use Rattle.graph_form.specs.Malformed.{copied, is_copied}
-use Rattle.graph_form.specs.Placed.{IsFine, IsSound, Placed, first, nothing, word}
+use Rattle.graph_form.specs.Placed.{IsValidWord, IsSound, Placed, first, nothing, word}
 use Rattle.graph_form.specs.Roles.{value}
 use Rattle.graph_form.specs.declared.placed.Placed.{Placed as PlacedWords}
 use Rattle.graph_form.specs.declared.reason.Reason.TheVariants.{Address, Presence, Case, Length, Utf8, Narrow, Depth, Loads, NoMethod}
-use Rattle.graph_place.specs.Stored.{StandsIn}
+use Rattle.graph_place.specs.Stored.{IsPlacedIn}
 use Rattle.descriptor_ring.specs.declared.descriptor.Descriptor.{Descriptor}
 use Rattle.descriptor_ring.specs.Heaps.{no_heap}
-use Rattle.app_stub.specs.Echoing.{AllEchoes, Copying, Done, Echo, HasReply, IsCopyOf, none_done, replies, slice_at, slice_words}
+use Rattle.app_stub.specs.Echoing.{AllEchoes, RequestCopy, EchoTrace, Echo, HasReply, IsCopyOf, empty_echo_trace, replies, slice_at, slice_words}
 
 -- ---- slices of 64 words, with a ring of four
 
@@ -61,7 +61,7 @@ tree = field 1 (one (number 150)) no_fields
 abbrev at : ℕ → Placed
 at place = first (word place 150 nothing) nothing
 
-fine : (H : ℕ) → IsFine table H (value Uint64) 150
+fine : (H : ℕ) → IsValidWord table H (value Uint64) 150
 fine H Narrow o = o (lit< tt)
 fine H Address o = o
 fine H Presence o = o
@@ -75,7 +75,7 @@ fine H NoMethod o = o
 sound : (H place : ℕ) → 1 ≤ place → place ≤ 2 → 64 ≤ H → IsSound table H 0 place (at place)
 sound H place low high some = record { root = record { from_one = low; to_end = omega arith }; words = (refl, lit< tt, fine H, tt, tt) }
 
-abbrev copy : Copying
+abbrev copy : RequestCopy
 copy = record { loads = record { after = 1; loads = (1, 150) ∷ [] }; outcome = copied tree }
 
 copy_of_it : IsCopyOf echo request copy
@@ -90,7 +90,7 @@ has_reply = record { numbered = lit≤ tt; types = refl; fits = lit≤ tt }
 abbrev placed : PlacedWords
 placed = record { address = 2; words = (2, 150) ∷ [] }
 
-stands : StandsIn table 64 0 tree 2 2 placed
+stands : IsPlacedIn table 64 0 tree 2 2 placed
 stands = record {
   tree = at 2;
   loaded = record { sound = sound 64 2 (omega arith) (omega arith) (omega arith); words = refl };
@@ -102,12 +102,12 @@ stands = record {
 }
 
 -- its reply is in the first slice, after one store
-abbrev done : Done
+abbrev done : EchoTrace
 done = record {
   copies = copy ∷ [];
   stores = (2, 150) ∷ [];
   calls = record { method = 0; number = 1; addr = 2; after = 1 } ∷ [];
 }
 
-replied_to : AllEchoes echo (request ∷ []) none_done done
+replied_to : AllEchoes echo (request ∷ []) empty_echo_trace done
 replied_to = (done, replies copy tree placed refl copy_of_it (record { comes_to = refl; has = has_reply }) stands refl, refl)

@@ -7,21 +7,21 @@ use Rattle.std.proofs.lemmas.List.Concat.{flat_map-cons}
 use Rattle.std.proofs.lemmas.Grind.{flat_map-append}
 use Rattle.app_program.specs.declared.program.ProgramLine.{ProgramLine}
 use Rattle.app_program.specs.declared.program.ProgramLine.TheVariants.{Store, Spin, Submit, Reclaim, Reply}
-use Rattle.app_program.specs.Programs.{Submission, spun, line_stores, stores_of, line_submits, submits_of, line_reclaims, reclaims_of}
+use Rattle.app_program.specs.Programs.{Submission, repeated_stores, line_stores, program_stores, line_submits, program_submits, line_reclaims, program_reclaims}
 
 -- ---- spins
 
-spun-snoc : (n : ℕ) (a b : ℕ × ℕ) → spun n a b ++ a ∷ b ∷ [] ≡ spun (suc n) a b
+spun-snoc : (n : ℕ) (a b : ℕ × ℕ) → repeated_stores n a b ++ a ∷ b ∷ [] ≡ repeated_stores (suc n) a b
 spun-snoc zero a b = refl
 spun-snoc (suc n) a b = ap (λ xs. a ∷ b ∷ xs) (spun-snoc n a b)
 
 pub spun_more : (stores : List (ℕ × ℕ)) (n : ℕ) (a b : ℕ × ℕ)
-    → ((stores ++ spun n a b) ++ a ∷ []) ++ b ∷ [] ≡ stores ++ spun (n + 1) a b
+    → ((stores ++ repeated_stores n a b) ++ a ∷ []) ++ b ∷ [] ≡ stores ++ repeated_stores (n + 1) a b
 spun_more stores n a b =
-    append_assoc (stores ++ spun n a b) (a ∷ []) (b ∷ []) ∙ append_assoc stores (spun n a b) (a ∷ b ∷ [])
-    ∙ ap (λ xs. stores ++ xs) (spun-snoc n a b) ∙ ap (λ k. stores ++ spun k a b) (sym (add-one n))
+    append_assoc (stores ++ repeated_stores n a b) (a ∷ []) (b ∷ []) ∙ append_assoc stores (repeated_stores n a b) (a ∷ b ∷ [])
+    ∙ ap (λ xs. stores ++ xs) (spun-snoc n a b) ∙ ap (λ k. stores ++ repeated_stores k a b) (sym (add-one n))
 
-pub length-spun : (n : ℕ) (a b : ℕ × ℕ) → length (spun n a b) ≡ 2 * n
+pub length-spun : (n : ℕ) (a b : ℕ × ℕ) → length (repeated_stores n a b) ≡ 2 * n
 length-spun zero a b = refl
 length-spun (suc n) a b = omega (arith, length-spun n a b)
 
@@ -34,40 +34,40 @@ more_of f xs i d below =
     ∙ ap (λ ys. flat_map f (take i xs) ++ ys) (flat_map-cons f (get_or xs i d) [] ∙ append-nil (f (get_or xs i d)))
 
 pub stores_more : (lines : List ProgramLine) (i : ℕ) (d : ProgramLine) → i < length lines
-    → stores_of (take (i + 1) lines) ≡ stores_of (take i lines) ++ line_stores (get_or lines i d)
+    → program_stores (take (i + 1) lines) ≡ program_stores (take i lines) ++ line_stores (get_or lines i d)
 stores_more lines i d below = more_of line_stores lines i d below
 
 pub reclaims_more : (lines : List ProgramLine) (i : ℕ) (d : ProgramLine) → i < length lines
-    → reclaims_of (take (i + 1) lines) ≡ reclaims_of (take i lines) ++ line_reclaims (get_or lines i d)
+    → program_reclaims (take (i + 1) lines) ≡ program_reclaims (take i lines) ++ line_reclaims (get_or lines i d)
 reclaims_more lines i d below = more_of line_reclaims lines i d below
 
 submits_of-snoc : (made : ℕ) (lines : List ProgramLine) (line : ProgramLine)
-    → submits_of made (lines ++ line ∷ []) ≡ submits_of made lines ++ line_submits (made + length (stores_of lines)) line
+    → program_submits made (lines ++ line ∷ []) ≡ program_submits made lines ++ line_submits (made + length (program_stores lines)) line
 submits_of-snoc made [] line =
     append-nil (line_submits made line) ∙ ap (λ n. line_submits n line) (sym (add-zero made))
 submits_of-snoc made (x ∷ lines) line =
     let next = made + length (line_stores x) in
-    let counted : next + length (stores_of lines) ≡ made + length (stores_of (x ∷ lines)) =
-    omega (arith, length-append (line_stores x) (stores_of lines), ap length (flat_map-cons line_stores x lines)) in
+    let counted : next + length (program_stores lines) ≡ made + length (program_stores (x ∷ lines)) =
+    omega (arith, length-append (line_stores x) (program_stores lines), ap length (flat_map-cons line_stores x lines)) in
     ap (λ xs. line_submits made x ++ xs) (submits_of-snoc next lines line)
-    ∙ sym (append_assoc (line_submits made x) (submits_of next lines) (line_submits (next + length (stores_of lines)) line))
-    ∙ ap (λ n. (line_submits made x ++ submits_of next lines) ++ line_submits n line) counted
+    ∙ sym (append_assoc (line_submits made x) (program_submits next lines) (line_submits (next + length (program_stores lines)) line))
+    ∙ ap (λ n. (line_submits made x ++ program_submits next lines) ++ line_submits n line) counted
 
 submits_more : (made : ℕ) (lines : List ProgramLine) (i : ℕ) (d : ProgramLine) → i < length lines
-    → submits_of made (take (i + 1) lines)
-    ≡ submits_of made (take i lines) ++ line_submits (made + length (stores_of (take i lines))) (get_or lines i d)
+    → program_submits made (take (i + 1) lines)
+    ≡ program_submits made (take i lines) ++ line_submits (made + length (program_stores (take i lines))) (get_or lines i d)
 submits_more made lines i d below =
-    ap (submits_of made) (take_more lines i d below) ∙ submits_of-snoc made (take i lines) (get_or lines i d)
+    ap (program_submits made) (take_more lines i d below) ∙ submits_of-snoc made (take i lines) (get_or lines i d)
 
 -- what a client submitted, after one more line
 pub submits_further : (lines : List ProgramLine) (i : ℕ) (d : ProgramLine) (stores : List (ℕ × ℕ)) (old new : List Submission)
-    → i < length lines → stores ≡ stores_of (take i lines) → old ≡ submits_of 0 (take i lines)
-    → new ≡ old ++ line_submits (length stores) (get_or lines i d) → new ≡ submits_of 0 (take (i + 1) lines)
+    → i < length lines → stores ≡ program_stores (take i lines) → old ≡ program_submits 0 (take i lines)
+    → new ≡ old ++ line_submits (length stores) (get_or lines i d) → new ≡ program_submits 0 (take (i + 1) lines)
 submits_further lines i d stores old new below stored submitted more =
     let line = get_or lines i d in
     more ∙ ap (λ xs. xs ++ line_submits (length stores) line) submitted
-    ∙ ap (λ n. submits_of 0 (take i lines) ++ line_submits n line)
-    (ap length stored ∙ sym (zero-add (length (stores_of (take i lines)))))
+    ∙ ap (λ n. program_submits 0 (take i lines) ++ line_submits n line)
+    (ap length stored ∙ sym (zero-add (length (program_stores (take i lines)))))
     ∙ sym (submits_more 0 lines i d below)
 
 -- ---- how many
@@ -86,13 +86,13 @@ line_reclaims_few (Submit method addr) = omega arith
 line_reclaims_few (Reclaim block) = omega arith
 line_reclaims_few (Reply addr) = omega arith
 
-pub submits_few : (made : ℕ) (lines : List ProgramLine) → length (submits_of made lines) ≤ length lines
+pub submits_few : (made : ℕ) (lines : List ProgramLine) → length (program_submits made lines) ≤ length lines
 submits_few made [] = omega arith
 submits_few made (line ∷ lines) =
     let next = made + length (line_stores line) in
-    omega (arith, length-append (line_submits made line) (submits_of next lines), line_submits_few made line, submits_few next lines)
+    omega (arith, length-append (line_submits made line) (program_submits next lines), line_submits_few made line, submits_few next lines)
 
-pub reclaims_few : (lines : List ProgramLine) → length (reclaims_of lines) ≤ length lines
+pub reclaims_few : (lines : List ProgramLine) → length (program_reclaims lines) ≤ length lines
 reclaims_few [] = omega arith
 reclaims_few (line ∷ lines) =
-    omega (arith, ap length (flat_map-cons line_reclaims line lines), length-append (line_reclaims line) (reclaims_of lines), line_reclaims_few line, reclaims_few lines)
+    omega (arith, ap length (flat_map-cons line_reclaims line lines), length-append (line_reclaims line) (program_reclaims lines), line_reclaims_few line, reclaims_few lines)

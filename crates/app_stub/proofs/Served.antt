@@ -5,7 +5,7 @@ use Rattle.std.proofs.lemmas.List.Concat.{flat_map-cons}
 use Rattle.std.proofs.lemmas.Grind.{flat_map-append}
 use Rattle.descriptor_ring.specs.declared.descriptor.Descriptor.{Descriptor}
 use Rattle.app_program.specs.declared.program.ProgramLine.{ProgramLine}
-use Rattle.app_program.specs.Programs.{Submission, stores_of}
+use Rattle.app_program.specs.Programs.{Submission, program_stores}
 use Rattle.app_stub.specs.Serving.{served_stores, served_replies, all_served_stores, all_served_replies}
 
 all_served_stores-snoc : (lines : List ProgramLine) (notices : List Descriptor) (d : Descriptor)
@@ -52,13 +52,13 @@ replies_further lines notices all d stores old new one_more stored replied more 
     (ap length stored ∙ sym (zero-add (length (all_served_stores lines notices))))
     ∙ sym (all_served_replies-snoc lines 0 notices d) ∙ ap (all_served_replies lines 0) (sym one_more)
 
-served_stores_few : (lines : List ProgramLine) (d : Descriptor) → length (served_stores lines d) ≤ length (stores_of lines)
+served_stores_few : (lines : List ProgramLine) (d : Descriptor) → length (served_stores lines d) ≤ length (program_stores lines)
 served_stores_few lines d = grind arith
 
 served_replies_few : (lines : List ProgramLine) (after : ℕ) (d : Descriptor) → length (served_replies lines after d) ≤ 1
 served_replies_few lines after d = grind arith
 
-pub all_served_stores_few : (lines : List ProgramLine) (notices : List Descriptor) → length (stores_of lines) ≤ 1000
+pub all_served_stores_few : (lines : List ProgramLine) (notices : List Descriptor) → length (program_stores lines) ≤ 1000
     → length (all_served_stores lines notices) ≤ 1000 * length notices
 all_served_stores_few lines [] few = omega arith
 all_served_stores_few lines (d ∷ notices) few =

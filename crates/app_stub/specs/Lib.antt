@@ -1,4 +1,4 @@
-pub mod Desks
+pub mod EchoStates
 pub mod Echoing
 pub mod Pairing
 pub mod Ports

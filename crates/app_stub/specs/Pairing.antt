@@ -9,6 +9,6 @@ pub record IsPaired (notices : List Descriptor) (blocks : NumberReceiving) : Typ
   pub all : blocks.closed ≡ false → length notices ≤ length blocks.taken
 
 -- one for each notice but the last, unless the ring is closed
-pub record IsDue (notices : List Descriptor) (blocks : NumberReceiving) : Type 0 where
+pub record IsBlockDue (notices : List Descriptor) (blocks : NumberReceiving) : Type 0 where
   pub behind : length blocks.taken + 1 ≤ length notices
   pub all : blocks.closed ≡ false → length notices ≤ length blocks.taken + 1

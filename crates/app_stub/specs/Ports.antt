@@ -37,6 +37,6 @@ pub record HasSent (ring numbers : RingId) (submissions : List Submission) (bloc
   pub reclaims : sent.reclaims.items ≡ blocks
 
 -- the application took all notices and all block numbers, up to the closing of their rings
-pub record TookAll (end : AppEnd) : Type 0 where
+pub record HasTakenUpToClose (end : AppEnd) : Type 0 where
   pub notices : IsTrue end.notices.closed
   pub blocks : IsTrue end.blocks.closed

@@ -2,7 +2,7 @@
 use Rattle.std.specs.Prelude.{ℕ, ◌+◌, ◌==◌, nat_lt, List, [], ◌∷◌, ◌++◌, Bool, ◌&&◌, if◌then◌else◌, length, take, flat_map}
 use Rattle.descriptor_ring.specs.declared.descriptor.Descriptor.{Descriptor}
 use Rattle.app_program.specs.declared.program.ProgramLine.{ProgramLine}
-use Rattle.app_program.specs.Programs.{Submission, stores_of, reply_address}
+use Rattle.app_program.specs.Programs.{Submission, program_stores, reply_address}
 
 -- a descriptor as a submission
 abbrev pub submission_of : Descriptor → Submission
@@ -24,7 +24,7 @@ reply_to after addr d = record { method = d.method; number = d.number; addr = ad
 
 -- the stores of a server for a notice: those of its program, once for each request
 abbrev pub served_stores : List ProgramLine → Descriptor → List (ℕ × ℕ)
-served_stores lines d = if is_request d then stores_of lines else []
+served_stores lines d = if is_request d then program_stores lines else []
 
 -- its reply, after `after` stores
 abbrev pub served_replies : List ProgramLine → ℕ → Descriptor → List Submission

@@ -1,14 +1,14 @@
 //! Clients.
 
 ghost use Rattle.std.specs.Prelude.{◌≡◌, ◌<◌, ◌≤◌, ◌+◌, ◌^◌, ◌++◌, ℕ, List, false, [], IfOk, OnOk, OnErr, IfSome, IfNone, IsTrue, length, map};
-ghost use Rattle.app_stub.specs.Ports.{HasSent, IsNew, IsOfPort, TookAll};
-ghost use Rattle.app_program.specs.Programs.{IsClientLine, IsClientProgram, line_reclaims, line_stores, line_submits, reclaims_of, stores_of, submits_of};
+ghost use Rattle.app_stub.specs.Ports.{HasSent, IsNew, IsOfPort, HasTakenUpToClose};
+ghost use Rattle.app_program.specs.Programs.{IsClientLine, IsClientProgram, line_reclaims, line_stores, line_submits, program_reclaims, program_stores, program_submits};
 ghost use Rattle.app_stub.specs.Serving.{blocks_of, submission_of};
 
-use crate::delivery::Delivery;
 use crate::lines::{call, store_line};
-use crate::outgoing::Outgoing;
 use crate::port::{AppEnd, AppPort, AppSent};
+use crate::receivers::AppReceivers;
+use crate::senders::AppSenders;
 use crate::waiting::{self, Stopped};
 use app_program::{Program, ProgramLine};
 use descriptor_ring::NumberSender;
@@ -30,10 +30,10 @@ pub fn client<R: Wait, F: StopFlag + Drop>(rt: &R, program: &Program, port: AppP
 
     // Unless it saw the flag set, its stores and calls are those of the program, each call after the stores before
     // it. It reclaimed the blocks of the program, then the block of each notice.
-    ensures stores { IfSome result.sent (λ _. result.note.stores ≡ stores_of program.now) }
-    ensures sent { IfSome result.sent (HasSent port.sender.ring port.reclaims.ring (submits_of 0 program.now)
-        (reclaims_of program.now ++ blocks_of result.notices.taken result.blocks.taken)) }
-    ensures all { IfSome result.sent (λ _. TookAll result) }
+    ensures stores { IfSome result.sent (λ _. result.note.stores ≡ program_stores program.now) }
+    ensures sent { IfSome result.sent (HasSent port.sender.ring port.reclaims.ring (program_submits 0 program.now)
+        (program_reclaims program.now ++ blocks_of result.notices.taken result.blocks.taken)) }
+    ensures all { IfSome result.sent (λ _. HasTakenUpToClose result) }
 {
     let AppPort {
         mut writer,
@@ -45,14 +45,14 @@ pub fn client<R: Wait, F: StopFlag + Drop>(rt: &R, program: &Program, port: AppP
         reclaims,
         stop,
     } = port;
-    let mut delivery = Delivery { notices, blocks };
-    let outgoing = Outgoing {
+    let mut delivery = AppReceivers { notices, blocks };
+    let outgoing = AppSenders {
         sender,
         capacity,
         reclaims,
     };
     let sent = run(rt, &stop, program, &mut writer, &mut delivery, outgoing);
-    let Delivery { notices, blocks } = delivery;
+    let AppReceivers { notices, blocks } = delivery;
     AppEnd {
         note: writer.finish(),
         reader,
@@ -69,16 +69,16 @@ fn run<R: Wait, F: StopFlag>(
     stop: &F,
     program: &Program,
     writer: &mut Writer,
-    delivery: &mut Delivery,
-    mut outgoing: Outgoing,
+    delivery: &mut AppReceivers,
+    mut outgoing: AppSenders,
 ) -> Result<AppSent, Stopped>
     requires heap { outgoing.sender.heap ≡ writer.old.heap }
     requires program { IsClientProgram writer.old.heap.words program.now }
     requires new { (writer.old.stores ≡ []) × (outgoing.sender.sent ≡ []) × (outgoing.reclaims.sent ≡ [])
         × (delivery.old.notices.taken ≡ []) × (delivery.old.blocks.taken ≡ []) }
-    ensures stores { IfOk result (λ _. writer.new.stores ≡ stores_of program.now) }
-    ensures sent { IfOk result (HasSent outgoing.sender.ring outgoing.reclaims.ring (submits_of 0 program.now)
-        (reclaims_of program.now ++ blocks_of delivery.new.notices.taken delivery.new.blocks.taken)) }
+    ensures stores { IfOk result (λ _. writer.new.stores ≡ program_stores program.now) }
+    ensures sent { IfOk result (HasSent outgoing.sender.ring outgoing.reclaims.ring (program_submits 0 program.now)
+        (program_reclaims program.now ++ blocks_of delivery.new.notices.taken delivery.new.blocks.taken)) }
     ensures all { IfOk result (λ _. IsTrue delivery.new.notices.closed × IsTrue delivery.new.blocks.closed) }
     ensures seen { OnErr result (F.may_be_set stop.now) }
     ensures heap { writer.new.heap ≡ writer.old.heap }
@@ -86,48 +86,48 @@ fn run<R: Wait, F: StopFlag>(
         × (delivery.new.notices.heap ≡ delivery.old.notices.heap) }
     ensures blocks { delivery.new.blocks.ring ≡ delivery.old.blocks.ring }
 {
-    do_lines(rt, stop, program, writer, &mut outgoing)?;
-    let Outgoing {
+    execute_lines(rt, stop, program, writer, &mut outgoing)?;
+    let AppSenders {
         sender,
         capacity,
         mut reclaims,
     } = outgoing;
     let calls = waiting::close(rt, stop, sender)?;
-    give_all_back(rt, stop, delivery, capacity, &mut reclaims)?;
+    reclaim_all(rt, stop, delivery, capacity, &mut reclaims)?;
     let reclaims = waiting::close_reclaims(rt, stop, reclaims)?;
     Ok(AppSent { calls, reclaims })
 }
 
-fn do_lines<R: Wait, F: StopFlag>(
+fn execute_lines<R: Wait, F: StopFlag>(
     rt: &R,
     stop: &F,
     program: &Program,
     writer: &mut Writer,
-    outgoing: &mut Outgoing,
+    outgoing: &mut AppSenders,
 ) -> Result<(), Stopped>
     requires heap { outgoing.old.sender.heap ≡ writer.old.heap }
     requires program { IsClientProgram writer.old.heap.words program.now }
     requires new { (writer.old.stores ≡ []) × (outgoing.old.sender.sent ≡ []) × (outgoing.old.reclaims.sent ≡ []) }
-    ensures stores { OnOk result (writer.new.stores ≡ stores_of program.now) }
-    ensures calls { OnOk result (map submission_of outgoing.new.sender.sent ≡ submits_of 0 program.now) }
-    ensures reclaims { OnOk result (outgoing.new.reclaims.sent ≡ reclaims_of program.now) }
+    ensures stores { OnOk result (writer.new.stores ≡ program_stores program.now) }
+    ensures calls { OnOk result (map submission_of outgoing.new.sender.sent ≡ program_submits 0 program.now) }
+    ensures reclaims { OnOk result (outgoing.new.reclaims.sent ≡ program_reclaims program.now) }
     ensures seen { OnErr result (F.may_be_set stop.now) }
     ensures heap { writer.new.heap ≡ writer.old.heap }
     ensures rings { (outgoing.new.sender.ring ≡ outgoing.old.sender.ring)
         × (outgoing.new.reclaims.ring ≡ outgoing.old.reclaims.ring) }
 {
     for line in program.as_slice() {
-        do_line(rt, stop, line, writer, outgoing)?;
+        execute_line(rt, stop, line, writer, outgoing)?;
     }
     Ok(())
 }
 
-fn do_line<R: Wait, F: StopFlag>(
+fn execute_line<R: Wait, F: StopFlag>(
     rt: &R,
     stop: &F,
     line: &ProgramLine,
     writer: &mut Writer,
-    outgoing: &mut Outgoing,
+    outgoing: &mut AppSenders,
 ) -> Result<(), Stopped>
     requires heap { outgoing.old.sender.heap ≡ writer.old.heap }
     requires line { IsClientLine writer.old.heap.words line.now }
@@ -160,10 +160,10 @@ fn do_line<R: Wait, F: StopFlag>(
 
 // Takes the notices up to their closing and reclaims the block of each, then takes the block numbers up to their
 // closing.
-fn give_all_back<R: Wait, F: StopFlag>(
+fn reclaim_all<R: Wait, F: StopFlag>(
     rt: &R,
     stop: &F,
-    delivery: &mut Delivery,
+    delivery: &mut AppReceivers,
     capacity: u64,
     reclaims: &mut NumberSender,
 ) -> Result<(), Stopped>
@@ -180,7 +180,7 @@ fn give_all_back<R: Wait, F: StopFlag>(
 {
     for _ in rt.forever() {
         match waiting::next_notice(rt, stop, &mut delivery.notices, capacity)? {
-            Some(_) => delivery.give_back(rt, stop, reclaims)?,
+            Some(_) => delivery.reclaim_block(rt, stop, reclaims)?,
             None => return delivery.finish(rt, stop),
         }
     }

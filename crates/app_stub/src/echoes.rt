@@ -4,23 +4,23 @@ ghost use Rattle.std.specs.Prelude.{◌≡◌, ◌⊎◌, ◌<◌, ◌≤◌, �
 ghost use Rattle.mrpc_table.specs.Calls.{message_of};
 ghost use Rattle.mrpc_table.specs.Normal.{IsNormal};
 ghost use Rattle.mrpc_table.specs.Valid.{IsValid};
-ghost use Rattle.mrpc_table.specs.declared.call.Sort.TheVariants.{Request, Reply};
+ghost use Rattle.mrpc_table.specs.declared.call.CallKind.TheVariants.{Request, Reply};
 ghost use Rattle.mrpc_table.specs.declared.limits.TheConstants.{MAX_HEAP, MIN_HEAP};
 ghost use Rattle.graph_place.specs.Size.{tree_words};
-ghost use Rattle.descriptor_ring.specs.Rings.{IsOf};
+ghost use Rattle.descriptor_ring.specs.Rings.{IsDescriptorOf};
 ghost use Rattle.descriptor_ring.specs.declared.descriptor.Descriptor.{Descriptor};
 ghost use Rattle.descriptor_ring.specs.declared.limits.TheConstants.{MAX_CAPACITY};
-ghost use Rattle.app_stub.specs.Desks.{CopiesTo, IsDesk, IsNewDesk, PlacedReply, echo_of};
-ghost use Rattle.app_stub.specs.Echoing.{Echoed, HasReply, slice_words};
-ghost use Rattle.app_stub.specs.Pairing.{IsDue, IsPaired};
-ghost use Rattle.app_stub.specs.Ports.{HasSent, IsNew, IsOfPort, TookAll};
+ghost use Rattle.app_stub.specs.EchoStates.{IsCopyOutcome, IsEchoState, IsNewEchoState, IsReplyPlaced, echo_of};
+ghost use Rattle.app_stub.specs.Echoing.{HasEchoed, HasReply, slice_words};
+ghost use Rattle.app_stub.specs.Pairing.{IsBlockDue, IsPaired};
+ghost use Rattle.app_stub.specs.Ports.{HasSent, IsNew, IsOfPort, HasTakenUpToClose};
 ghost use Rattle.app_stub.specs.Serving.{blocks_of, submission_of};
 
-use crate::delivery::Delivery;
-use crate::ending::Ending;
+use crate::echo_error::EchoError;
 use crate::lines::call;
-use crate::outgoing::Outgoing;
 use crate::port::{AppEnd, AppPort, AppSent};
+use crate::receivers::AppReceivers;
+use crate::senders::AppSenders;
 use crate::slices::{next_slice, words_of};
 use crate::waiting;
 use descriptor_ring::{Descriptor, Sender};
@@ -28,16 +28,16 @@ use graph_copy::CopyResult;
 use graph_form::sound_tree_is_normal;
 use graph_place::{place, place_words};
 use mrpc_base::Stores;
-use mrpc_table::{MAX_LOADS, Memory, Sort, Table, Tree};
+use mrpc_table::{CallKind, MAX_LOADS, Memory, Table, Tree};
 use polling::StopFlag;
-use shared_heap::{Reader, Writer, calls_are_fresh, writers_go_on};
+use shared_heap::{Reader, Writer, calls_are_fresh, since_is_transitive};
 use stable_copy::copy_message;
 use std::alloc::Global;
 use std::sync::Wait;
 
 // The state of an echo.
 #[derive(Drop)]
-pub(crate) struct Desk {
+pub(crate) struct EchoState {
     pub(crate) alloc: Global,
     pub(crate) writer: Writer,
     pub(crate) reader: Reader,
@@ -71,12 +71,17 @@ pub fn echo<R: Wait, F: StopFlag + Drop>(
 
     // Unless it was out of memory or saw the flag set, it made copies of requests of its notices. Notices and copies
     // determine its stores and replies. It reclaimed the block of each notice.
-    ensures echoed { IfSome result.sent (λ sent. Echoed
-        (record { table = table.now; heap = port.writer.heap.words; receive = port.reader.heap.words; ring = port.capacity })
+    ensures echoed { IfSome result.sent (λ sent. HasEchoed
+        (record {
+          table = table.now;
+          heap = port.writer.heap.words;
+          receive = port.reader.heap.words;
+          ring = port.capacity;
+        })
         result.notices.taken result.note.stores (map submission_of sent.calls.items) result.reader) }
     ensures sent { IfSome result.sent (λ sent. HasSent port.sender.ring port.reclaims.ring
         (map submission_of sent.calls.items) (blocks_of result.notices.taken result.blocks.taken) sent) }
-    ensures all { IfSome result.sent (λ _. TookAll result) }
+    ensures all { IfSome result.sent (λ _. HasTakenUpToClose result) }
 {
     let AppPort {
         writer,
@@ -88,26 +93,26 @@ pub fn echo<R: Wait, F: StopFlag + Drop>(
         reclaims,
         stop,
     } = port;
-    let mut desk = Desk {
+    let mut desk = EchoState {
         alloc,
         writer,
         reader,
         ring: capacity,
         replies: 0,
     };
-    let mut delivery = Delivery { notices, blocks };
-    let outgoing = Outgoing {
+    let mut delivery = AppReceivers { notices, blocks };
+    let outgoing = AppSenders {
         sender,
         capacity,
         reclaims,
     };
     let answer = run(rt, &stop, table, &mut desk, &mut delivery, outgoing);
-    let memory = matches!(&answer, Err(Ending::NoMemory));
+    let memory = matches!(&answer, Err(EchoError::NoMemory));
     if memory {
         stop.set();
     }
-    let Desk { writer, reader, .. } = desk;
-    let Delivery { notices, blocks } = delivery;
+    let EchoState { writer, reader, .. } = desk;
+    let AppReceivers { notices, blocks } = delivery;
     AppEnd {
         note: writer.finish(),
         reader,
@@ -123,26 +128,26 @@ fn run<R: Wait, F: StopFlag>(
     rt: &R,
     stop: &F,
     table: &Table,
-    desk: &mut Desk,
-    delivery: &mut Delivery,
-    mut outgoing: Outgoing,
-) -> Result<AppSent, Ending>
+    desk: &mut EchoState,
+    delivery: &mut AppReceivers,
+    mut outgoing: AppSenders,
+) -> Result<AppSent, EchoError>
     requires valid { IsValid table.now }
-    requires new { IsNewDesk desk.old delivery.old outgoing }
-    ensures echoed { IfOk result (λ sent. Echoed (echo_of table.now desk.old) delivery.new.notices.taken
+    requires new { IsNewEchoState desk.old delivery.old outgoing }
+    ensures echoed { IfOk result (λ sent. HasEchoed (echo_of table.now desk.old) delivery.new.notices.taken
         desk.new.writer.stores (map submission_of sent.calls.items) desk.new.reader) }
     ensures sent { IfOk result (λ sent. HasSent outgoing.sender.ring outgoing.reclaims.ring
         (map submission_of sent.calls.items)
         (blocks_of delivery.new.notices.taken delivery.new.blocks.taken) sent) }
     ensures all { IfOk result (λ _. IsTrue delivery.new.notices.closed × IsTrue delivery.new.blocks.closed) }
-    ensures ended { IfErr result (λ e. e ≡ Ending.FlagSet → F.may_be_set stop.now) }
+    ensures ended { IfErr result (λ e. e ≡ EchoError.FlagSet → F.may_be_set stop.now) }
     ensures heaps { (desk.new.writer.heap ≡ desk.old.writer.heap) × (desk.new.reader.heap ≡ desk.old.reader.heap) }
     ensures notices { (delivery.new.notices.ring ≡ delivery.old.notices.ring)
         × (delivery.new.notices.heap ≡ delivery.old.notices.heap) }
     ensures blocks { delivery.new.blocks.ring ≡ delivery.old.blocks.ring }
 {
     echo_all(rt, stop, table, desk, delivery, &mut outgoing)?;
-    let Outgoing {
+    let AppSenders {
         sender,
         capacity: _,
         reclaims,
@@ -157,18 +162,18 @@ fn echo_all<R: Wait, F: StopFlag>(
     rt: &R,
     stop: &F,
     table: &Table,
-    desk: &mut Desk,
-    delivery: &mut Delivery,
-    outgoing: &mut Outgoing,
-) -> Result<(), Ending>
+    desk: &mut EchoState,
+    delivery: &mut AppReceivers,
+    outgoing: &mut AppSenders,
+) -> Result<(), EchoError>
     requires valid { IsValid table.now }
-    requires new { IsNewDesk desk.old delivery.old outgoing.old }
-    ensures echoed { OnOk result (Echoed (echo_of table.now desk.old) delivery.new.notices.taken
+    requires new { IsNewEchoState desk.old delivery.old outgoing.old }
+    ensures echoed { OnOk result (HasEchoed (echo_of table.now desk.old) delivery.new.notices.taken
         desk.new.writer.stores (map submission_of outgoing.new.sender.sent) desk.new.reader) }
     ensures given { OnOk result (outgoing.new.reclaims.sent
         ≡ blocks_of delivery.new.notices.taken delivery.new.blocks.taken) }
     ensures all { OnOk result (IsTrue delivery.new.notices.closed × IsTrue delivery.new.blocks.closed) }
-    ensures ended { IfErr result (λ e. e ≡ Ending.FlagSet → F.may_be_set stop.now) }
+    ensures ended { IfErr result (λ e. e ≡ EchoError.FlagSet → F.may_be_set stop.now) }
     ensures heaps { (desk.new.writer.heap ≡ desk.old.writer.heap) × (desk.new.reader.heap ≡ desk.old.reader.heap) }
     ensures notices { (delivery.new.notices.ring ≡ delivery.old.notices.ring)
         × (delivery.new.notices.heap ≡ delivery.old.notices.heap) }
@@ -194,28 +199,29 @@ fn echo_one<R: Wait, F: StopFlag>(
     rt: &R,
     stop: &F,
     table: &Table,
-    desk: &mut Desk,
-    delivery: &mut Delivery,
-    outgoing: &mut Outgoing,
+    desk: &mut EchoState,
+    delivery: &mut AppReceivers,
+    outgoing: &mut AppSenders,
     notice: Descriptor,
-) -> Result<(), Ending>
+) -> Result<(), EchoError>
     requires valid { IsValid table.now }
-    requires desk { IsDesk desk.old outgoing.old.sender }
-    requires of_heap { IsOf desk.old.reader.heap notice }
-    requires due { IsDue delivery.old.notices.taken delivery.old.blocks }
+    requires desk { IsEchoState desk.old outgoing.old.sender }
+    requires of_heap { IsDescriptorOf desk.old.reader.heap notice }
+    requires due { IsBlockDue delivery.old.notices.taken delivery.old.blocks }
     requires few { length outgoing.old.sender.sent < 4294967294 }
     requires few_reclaims { length outgoing.old.reclaims.sent < 2 ^ 61 }
     ensures echoed { OnOk result ((notices : List Descriptor)
-        → Echoed (echo_of table.now desk.old) notices desk.old.writer.stores (map submission_of outgoing.old.sender.sent)
+        → HasEchoed (echo_of table.now desk.old) notices desk.old.writer.stores
+        (map submission_of outgoing.old.sender.sent)
         desk.old.reader
-        → Echoed (echo_of table.now desk.old) (notices ++ notice ∷ []) desk.new.writer.stores
+        → HasEchoed (echo_of table.now desk.old) (notices ++ notice ∷ []) desk.new.writer.stores
         (map submission_of outgoing.new.sender.sent) desk.new.reader) }
-    ensures desk { OnOk result (IsDesk desk.new outgoing.new.sender) }
+    ensures desk { OnOk result (IsEchoState desk.new outgoing.new.sender) }
     ensures sent { OnOk result (length outgoing.new.sender.sent ≤ length outgoing.old.sender.sent + 1) }
     ensures paired { OnOk result (IsPaired delivery.new.notices.taken delivery.new.blocks) }
     ensures given { outgoing.old.reclaims.sent ≡ delivery.old.blocks.taken
         → OnOk result (outgoing.new.reclaims.sent ≡ delivery.new.blocks.taken) }
-    ensures ended { IfErr result (λ e. e ≡ Ending.FlagSet → F.may_be_set stop.now) }
+    ensures ended { IfErr result (λ e. e ≡ EchoError.FlagSet → F.may_be_set stop.now) }
     ensures heaps { (desk.new.writer.heap ≡ desk.old.writer.heap) × (desk.new.reader.heap ≡ desk.old.reader.heap)
         × (desk.new.ring ≡ desk.old.ring) }
     ensures notices { delivery.new.notices ≡ delivery.old.notices }
@@ -225,7 +231,7 @@ fn echo_one<R: Wait, F: StopFlag>(
 {
     let asked = (notice.method, notice.number);
     let tree = copied(table, desk, notice)?;
-    delivery.give_back(rt, stop, &mut outgoing.reclaims)?;
+    delivery.reclaim_block(rt, stop, &mut outgoing.reclaims)?;
     match tree {
         Some(tree) => {
             reply(rt, stop, table, desk, asked, &tree, &mut outgoing.sender)?;
@@ -236,13 +242,13 @@ fn echo_one<R: Wait, F: StopFlag>(
 }
 
 // The tree of the reply to a notice, if it has one. Its request is copied if the table has the method.
-fn copied(table: &Table, desk: &mut Desk, notice: Descriptor) -> Result<Option<Tree>, Memory>
+fn copied(table: &Table, desk: &mut EchoState, notice: Descriptor) -> Result<Option<Tree>, Memory>
     requires valid { IsValid table.now }
-    requires of_heap { IsOf desk.old.reader.heap notice }
+    requires of_heap { IsDescriptorOf desk.old.reader.heap notice }
     requires heap { (MIN_HEAP ≤ desk.old.writer.heap.words) × (desk.old.writer.heap.words ≤ MAX_HEAP) }
     requires receive { (MIN_HEAP ≤ desk.old.reader.heap.words) × (desk.old.reader.heap.words ≤ MAX_HEAP) }
     requires ring { desk.old.ring ≤ MAX_CAPACITY }
-    ensures copies { IfOk result (CopiesTo (echo_of table.now desk.old) notice desk.old.reader desk.new.reader) }
+    ensures copies { IfOk result (IsCopyOutcome (echo_of table.now desk.old) notice desk.old.reader desk.new.reader) }
     ensures normal { IfOk result (λ tree. IfSome tree (IsNormal table.now (message_of table.now notice.method Reply))) }
     ensures known { IfOk result (λ tree. IfSome tree (λ _. notice.method < length table.now.methods)) }
     ensures reader { desk.new.reader.heap ≡ desk.old.reader.heap }
@@ -263,7 +269,7 @@ fn copied(table: &Table, desk: &mut Desk, notice: Descriptor) -> Result<Option<T
     if kind != 1 || usize::from(method) >= table.methods.len() {
         return Ok(None);
     }
-    let message = table.message_of(method, Sort::Request);
+    let message = table.message_of(method, CallKind::Request);
     let answer = copy_message(
         desk.alloc,
         &mut desk.reader,
@@ -279,7 +285,7 @@ fn copied(table: &Table, desk: &mut Desk, notice: Descriptor) -> Result<Option<T
 }
 
 // The tree of a request's copy, if the request has a reply.
-fn replied(table: &Table, desk: &Desk, asked: (u16, u32), tree: Tree) -> Option<Tree>
+fn replied(table: &Table, desk: &EchoState, asked: (u16, u32), tree: Tree) -> Option<Tree>
     requires valid { IsValid table.now }
     requires known { asked.0 < length table.now.methods }
     requires normal { IsNormal table.now (message_of table.now asked.0 Request) tree }
@@ -291,8 +297,8 @@ fn replied(table: &Table, desk: &Desk, asked: (u16, u32), tree: Tree) -> Option<
         (λ t. HasReply (echo_of table.now desk.now) asked.0 asked.1 tree) }
 {
     let (method, number) = asked;
-    let input = table.message_of(method, Sort::Request);
-    if number == 0 || input != table.message_of(method, Sort::Reply) {
+    let input = table.message_of(method, CallKind::Request);
+    if number == 0 || input != table.message_of(method, CallKind::Reply) {
         return None;
     }
     if place_words(&tree, table, input) > words_of(desk.writer.size(), desk.ring) {
@@ -306,32 +312,32 @@ fn reply<R: Wait, F: StopFlag>(
     rt: &R,
     stop: &F,
     table: &Table,
-    desk: &mut Desk,
+    desk: &mut EchoState,
     asked: (u16, u32),
     tree: &Tree,
     sender: &mut Sender,
-) -> Result<(), Ending>
+) -> Result<(), EchoError>
     requires valid { IsValid table.now }
     requires known { asked.0 < length table.now.methods }
     requires normal { IsNormal table.now (message_of table.now asked.0 Reply) tree.now }
     requires fits { tree_words table.now (message_of table.now asked.0 Reply) tree.now
         ≤ slice_words desk.old.writer.heap.words desk.old.ring }
-    requires desk { IsDesk desk.old sender.old }
+    requires desk { IsEchoState desk.old sender.old }
     requires few { length sender.old.sent < 4294967294 }
-    ensures replied { OnOk result (PlacedReply (echo_of table.now desk.old) asked.0 asked.1 tree.now
+    ensures replied { OnOk result (IsReplyPlaced (echo_of table.now desk.old) asked.0 asked.1 tree.now
         (desk.old.writer.stores, map submission_of sender.old.sent)
         (desk.new.writer.stores, map submission_of sender.new.sent)) }
-    ensures desk { OnOk result (IsDesk desk.new sender.new) }
+    ensures desk { OnOk result (IsEchoState desk.new sender.new) }
     ensures sent { OnOk result (length sender.new.sent ≡ length sender.old.sent + 1) }
-    ensures ended { IfErr result (λ e. e ≡ Ending.FlagSet → F.may_be_set stop.now) }
+    ensures ended { IfErr result (λ e. e ≡ EchoError.FlagSet → F.may_be_set stop.now) }
     ensures same { (desk.new.writer.heap ≡ desk.old.writer.heap) × (desk.new.reader ≡ desk.old.reader)
         × (desk.new.ring ≡ desk.old.ring) }
     ensures ring { (sender.new.ring ≡ sender.old.ring) × (sender.new.heap ≡ sender.old.heap) }
 {
-    writers_go_on();
+    since_is_transitive();
     let (method, number) = asked;
     let at = next_slice(desk.writer.size(), desk.ring, desk.replies);
-    let message = table.message_of(method, Sort::Reply);
+    let message = table.message_of(method, CallKind::Reply);
     place(desk.alloc, tree, table, message, at, &mut desk.writer)?;
     let reply = call(&mut desk.writer, 2, method, number, at);
     waiting::send(rt, stop, sender, desk.ring, reply)?;

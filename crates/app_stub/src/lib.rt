@@ -14,12 +14,12 @@
 #![tactic(auto)]
 
 mod clients;
-mod delivery;
+mod echo_error;
 mod echoes;
-mod ending;
 mod lines;
-mod outgoing;
 mod port;
+mod receivers;
+mod senders;
 mod servers;
 mod slices;
 mod waiting;

@@ -1,14 +1,14 @@
 //! Servers.
 
 ghost use Rattle.std.specs.Prelude.{◌≡◌, ◌<◌, ◌≤◌, ◌+◌, ◌*◌, ◌^◌, ◌++◌, ℕ, List, false, [], IfOk, OnOk, OnErr, IfSome, IfNone, IsTrue, All, length, map};
-ghost use Rattle.app_stub.specs.Ports.{HasSent, IsNew, IsOfPort, TookAll};
-ghost use Rattle.app_program.specs.Programs.{StoresIn, IsServerProgram, reply_address, stores_of};
+ghost use Rattle.app_stub.specs.Ports.{HasSent, IsNew, IsOfPort, HasTakenUpToClose};
+ghost use Rattle.app_program.specs.Programs.{HasStoresIn, IsServerProgram, reply_address, program_stores};
 ghost use Rattle.app_stub.specs.Serving.{all_served_replies, all_served_stores, blocks_of, served_replies, served_stores, submission_of};
 
-use crate::delivery::Delivery;
 use crate::lines::{call, store_line};
-use crate::outgoing::Outgoing;
 use crate::port::{AppEnd, AppPort, AppSent};
+use crate::receivers::AppReceivers;
+use crate::senders::AppSenders;
 use crate::waiting::{self, Stopped};
 use app_program::{MAX_REQUEST_STORES, Program, ProgramLine};
 use descriptor_ring::{Descriptor, Sender};
@@ -36,7 +36,7 @@ pub fn server<R: Wait, F: StopFlag + Drop>(rt: &R, program: &Program, port: AppP
     ensures sent { IfSome result.sent (HasSent port.sender.ring port.reclaims.ring
         (all_served_replies program.now 0 result.notices.taken)
         (blocks_of result.notices.taken result.blocks.taken)) }
-    ensures all { IfSome result.sent (λ _. TookAll result) }
+    ensures all { IfSome result.sent (λ _. HasTakenUpToClose result) }
 {
     let AppPort {
         mut writer,
@@ -48,14 +48,14 @@ pub fn server<R: Wait, F: StopFlag + Drop>(rt: &R, program: &Program, port: AppP
         reclaims,
         stop,
     } = port;
-    let mut delivery = Delivery { notices, blocks };
-    let outgoing = Outgoing {
+    let mut delivery = AppReceivers { notices, blocks };
+    let outgoing = AppSenders {
         sender,
         capacity,
         reclaims,
     };
     let sent = run(rt, &stop, program, &mut writer, &mut delivery, outgoing);
-    let Delivery { notices, blocks } = delivery;
+    let AppReceivers { notices, blocks } = delivery;
     AppEnd {
         note: writer.finish(),
         reader,
@@ -72,8 +72,8 @@ fn run<R: Wait, F: StopFlag>(
     stop: &F,
     program: &Program,
     writer: &mut Writer,
-    delivery: &mut Delivery,
-    mut outgoing: Outgoing,
+    delivery: &mut AppReceivers,
+    mut outgoing: AppSenders,
 ) -> Result<AppSent, Stopped>
     requires heap { outgoing.sender.heap ≡ writer.old.heap }
     requires program { IsServerProgram writer.old.heap.words program.now }
@@ -91,7 +91,7 @@ fn run<R: Wait, F: StopFlag>(
     ensures blocks { delivery.new.blocks.ring ≡ delivery.old.blocks.ring }
 {
     serve_all(rt, stop, program, writer, delivery, &mut outgoing)?;
-    let Outgoing {
+    let AppSenders {
         sender,
         capacity: _,
         reclaims,
@@ -108,8 +108,8 @@ fn serve_all<R: Wait, F: StopFlag>(
     stop: &F,
     program: &Program,
     writer: &mut Writer,
-    delivery: &mut Delivery,
-    outgoing: &mut Outgoing,
+    delivery: &mut AppReceivers,
+    outgoing: &mut AppSenders,
 ) -> Result<(), Stopped>
     requires heap { outgoing.old.sender.heap ≡ writer.old.heap }
     requires program { IsServerProgram writer.old.heap.words program.now }
@@ -143,7 +143,7 @@ fn serve_all<R: Wait, F: StopFlag>(
                     &mut outgoing.sender,
                     outgoing.capacity,
                 )?;
-                delivery.give_back(rt, stop, &mut outgoing.reclaims)?;
+                delivery.reclaim_block(rt, stop, &mut outgoing.reclaims)?;
             }
             None => return delivery.finish(rt, stop),
         }
@@ -175,9 +175,9 @@ fn serve<R: Wait, F: StopFlag>(
     capacity: u64,
 ) -> Result<(), Stopped>
     requires heap { sender.old.heap ≡ writer.old.heap }
-    requires lines { All (StoresIn writer.old.heap.words) program.now }
+    requires lines { All (HasStoresIn writer.old.heap.words) program.now }
     requires address { address ≡ reply_address program.now }
-    requires few_stores { length writer.old.stores + length (stores_of program.now) ≤ 2 ^ 63 }
+    requires few_stores { length writer.old.stores + length (program_stores program.now) ≤ 2 ^ 63 }
     requires few_calls { length sender.old.sent < 4294967294 }
     ensures stores { OnOk result (writer.new.stores ≡ writer.old.stores ++ served_stores program.now notice.now) }
     ensures calls { OnOk result (map submission_of sender.new.sent ≡ map submission_of sender.old.sent
@@ -199,9 +199,9 @@ fn serve<R: Wait, F: StopFlag>(
 
 // Executes the stores of a program.
 fn store_lines(writer: &mut Writer, program: &Program)
-    requires places { All (StoresIn writer.old.heap.words) program.now }
-    requires few { length writer.old.stores + length (stores_of program.now) ≤ 2 ^ 63 }
-    ensures stores { writer.new.stores ≡ writer.old.stores ++ stores_of program.now }
+    requires places { All (HasStoresIn writer.old.heap.words) program.now }
+    requires few { length writer.old.stores + length (program_stores program.now) ≤ 2 ^ 63 }
+    ensures stores { writer.new.stores ≡ writer.old.stores ++ program_stores program.now }
     ensures heap { writer.new.heap ≡ writer.old.heap }
 {
     for line in program.as_slice() {

@@ -1,13 +1,13 @@
 //! Waiting at a ring: tries until the ring has room, or an item, or the stop flag is set.
 
 ghost use Rattle.std.specs.Prelude.{◌≡◌, ◌<◌, ◌≤◌, ◌^◌, ◌++◌, ◌∷◌, [], false, IfOk, IfSome, IfNone, IsNone, MatchOption, OnOk, OnErr, IsTrue, length};
-ghost use Rattle.descriptor_ring.specs.Rings.{IsOf};
+ghost use Rattle.descriptor_ring.specs.Rings.{IsDescriptorOf};
 
 use descriptor_ring::{
     Descriptor, Full, NumberReceiver, NumberSender, NumberTaken, NumbersSent, Receiver, Sender,
     Sent, Taken,
 };
-use polling::{FIRST_SLEEP, Pauses, StopFlag};
+use polling::{Backoff, FIRST_SLEEP, StopFlag};
 use std::sync::Wait;
 
 // A ring of at least this capacity is polled with sleeps in between. Meanwhile many slots come free, or many
@@ -18,19 +18,19 @@ const LARGE_RING: u64 = 16;
 const PLACE_SLEEP: u64 = 3;
 
 // How to wait for room in a ring of this capacity.
-fn pauses_for_room(capacity: u64) -> Pauses {
+fn backoff_for_room(capacity: u64) -> Backoff {
     if capacity < LARGE_RING {
-        return Pauses::new();
+        return Backoff::new();
     }
-    Pauses::asleep(capacity.saturating_mul(PLACE_SLEEP))
+    Backoff::sleeping(capacity.saturating_mul(PLACE_SLEEP))
 }
 
 // How to wait for an item of a ring of this capacity.
-fn pauses_for_items(capacity: u64) -> Pauses {
+fn backoff_for_items(capacity: u64) -> Backoff {
     if capacity < LARGE_RING {
-        return Pauses::new();
+        return Backoff::new();
     }
-    Pauses::asleep(FIRST_SLEEP)
+    Backoff::sleeping(FIRST_SLEEP)
 }
 
 // The stop flag was seen set.
@@ -45,14 +45,14 @@ pub(crate) fn send<R: Wait, F: StopFlag>(
     capacity: u64,
     mut descriptor: Descriptor,
 ) -> Result<(), Stopped>
-    requires of_heap { IsOf sender.old.heap descriptor }
+    requires of_heap { IsDescriptorOf sender.old.heap descriptor }
     requires few { length sender.old.sent < 4294967294 }
     ensures sent { OnOk result (sender.new.sent ≡ sender.old.sent ++ descriptor ∷ []) }
     ensures seen { OnErr result (F.may_be_set stop.now) }
     ensures ring { sender.new.ring ≡ sender.old.ring }
     ensures heap { sender.new.heap ≡ sender.old.heap }
 {
-    let mut pauses = pauses_for_room(capacity);
+    let mut pauses = backoff_for_room(capacity);
     for _ in rt.forever() {
         match sender.send(rt, descriptor) {
             Ok(()) => return Ok(()),
@@ -61,7 +61,7 @@ pub(crate) fn send<R: Wait, F: StopFlag>(
         if stop.is_set() {
             return Err(Stopped);
         }
-        pauses.pause(rt);
+        pauses.wait(rt);
     }
     unreachable!()
 }
@@ -85,7 +85,7 @@ pub(crate) fn close<R: Wait, F: StopFlag>(
     ensures sent { IfOk result (λ sent. (sent.items ≡ sender.sent) × (sent.ring ≡ sender.ring)) }
     ensures seen { OnErr result (F.may_be_set stop.now) }
 {
-    let mut pauses = Pauses::new();
+    let mut pauses = Backoff::new();
     for _ in rt.forever() {
         match sender.close(rt) {
             Ok(sent) => return Ok(sent),
@@ -94,7 +94,7 @@ pub(crate) fn close<R: Wait, F: StopFlag>(
         if stop.is_set() {
             return Err(Stopped);
         }
-        pauses.pause(rt);
+        pauses.wait(rt);
     }
     unreachable!()
 }
@@ -111,7 +111,7 @@ pub(crate) fn reclaim<R: Wait, F: StopFlag>(
     ensures seen { OnErr result (F.may_be_set stop.now) }
     ensures ring { reclaims.new.ring ≡ reclaims.old.ring }
 {
-    let mut pauses = Pauses::new();
+    let mut pauses = Backoff::new();
     for _ in rt.forever() {
         match reclaims.send(rt, block) {
             Ok(()) => return Ok(()),
@@ -120,7 +120,7 @@ pub(crate) fn reclaim<R: Wait, F: StopFlag>(
         if stop.is_set() {
             return Err(Stopped);
         }
-        pauses.pause(rt);
+        pauses.wait(rt);
     }
     unreachable!()
 }
@@ -134,7 +134,7 @@ pub(crate) fn close_reclaims<R: Wait, F: StopFlag>(
     ensures sent { IfOk result (λ sent. (sent.items ≡ reclaims.sent) × (sent.ring ≡ reclaims.ring)) }
     ensures seen { OnErr result (F.may_be_set stop.now) }
 {
-    let mut pauses = Pauses::new();
+    let mut pauses = Backoff::new();
     for _ in rt.forever() {
         match reclaims.close(rt) {
             Ok(sent) => return Ok(sent),
@@ -143,7 +143,7 @@ pub(crate) fn close_reclaims<R: Wait, F: StopFlag>(
         if stop.is_set() {
             return Err(Stopped);
         }
-        pauses.pause(rt);
+        pauses.wait(rt);
     }
     unreachable!()
 }
@@ -157,14 +157,14 @@ pub(crate) fn next_notice<R: Wait, F: StopFlag>(
 ) -> Result<Option<Descriptor>, Stopped>
     ensures taken { IfOk result (λ next. MatchOption next (notices.new.taken ≡ notices.old.taken)
         (λ d. notices.new.taken ≡ notices.old.taken ++ d ∷ [])) }
-    ensures of_heap { IfOk result (λ next. IfSome next (IsOf notices.old.heap)) }
+    ensures of_heap { IfOk result (λ next. IfSome next (IsDescriptorOf notices.old.heap)) }
     ensures few { IfOk result (λ _. length notices.new.taken ≤ 4294967294) }
     ensures closed { IfOk result (λ next. IfNone next (IsTrue notices.new.closed)) }
     ensures seen { OnErr result (F.may_be_set stop.now) }
     ensures ring { notices.new.ring ≡ notices.old.ring }
     ensures heap { notices.new.heap ≡ notices.old.heap }
 {
-    let mut pauses = pauses_for_items(capacity);
+    let mut pauses = backoff_for_items(capacity);
     for _ in rt.forever() {
         match notices.take(rt) {
             Taken::Item(notice) => return Ok(Some(notice)),
@@ -174,7 +174,7 @@ pub(crate) fn next_notice<R: Wait, F: StopFlag>(
         if stop.is_set() {
             return Err(Stopped);
         }
-        pauses.pause(rt);
+        pauses.wait(rt);
     }
     unreachable!()
 }
@@ -187,11 +187,12 @@ pub(crate) fn next_block<R: Wait, F: StopFlag>(
 ) -> Result<Option<u64>, Stopped>
     ensures taken { IfOk result (λ next. MatchOption next (blocks.new.taken ≡ blocks.old.taken)
         (λ n. blocks.new.taken ≡ blocks.old.taken ++ n ∷ [])) }
-    ensures closed { IfOk result (λ next. MatchOption next (IsTrue blocks.new.closed) (λ _. blocks.old.closed ≡ false)) }
+    ensures closed { IfOk result (λ next. MatchOption next (IsTrue blocks.new.closed) (λ _. blocks.old.closed
+        ≡ false)) }
     ensures seen { OnErr result (F.may_be_set stop.now) }
     ensures ring { blocks.new.ring ≡ blocks.old.ring }
 {
-    let mut pauses = Pauses::new();
+    let mut pauses = Backoff::new();
     for _ in rt.forever() {
         match blocks.take(rt) {
             NumberTaken::Item(number) => return Ok(Some(number)),
@@ -201,7 +202,7 @@ pub(crate) fn next_block<R: Wait, F: StopFlag>(
         if stop.is_set() {
             return Err(Stopped);
         }
-        pauses.pause(rt);
+        pauses.wait(rt);
     }
     unreachable!()
 }

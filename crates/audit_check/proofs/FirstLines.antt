@@ -10,8 +10,8 @@ use Rattle.std.proofs.Math.Seq.{take-append-add}
 use Rattle.std.proofs.lemmas.List.{append-nil}
 use Rattle.mrpc_table.specs.Text.{spaced}
 use Rattle.mrpc_table.specs.declared.table.Table.{Table}
-use Rattle.call_history.specs.declared.happening.Happened.{Happened}
-use Rattle.audit_text.specs.Lines.{IsCutInto, audit_line, happening_words}
+use Rattle.call_history.specs.declared.happening.ConnectionEvent.{ConnectionEvent}
+use Rattle.audit_text.specs.Lines.{IsSplitInto, audit_line, happening_words}
 use Rattle.audit_check.proofs.Cuts.{IsCut, Lacks}
 use Rattle.audit_check.specs.States.{IsFirstLine}
 
@@ -64,7 +64,7 @@ nowhere text h = without_line_feed text (lacks_all text (λ k less. h k (omega a
 
 -- ---- a line that is read before its end is found
 
-pub told_first : (T : Table) (x : Happened) (text rest : List ℕ) → IsCutInto (happening_words T x.conn x.what) → text ≡ audit_line T x ++ rest
+pub told_first : (T : Table) (x : ConnectionEvent) (text rest : List ℕ) → IsSplitInto (happening_words T x.conn x.what) → text ≡ audit_line T x ++ rest
     → IsFirstLine text (audit_line T x) rest
 told_first T x text rest cut e = record { joined = e; ends = inl (spaced (happening_words T x.conn x.what), refl, cut.one_line) }
 

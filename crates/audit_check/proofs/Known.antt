@@ -13,41 +13,41 @@ use Rattle.std.proofs.lemmas.List.{append-nil, length-reverse, reverse-append}
 use Rattle.std.proofs.lemmas.List.Elements.{filter_map-append}
 use Rattle.std.proofs.lemmas.Option.{slice_get_past}
 use Rattle.mrpc_table.specs.declared.table.Table.{Table}
-use Rattle.call_history.specs.Behind.{Behind}
-use Rattle.call_history.specs.Legal.{History, behind, on}
-use Rattle.call_history.specs.declared.happening.Happened.{Happened}
+use Rattle.call_history.specs.Trace.{Trace}
+use Rattle.call_history.specs.Legal.{History, trace_of, events_of}
+use Rattle.call_history.specs.declared.happening.ConnectionEvent.{ConnectionEvent}
 use Rattle.call_history.specs.declared.happening.Happening.{Happening}
-use Rattle.audit_rules.specs.Knowing.{Knows, under}
+use Rattle.audit_rules.specs.CheckerState.{IsCheckerAfter, checker_context}
 use Rattle.audit_rules.specs.declared.checker.Checker.{Checker}
-use Rattle.audit_check.specs.Checking.{on_connection}
+use Rattle.audit_check.specs.Checking.{context_on}
 use Rattle.audit_check.specs.States.{KnowsAll, KnowsEach, KnowsOn, checker_in, checker_of}
-use Rattle.audit_check.specs.declared.connections.Connections.{Connections}
+use Rattle.audit_check.specs.declared.connections.Checkers.{Checkers}
 
 -- ---- the trace
 
-on-more : (conn : ℕ) (h : History) (x : Happened) → on conn (h ++ x ∷ []) ≡ on conn h ++ on conn (x ∷ [])
-on-more conn h x = filter_map-append (λ (x : Happened). if x.conn == conn then Some x.what else None) h (x ∷ [])
+on-more : (conn : ℕ) (h : History) (x : ConnectionEvent) → events_of conn (h ++ x ∷ []) ≡ events_of conn h ++ events_of conn (x ∷ [])
+on-more conn h x = filter_map-append (λ (x : ConnectionEvent). if x.conn == conn then Some x.what else None) h (x ∷ [])
 
-on-same : (conn : ℕ) (x : Happened) → x.conn ≡ conn → on conn (x ∷ []) ≡ x.what ∷ []
+on-same : (conn : ℕ) (x : ConnectionEvent) → x.conn ≡ conn → events_of conn (x ∷ []) ≡ x.what ∷ []
 on-same conn x same = let is : (x.conn == conn) ≡ true = eq-eqb x.conn conn same in rw is refl
 
-on-other : (conn : ℕ) (x : Happened) → x.conn ≢ conn → on conn (x ∷ []) ≡ []
+on-other : (conn : ℕ) (x : ConnectionEvent) → x.conn ≢ conn → events_of conn (x ∷ []) ≡ []
 on-other conn x other = let isnt : (x.conn == conn) ≡ false = ne_eqb x.conn conn other in rw isnt refl
 
 -- on the connection of the next event, that comes last
-pub behind-more : (conn : ℕ) (h : History) (x : Happened) → x.conn ≡ conn → behind conn (h ++ x ∷ []) ≡ x.what ∷ behind conn h
+pub behind-more : (conn : ℕ) (h : History) (x : ConnectionEvent) → x.conn ≡ conn → trace_of conn (h ++ x ∷ []) ≡ x.what ∷ trace_of conn h
 behind-more conn h x same =
-    ap reverse (on-more conn h x) ∙ ap (λ (l : List Happening). reverse (on conn h ++ l)) (on-same conn x same) ∙ reverse-append (on conn h) (x.what ∷ [])
+    ap reverse (on-more conn h x) ∙ ap (λ (l : List Happening). reverse (events_of conn h ++ l)) (on-same conn x same) ∙ reverse-append (events_of conn h) (x.what ∷ [])
 
 -- on another connection nothing changes
-pub behind-other : (conn : ℕ) (h : History) (x : Happened) → x.conn ≢ conn → behind conn (h ++ x ∷ []) ≡ behind conn h
+pub behind-other : (conn : ℕ) (h : History) (x : ConnectionEvent) → x.conn ≢ conn → trace_of conn (h ++ x ∷ []) ≡ trace_of conn h
 behind-other conn h x other =
-    ap reverse (on-more conn h x) ∙ ap (λ (l : List Happening). reverse (on conn h ++ l)) (on-other conn x other) ∙ ap reverse (append-nil (on conn h))
+    ap reverse (on-more conn h x) ∙ ap (λ (l : List Happening). reverse (events_of conn h ++ l)) (on-other conn x other) ∙ ap reverse (append-nil (events_of conn h))
 
 -- the trace of later events comes before the trace of earlier ones
-pub behind-joined : (conn : ℕ) (h k : History) → behind conn (h ++ k) ≡ behind conn k ++ behind conn h
+pub behind-joined : (conn : ℕ) (h k : History) → trace_of conn (h ++ k) ≡ trace_of conn k ++ trace_of conn h
 behind-joined conn h k =
-    ap reverse (filter_map-append (λ (x : Happened). if x.conn == conn then Some x.what else None) h k) ∙ reverse-append (on conn h) (on conn k)
+    ap reverse (filter_map-append (λ (x : ConnectionEvent). if x.conn == conn then Some x.what else None) h k) ∙ reverse-append (events_of conn h) (events_of conn k)
 
 -- ---- maps
 
@@ -60,23 +60,23 @@ pub apart_at : (a b : ℕ) → a ≢ b → is_eq (nat_cmp a b) ≡ false
 apart_at a b other = let isnt : (a == b) ≡ false = ne_eqb a b other in rw isnt (neither _)
 
 -- one more event on one connection; what is known of the others is unchanged
-pub known_more : (T : Table) (limit : ℕ) (h : History) (next : Happened) (before after : ℕ → Option Checker) (c : Checker)
-    → ((conn : ℕ) → KnowsOn T limit conn (behind conn h) (before conn)) → after next.conn ≡ Some c
-    → ((conn : ℕ) → next.conn ≢ conn → after conn ≡ before conn) → Knows T (next.what ∷ behind next.conn h) c
-    → under T c ≡ on_connection T limit next.conn → (conn : ℕ) → KnowsOn T limit conn (behind conn (h ++ next ∷ [])) (after conn)
+pub known_more : (T : Table) (limit : ℕ) (h : History) (next : ConnectionEvent) (before after : ℕ → Option Checker) (c : Checker)
+    → ((conn : ℕ) → KnowsOn T limit conn (trace_of conn h) (before conn)) → after next.conn ≡ Some c
+    → ((conn : ℕ) → next.conn ≢ conn → after conn ≡ before conn) → IsCheckerAfter T (next.what ∷ trace_of next.conn h) c
+    → checker_context T c ≡ context_on T limit next.conn → (conn : ℕ) → KnowsOn T limit conn (trace_of conn (h ++ next ∷ [])) (after conn)
 known_more T limit h next before after c known is others knows judges conn = elim (eqb_tells next.conn conn) [
   | inl same ↦
       let here : after conn ≡ Some c = subst (λ (q : ℕ). after q ≡ Some c) same.1 is in
-      let past : behind conn (h ++ next ∷ []) ≡ next.what ∷ behind conn h = behind-more conn h next same.1 in
-      let knows_it : Knows T (next.what ∷ behind conn h) c = subst (λ (q : ℕ). Knows T (next.what ∷ behind q h) c) same.1 knows in
-      let judges_it : under T c ≡ on_connection T limit conn = subst (λ (q : ℕ). under T c ≡ on_connection T limit q) same.1 judges in
-      subst (KnowsOn T limit conn (behind conn (h ++ next ∷ []))) (sym here)
-      (subst (λ (past : Behind). KnowsOn T limit conn past (Some c)) (sym past) (knows_it, judges_it))
+      let past : trace_of conn (h ++ next ∷ []) ≡ next.what ∷ trace_of conn h = behind-more conn h next same.1 in
+      let knows_it : IsCheckerAfter T (next.what ∷ trace_of conn h) c = subst (λ (q : ℕ). IsCheckerAfter T (next.what ∷ trace_of q h) c) same.1 knows in
+      let judges_it : checker_context T c ≡ context_on T limit conn = subst (λ (q : ℕ). checker_context T c ≡ context_on T limit q) same.1 judges in
+      subst (KnowsOn T limit conn (trace_of conn (h ++ next ∷ []))) (sym here)
+      (subst (λ (past : Trace). KnowsOn T limit conn past (Some c)) (sym past) (knows_it, judges_it))
   | inr other ↦
       let there : after conn ≡ before conn = others conn other.1 in
-      let past : behind conn (h ++ next ∷ []) ≡ behind conn h = behind-other conn h next other.1 in
-      subst (KnowsOn T limit conn (behind conn (h ++ next ∷ []))) (sym there)
-      (subst (λ (past : Behind). KnowsOn T limit conn past (before conn)) (sym past) (known conn))
+      let past : trace_of conn (h ++ next ∷ []) ≡ trace_of conn h = behind-other conn h next other.1 in
+      subst (KnowsOn T limit conn (trace_of conn (h ++ next ∷ []))) (sym there)
+      (subst (λ (past : Trace). KnowsOn T limit conn past (before conn)) (sym past) (known conn))
 ]
 
 -- ---- the slots of connections
@@ -94,10 +94,10 @@ set_other (d ∷ cs) (suc at) c zero other = refl
 set_other (d ∷ cs) (suc at) c (suc conn) other = set_other cs at c conn (λ e. other (ap suc e))
 
 -- in a slot
-pub near_more : (T : Table) (limit : ℕ) (h : History) (next : Happened) (near : List Checker) (far : BTreeMap ℕ Checker) (c : Checker)
-    → ((conn : ℕ) → KnowsOn T limit conn (behind conn h) (checker_in (slice_get near conn) (get nat_cmp far conn))) → next.conn < length near
-    → Knows T (next.what ∷ behind next.conn h) c → under T c ≡ on_connection T limit next.conn
-    → (conn : ℕ) → KnowsOn T limit conn (behind conn (h ++ next ∷ [])) (checker_in (slice_get (set near next.conn c) conn) (get nat_cmp far conn))
+pub near_more : (T : Table) (limit : ℕ) (h : History) (next : ConnectionEvent) (near : List Checker) (far : BTreeMap ℕ Checker) (c : Checker)
+    → ((conn : ℕ) → KnowsOn T limit conn (trace_of conn h) (checker_in (slice_get near conn) (get nat_cmp far conn))) → next.conn < length near
+    → IsCheckerAfter T (next.what ∷ trace_of next.conn h) c → checker_context T c ≡ context_on T limit next.conn
+    → (conn : ℕ) → KnowsOn T limit conn (trace_of conn (h ++ next ∷ [])) (checker_in (slice_get (set near next.conn c) conn) (get nat_cmp far conn))
 near_more T limit h next near far c known within knows judges =
     known_more T limit h next (λ conn. checker_in (slice_get near conn) (get nat_cmp far conn))
     (λ conn. checker_in (slice_get (set near next.conn c) conn) (get nat_cmp far conn)) c known
@@ -105,10 +105,10 @@ near_more T limit h next near far c known within knows judges =
     (λ conn other. ap (λ (o : Option Checker). checker_in o (get nat_cmp far conn)) (set_other near next.conn c conn other)) knows judges
 
 -- in the map
-pub far_more : (T : Table) (limit : ℕ) (h : History) (next : Happened) (near : List Checker) (m n : BTreeMap ℕ Checker) (c : Checker)
-    → ((conn : ℕ) → KnowsOn T limit conn (behind conn h) (checker_in (slice_get near conn) (get nat_cmp m conn))) → length near ≤ next.conn
-    → Updates nat_cmp m n next.conn (Some c) → Knows T (next.what ∷ behind next.conn h) c → under T c ≡ on_connection T limit next.conn
-    → (conn : ℕ) → KnowsOn T limit conn (behind conn (h ++ next ∷ [])) (checker_in (slice_get near conn) (get nat_cmp n conn))
+pub far_more : (T : Table) (limit : ℕ) (h : History) (next : ConnectionEvent) (near : List Checker) (m n : BTreeMap ℕ Checker) (c : Checker)
+    → ((conn : ℕ) → KnowsOn T limit conn (trace_of conn h) (checker_in (slice_get near conn) (get nat_cmp m conn))) → length near ≤ next.conn
+    → Updates nat_cmp m n next.conn (Some c) → IsCheckerAfter T (next.what ∷ trace_of next.conn h) c → checker_context T c ≡ context_on T limit next.conn
+    → (conn : ℕ) → KnowsOn T limit conn (trace_of conn (h ++ next ∷ [])) (checker_in (slice_get near conn) (get nat_cmp n conn))
 far_more T limit h next near m n c known far updates knows judges =
     known_more T limit h next (λ conn. checker_in (slice_get near conn) (get nat_cmp m conn))
     (λ conn. checker_in (slice_get near conn) (get nat_cmp n conn)) c known
@@ -148,10 +148,10 @@ all_open T limit near m e known conn = subst (KnowsOn T limit conn []) (sym (kee
 
 -- one more slot, on whose connection there is no event
 pub open_more : (T : Table) (limit : ℕ) (near : List Checker) (c : Checker) → ((conn : ℕ) → KnowsOn T limit conn [] (slice_get near conn))
-    → Knows T [] c → under T c ≡ on_connection T limit (length near) → (conn : ℕ) → KnowsOn T limit conn [] (slice_get (near ++ c ∷ []) conn)
+    → IsCheckerAfter T [] c → checker_context T c ≡ context_on T limit (length near) → (conn : ℕ) → KnowsOn T limit conn [] (slice_get (near ++ c ∷ []) conn)
 open_more T limit near c known knows judges conn = elim (eqb_tells (length near) conn) [
   | inl same ↦
-      subst (KnowsOn T limit conn []) (sym (push_here near c conn same.1)) (knows, subst (λ (q : ℕ). under T c ≡ on_connection T limit q) same.1 judges)
+      subst (KnowsOn T limit conn []) (sym (push_here near c conn same.1)) (knows, subst (λ (q : ℕ). checker_context T c ≡ context_on T limit q) same.1 judges)
   | inr other ↦ subst (KnowsOn T limit conn []) (sym (push_other near c conn other.1)) (known conn)
 ]
 
@@ -168,8 +168,8 @@ moved near left m n c e updates conn = elim (eqb_tells (length left) conn) [
       ∙ ap (λ (o : Option Checker). checker_in o (get nat_cmp m conn)) (sym (ap (λ (cs : List Checker). slice_get cs conn) e ∙ push_other left c conn other.1))
 ]
 
-pub each_known : (T : Table) (h : History) (c : Connections) (m : BTreeMap ℕ Checker) → ((conn : ℕ) → get nat_cmp m conn ≡ checker_of c conn) → KnowsAll T h c → KnowsEach T c.limit h m
-each_known T h c m same known conn = subst (KnowsOn T c.limit conn (behind conn h)) (sym (same conn)) (known.knows conn)
+pub each_known : (T : Table) (h : History) (c : Checkers) (m : BTreeMap ℕ Checker) → ((conn : ℕ) → get nat_cmp m conn ≡ checker_of c conn) → KnowsAll T h c → KnowsEach T c.limit h m
+each_known T h c m same known conn = subst (KnowsOn T c.limit conn (trace_of conn h)) (sym (same conn)) (known.knows conn)
 
 -- ---- one connection
 
@@ -188,13 +188,13 @@ none_map (Some x) f p = tt
 pub carry : {A B : Type 0} (P : A → B → Type 0) {a a' : A} {b b' : B} → a ≡ a' → b ≡ b' → P a b → P a' b'
 carry P {a = a} {b' = b'} e f p = subst (λ a. P a b') e (subst (P a) f p)
 
-pub nothing_behind : (T : Table) (limit conn : ℕ) (past : Behind) (o : Option Checker) → o ≡ None → KnowsOn T limit conn past o → past ≡ []
+pub nothing_behind : (T : Table) (limit conn : ℕ) (past : Trace) (o : Option Checker) → o ≡ None → KnowsOn T limit conn past o → past ≡ []
 nothing_behind T limit conn past None e k = k
 nothing_behind T limit conn past (Some c) e k = absurd cc
 
-pub known_by : (T : Table) (limit conn : ℕ) (past : Behind) (o : Option Checker) (c : Checker) → Some c ≡ o
-    → KnowsOn T limit conn past o → Knows T past c × (under T c ≡ on_connection T limit conn)
+pub known_by : (T : Table) (limit conn : ℕ) (past : Trace) (o : Option Checker) (c : Checker) → Some c ≡ o
+    → KnowsOn T limit conn past o → IsCheckerAfter T past c × (checker_context T c ≡ context_on T limit conn)
 known_by T limit conn past o c e k = let P : Option Checker → Type 0 = λ o. KnowsOn T limit conn past o in subst P (sym e) k
 
-pub behind-short : (conn : ℕ) (h : History) → length (behind conn h) ≤ length h
-behind-short conn h = omega (arith, length-reverse (on conn h), filter_map-short (λ (x : Happened). if x.conn == conn then Some x.what else None) h)
+pub behind-short : (conn : ℕ) (h : History) → length (trace_of conn h) ≤ length h
+behind-short conn h = omega (arith, length-reverse (events_of conn h), filter_map-short (λ (x : ConnectionEvent). if x.conn == conn then Some x.what else None) h)

@@ -7,16 +7,16 @@ use Rattle.std.proofs.lemmas.List.Elements.{All-head, All-tail}
 use Rattle.mrpc_table.specs.Valid.{IsValid}
 use Rattle.mrpc_table.specs.declared.table.Table.{Table}
 use Rattle.call_history.specs.Legal.{History}
-use Rattle.call_history.specs.declared.happening.Happened.{Happened as Next}
+use Rattle.call_history.specs.declared.happening.ConnectionEvent.{ConnectionEvent as Next}
 use Rattle.policy_declarations.specs.Declarations.{Declared}
 use Rattle.audit_text.specs.Lines.{audit, audit_line, stands_line}
-use Rattle.audit_text.specs.Writable.{IsStanding, IsWritable}
+use Rattle.audit_text.specs.Writable.{IsWritablePendingCall, IsWritable}
 use Rattle.audit_text.specs.declared.holding.Holding.{Holding}
-use Rattle.audit_text.specs.Told.{IsLine, bytes_of}
+use Rattle.audit_text.specs.LineBytes.{IsWritableLine, bytes_of_line}
 use Rattle.audit_text.specs.declared.line.AuditLine.{AuditLine}
 use Rattle.audit_text.specs.declared.line.AuditLine.TheVariants.{Happened, Stands}
-use Rattle.audit_check.specs.Checking.{IsFirstBad, IsStandsLine, StandsLine, Tells, line_of, lines_of}
-use Rattle.audit_check.specs.States.{EndsLine}
+use Rattle.audit_check.specs.Checking.{IsFirstInvalidAuditLine, IsStandsLine, StandsLine, IsAuditOf, bytes_of_stands, bytes_of_all_stands}
+use Rattle.audit_check.specs.States.{IsTerminatedLine}
 use Rattle.audit_check.proofs.Cuts.{cut_once}
 use Rattle.audit_check.proofs.TextLines.{AreApart, HappeningsCut, StandsCut, at_feed, happening_ends, lacks, some_byte, stands_ends}
 
@@ -28,7 +28,7 @@ OneFront = (T : Table) (declared : Declared) (x y : Next) (a b : List ℕ) → I
 
 abbrev pub OneCall : Type 0
 OneCall = (conn seq position conn' seq' position' : ℕ) (name name' : List ℕ) (holding holding' : Option Holding)
-    → IsStanding conn seq position name holding → IsStanding conn' seq' position' name' holding'
+    → IsWritablePendingCall conn seq position name holding → IsWritablePendingCall conn' seq' position' name' holding'
     → stands_line conn seq position name holding ≡ stands_line conn' seq' position' name' holding'
     → (conn ≡ conn') × (seq ≡ seq') × (position ≡ position') × (name ≡ name') × (holding ≡ holding')
 
@@ -41,20 +41,20 @@ pub record TextLaws : Type 0 where
 
 -- ---- one line
 
-line_ends : TextLaws → (T : Table) (declared : Declared) (x : AuditLine) → IsValid T → IsLine T declared x → EndsLine (bytes_of T x)
+line_ends : TextLaws → (T : Table) (declared : Declared) (x : AuditLine) → IsValid T → IsWritableLine T declared x → IsTerminatedLine (bytes_of_line T x)
 line_ends laws T declared (Happened x) valid h = happening_ends laws.happenings T declared x valid h
 line_ends laws T declared (Stands conn seq position name holding) valid h =
     stands_ends laws.stands (record { conn = conn; seq = seq; position = position; name = name; holding = holding }) h
 
 -- two lines at the start of a text have the same bytes
-same_bytes : (first other a b : List ℕ) → EndsLine first → EndsLine other → first ++ a ≡ other ++ b → (first ≡ other) × (a ≡ b)
+same_bytes : (first other a b : List ℕ) → IsTerminatedLine first → IsTerminatedLine other → first ++ a ≡ other ++ b → (first ≡ other) × (a ≡ b)
 same_bytes first other a b ends ends' e =
     let same = cut_once 10 ends.0 ends'.0 a b (lacks ends.0 ends.2) (lacks ends'.0 ends'.2)
     (sym (at_feed (first ++ a) ends.0 a first ends.1 refl) ∙ at_feed (first ++ a) ends'.0 b other ends'.1 e) in
     (ends.1 ∙ ap (λ (l : List ℕ). l ++ 10 ∷ []) same.0 ∙ sym ends'.1, same.1)
 
-same_line : TextLaws → (T : Table) (declared : Declared) (x y : AuditLine) (a b : List ℕ) → IsValid T → IsLine T declared x → IsLine T declared y
-    → bytes_of T x ++ a ≡ bytes_of T y ++ b → (x ≡ y) × (a ≡ b)
+same_line : TextLaws → (T : Table) (declared : Declared) (x y : AuditLine) (a b : List ℕ) → IsValid T → IsWritableLine T declared x → IsWritableLine T declared y
+    → bytes_of_line T x ++ a ≡ bytes_of_line T y ++ b → (x ≡ y) × (a ≡ b)
 same_line laws T declared (Happened x) (Happened y) a b valid h k e = let same = laws.front T declared x y a b valid h k e in (ap Happened same.0, same.1)
 same_line laws T declared (Happened x) (Stands conn seq position name holding) a b valid h k e =
     let same = same_bytes (audit_line T x) (stands_line conn seq position name holding) a b
@@ -75,10 +75,10 @@ same_line laws T declared (Stands conn seq position name holding) (Stands conn' 
 -- ---- lines
 
 abbrev pub texts_of : Table → List AuditLine → List ℕ
-texts_of T xs = flat_map (bytes_of T) xs
+texts_of T xs = flat_map (bytes_of_line T) xs
 
 abbrev pub AreLines : Table → Declared → List AuditLine → Type 0
-AreLines T declared xs = AllByRecursion (IsLine T declared) xs
+AreLines T declared xs = AllByRecursion (IsWritableLine T declared) xs
 
 -- the first text continues to the second by these lines
 pub record GoesOn (T : Table) (declared : Declared) (xs ys : List AuditLine) (a b : List ℕ) : Type 0 where
@@ -93,7 +93,7 @@ agree laws T declared [] ys a b valid h k e = inl (record { more = ys; lines = r
 agree laws T declared (x ∷ xs) [] a b valid h k e = inr (record { more = x ∷ xs; lines = refl; text = sym e; are = h })
 agree laws T declared (x ∷ xs) (y ∷ ys) a b valid h k e =
     let both = same_line laws T declared x y (texts_of T xs ++ a) (texts_of T ys ++ b) valid h.0 k.0
-    (sym (append_assoc (bytes_of T x) (texts_of T xs) a) ∙ e ∙ append_assoc (bytes_of T y) (texts_of T ys) b) in
+    (sym (append_assoc (bytes_of_line T x) (texts_of T xs) a) ∙ e ∙ append_assoc (bytes_of_line T y) (texts_of T ys) b) in
     elim (agree laws T declared xs ys a b valid h.1 k.1 both.1) [
       | inl on ↦ inl (record { more = on.more; lines = (λ i. sym both.0 i ∷ on.lines i); text = on.text; are = on.are })
       | inr on ↦ inr (record { more = on.more; lines = (λ i. both.0 i ∷ on.lines i); text = on.text; are = on.are })
@@ -107,13 +107,13 @@ line_at s = Stands s.conn s.seq s.position s.name s.holding
 abbrev pub all_lines : History → List StandsLine → List AuditLine
 all_lines h told = map Happened h ++ map line_at told
 
-stands_text : (T : Table) (told : List StandsLine) → texts_of T (map line_at told) ≡ lines_of told
+stands_text : (T : Table) (told : List StandsLine) → texts_of T (map line_at told) ≡ bytes_of_all_stands told
 stands_text T [] = refl
-stands_text T (s ∷ told) = ap (λ (l : List ℕ). line_of s ++ l) (stands_text T told)
+stands_text T (s ∷ told) = ap (λ (l : List ℕ). bytes_of_stands s ++ l) (stands_text T told)
 
-pub whole_text : (T : Table) (h : History) (told : List StandsLine) → texts_of T (all_lines h told) ≡ audit T h ++ lines_of told
+pub whole_text : (T : Table) (h : History) (told : List StandsLine) → texts_of T (all_lines h told) ≡ audit T h ++ bytes_of_all_stands told
 whole_text T [] told = stands_text T told
-whole_text T (x ∷ h) told = ap (λ (l : List ℕ). audit_line T x ++ l) (whole_text T h told) ∙ sym (append_assoc (audit_line T x) (audit T h) (lines_of told))
+whole_text T (x ∷ h) told = ap (λ (l : List ℕ). audit_line T x ++ l) (whole_text T h told) ∙ sym (append_assoc (audit_line T x) (audit T h) (bytes_of_all_stands told))
 
 stands_lines : (T : Table) (declared : Declared) (told : List StandsLine) → All IsStandsLine told → AreLines T declared (map line_at told)
 stands_lines T declared [] all = tt
@@ -168,29 +168,29 @@ same_lines (x ∷ h) (y ∷ h') told told' e =
 -- ---- texts that are read to their end, and first faults
 
 some_text : TextLaws → (T : Table) (declared : Declared) (x : AuditLine) (more : List AuditLine) (b : List ℕ)
-    → IsValid T → IsLine T declared x → [] ≡ texts_of T (x ∷ more) ++ b → ⊥
+    → IsValid T → IsWritableLine T declared x → [] ≡ texts_of T (x ∷ more) ++ b → ⊥
 some_text laws T declared x more b valid h e =
     omega (
       arith,
       ap length e,
-      length-append (bytes_of T x ++ texts_of T more) b,
-      length-append (bytes_of T x) (texts_of T more),
-      some_byte (bytes_of T x) (line_ends laws T declared x valid h),
+      length-append (bytes_of_line T x ++ texts_of T more) b,
+      length-append (bytes_of_line T x) (texts_of T more),
+      some_byte (bytes_of_line T x) (line_ends laws T declared x valid h),
     )
 
 read_as : (T : Table) (declared : Declared) (front rest text : List ℕ) (h : History) (told : List StandsLine)
-    → text ≡ front ++ rest → Tells T declared front h told → texts_of T (all_lines h told) ++ rest ≡ text
+    → text ≡ front ++ rest → IsAuditOf T declared front h told → texts_of T (all_lines h told) ++ rest ≡ text
 read_as T declared front rest text h told e t = ap (λ (l : List ℕ). l ++ rest) (whole_text T h told ∙ sym t.is_text) ∙ sym e
 
 -- no line follows a fault
 no_more : TextLaws → (T : Table) (declared : Declared) (text : List ℕ) (line : ℕ)
-    → (bad : IsFirstBad T declared text line) (h : History) (told : List StandsLine) (b : List ℕ) (x : AuditLine)
+    → (bad : IsFirstInvalidAuditLine T declared text line) (h : History) (told : List StandsLine) (b : List ℕ) (x : AuditLine)
     (more : List AuditLine)
-    → all_lines h told ≡ all_lines bad.history bad.stands ++ x ∷ more → IsLine T declared x → bad.rest ≡ texts_of T (x ∷ more) ++ b → ⊥
+    → all_lines h told ≡ all_lines bad.history bad.stands ++ x ∷ more → IsWritableLine T declared x → bad.rest ≡ texts_of T (x ∷ more) ++ b → ⊥
 no_more laws T declared text line bad h told b (Happened x) more e in' rest =
-    bad.no_happening (none_late h bad.history told bad.stands x more e) x in' (texts_of T more ++ b, rest ∙ append_assoc (audit_line T x) (texts_of T more) b)
+    bad.no_event (none_late h bad.history told bad.stands x more e) x in' (texts_of T more ++ b, rest ∙ append_assoc (audit_line T x) (texts_of T more) b)
 no_more laws T declared text line bad h told b (Stands conn seq position name holding) more e in' rest =
-    bad.no_stands (record { conn = conn; seq = seq; position = position; name = name; holding = holding }) in'
+    bad.no_pending (record { conn = conn; seq = seq; position = position; name = name; holding = holding }) in'
     (texts_of T more ++ b, rest ∙ append_assoc (stands_line conn seq position name holding) (texts_of T more) b)
 
 both_end : TextLaws → (T : Table) (declared : Declared) (rest : List ℕ) (more : List AuditLine) → IsValid T
@@ -199,7 +199,7 @@ both_end laws T declared rest [] valid are some e = some (sym e)
 both_end laws T declared rest (x ∷ more) valid are some e = some_text laws T declared x more rest valid are.0 e
 
 both_on : TextLaws
-    → (T : Table) (declared : Declared) (text : List ℕ) (line : ℕ) (bad : IsFirstBad T declared text line)
+    → (T : Table) (declared : Declared) (text : List ℕ) (line : ℕ) (bad : IsFirstInvalidAuditLine T declared text line)
     (h : History) (told : List StandsLine) (b : List ℕ) (more : List AuditLine) → IsValid T
     → AreLines T declared more → all_lines h told ≡ all_lines bad.history bad.stands ++ more → bad.rest ≡ texts_of T more ++ b → (more ≡ []) × (bad.rest ≡ b)
 both_on laws T declared text line bad h told b [] valid are lines e = (refl, e)
@@ -207,7 +207,7 @@ both_on laws T declared text line bad h told b (x ∷ more) valid are lines e = 
 
 pub not_both : TextLaws
     → (T : Table) (declared : Declared) (text : List ℕ) (line : ℕ) (h : History) (told : List StandsLine) → IsValid T
-    → Tells T declared text h told → IsFirstBad T declared text line → ⊥
+    → IsAuditOf T declared text h told → IsFirstInvalidAuditLine T declared text line → ⊥
 not_both laws T declared text line h told valid t bad =
     let ours = whole_lines T declared h told t.writable t.in_range in
     let theirs = whole_lines T declared bad.history bad.stands bad.before.writable bad.before.in_range in
@@ -224,7 +224,7 @@ counted_same h h' told told' more e none =
     omega (arith, ap length same.0, ap length same.1)
 
 pub one_fault : TextLaws → (T : Table) (declared : Declared) (text : List ℕ) (line other : ℕ) → IsValid T
-    → IsFirstBad T declared text line → IsFirstBad T declared text other → line ≡ other
+    → IsFirstInvalidAuditLine T declared text line → IsFirstInvalidAuditLine T declared text other → line ≡ other
 one_fault laws T declared text line other valid a b =
     let ours = whole_lines T declared a.history a.stands a.before.writable a.before.in_range in
     let theirs = whole_lines T declared b.history b.stands b.before.writable b.before.in_range in
@@ -244,7 +244,7 @@ no_text laws T declared (x ∷ more) valid are e = absurd (some_text laws T decl
 
 pub one_reading : TextLaws
     → (T : Table) (declared : Declared) (text : List ℕ) (h h' : History) (told told' : List StandsLine) → IsValid T
-    → Tells T declared text h told → Tells T declared text h' told' → (h ≡ h') × (told ≡ told')
+    → IsAuditOf T declared text h told → IsAuditOf T declared text h' told' → (h ≡ h') × (told ≡ told')
 one_reading laws T declared text h h' told told' valid t t' =
     let ours = whole_lines T declared h told t.writable t.in_range in
     let theirs = whole_lines T declared h' told' t'.writable t'.in_range in

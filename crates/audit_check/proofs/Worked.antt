@@ -7,38 +7,38 @@ use Rattle.std.proofs.lemmas.List.Elements.{All-head, All-nil}
 use Rattle.mrpc_table.specs.Node.{Node, no_fields, field, one, number}
 use Rattle.mrpc_table.specs.Normal.{IsNormal}
 use Rattle.mrpc_table.specs.declared.call.Call.{Call}
-use Rattle.mrpc_table.specs.declared.call.Sort.TheVariants.{Request}
+use Rattle.mrpc_table.specs.declared.call.CallKind.TheVariants.{Request}
 use Rattle.mrpc_table.specs.declared.table.Kind.TheVariants.{Uint64}
 use Rattle.mrpc_table.specs.declared.table.Label.TheVariants.{Plain}
 use Rattle.mrpc_table.specs.declared.table.Table.{Table}
 use Rattle.policy_access.specs.Verdict.{AccessPolicy, verdict}
-use Rattle.policy_access.specs.declared.rule.About.TheVariants.{Calls as OfCalls}
+use Rattle.policy_access.specs.declared.rule.CallSelector.TheVariants.{Calls as OfCalls}
 use Rattle.policy_access.specs.declared.rule.Comparison.TheVariants.{Equal}
 use Rattle.policy_access.specs.declared.rule.Condition.TheVariants.{Compares}
 use Rattle.policy_access.specs.declared.rule.Operand.TheVariants.{Number}
 use Rattle.graph_form.specs.declared.reason.Reason.TheVariants.{NoMethod}
-use Rattle.engine_core.specs.Answers.{Answers, Past, nothing, pass, allows, denies, was_charged, charges, holds, refuses, is_within, is_over, draws, was_counted, counts, is_clear, redacts}
-use Rattle.engine_core.specs.Chains.{Changes, Entry, IsAgainst, Refusal, attaches, changed, detaches_none, new_entry, upgrades_none, is_taken, is_past, is_full, is_other}
+use Rattle.engine_core.specs.Answers.{IsEntryAnswer, Past, nothing, pass, allows, denies, was_charged, charges, holds, refuses, is_within, is_over, draws, was_counted, counts, is_clear, redacts}
+use Rattle.engine_core.specs.Chains.{HasChanged, Entry, IsReasonToReject, Refusal, attaches, changed, detaches_none, new_entry, upgrades_none, is_taken, is_past, is_full, is_other}
 use Rattle.engine_core.specs.declared.op.Op.{Op as Step}
 use Rattle.engine_core.specs.declared.op.Op.TheVariants.{Attach}
 use Rattle.engine_core.specs.declared.policy.Policy.{Policy}
 use Rattle.engine_core.specs.declared.policy.Policy.TheVariants.{Access}
-use Rattle.call_history.specs.Behind.{Behind, standing}
-use Rattle.call_history.specs.Legal.{History, IsLegal, IsLegalBehind, IsPrefix, behind}
-use Rattle.call_history.specs.Rules.{IsDenied, Lets, May, Under}
+use Rattle.call_history.specs.Trace.{Trace, pending_calls}
+use Rattle.call_history.specs.Legal.{History, IsLegal, IsLegalTrace, IsLegalPrefix, trace_of}
+use Rattle.call_history.specs.Rules.{IsDenied, IsAllowedInTrace, CanFollow, JudgeContext}
 use Rattle.call_history.specs.declared.happening.Cause.TheVariants as cause
-use Rattle.call_history.specs.declared.happening.Happened.{Happened}
+use Rattle.call_history.specs.declared.happening.ConnectionEvent.{ConnectionEvent}
 use Rattle.call_history.specs.declared.happening.Happening.{Happening}
 use Rattle.call_history.specs.declared.happening.Happening.TheVariants.{Took, Op, Sent, Refused}
-use Rattle.call_history.specs.declared.happening.Taken.{Taken}
+use Rattle.call_history.specs.declared.happening.AcceptedCall.{AcceptedCall}
 use Rattle.call_history.specs.declared.happening.TookCopy.TheVariants.{Copy, Malformed}
 use Rattle.audit_text.specs.Lines.{audit, transport}
-use Rattle.audit_rules.specs.First.{Awaits, Keeps, order_of}
-use Rattle.audit_rules.specs.Telling.{TellsNext}
+use Rattle.audit_rules.specs.BrokenRules.{HasObligationOf, IsRuleKept, rule_rank}
+use Rattle.audit_rules.specs.PendingLines.{IsNextPending}
 use Rattle.audit_rules.specs.declared.rule.Rule.{Rule}
 use Rattle.audit_rules.specs.declared.rule.Rule.TheVariants.{A, B, C, D, E, F, G, Stands}
-use Rattle.audit_check.specs.Checking.{AreAllStanding, ArePrefixes, AreWhole, CallName, IsJudged, MayBegin, StandsLine}
-use Rattle.audit_check.specs.Checking.{TellCalls, broken, legal, lines_of, lines_on, misplaced, on_connection, open_end}
+use Rattle.audit_check.specs.Checking.{AreAllPending, AreLegalPrefixes, AreAllListed, CallName, IsCheckOfHistory, MayBeListed, StandsLine}
+use Rattle.audit_check.specs.Checking.{AreNextPending, broken, legal, bytes_of_all_stands, lines_on, misplaced, context_on, open_end}
 use Rattle.audit_check.specs.declared.checked.Checked.TheVariants.{Illegal, Legal}
 use Rattle.audit_check.proofs.Calls.{in_first, in_one}
 use Rattle.audit_check.proofs.Known.{behind-other}
@@ -56,7 +56,7 @@ table = record {
 abbrev with_150 : Node
 with_150 = field 1 (one (number 150)) no_fields
 
-abbrev call : Taken
+abbrev call : AcceptedCall
 call = record { seq = 1; method = 0; number = 0; addr = 2; after = 1; count = 1; copy = Copy with_150 }
 
 abbrev acl : List ℕ
@@ -83,7 +83,7 @@ policy = record {
 abbrev attach : Step
 attach = Attach 0 acl acl (Access policy)
 
-abbrev on_one : Happening → Happened
+abbrev on_one : Happening → ConnectionEvent
 on_one what = record { conn = 1; what = what }
 
 abbrev taken : History
@@ -97,20 +97,20 @@ sent = on_one (Op attach) ∷ on_one (Took call) ∷ on_one (Sent 1 19) ∷ []
 
 -- ---- why they are legal
 
-abbrev under : Under
-under = on_connection table 1024 1
+abbrev under : JudgeContext
+under = context_on table 1024 1
 
-abbrev none_yet : Behind
+abbrev none_yet : Trace
 none_yet = Op attach ∷ []
 
-abbrev before : Behind
+abbrev before : Trace
 before = Took call ∷ none_yet
 
 none-in : {X : Type 0} (x : X) → Contains [] x → ⊥
 none-in x has = omega (arith, has.1)
 
 -- the first operation has no reason for a rejection
-free-attach : (refusal : Refusal) → IsAgainst [] attach refusal → ⊥
+free-attach : (refusal : Refusal) → IsReasonToReject [] attach refusal → ⊥
 free-attach refusal (detaches_none n is not r) = cc
 free-attach refusal (upgrades_none n l p is not r) = cc
 free-attach refusal (is_taken a n l p is some r) = none-in n some
@@ -118,13 +118,13 @@ free-attach refusal (is_past a n l p is past r) = let places : a ≡ 0 = cc in o
 free-attach refusal (is_full a n l p is full r) = omega (arith, full)
 free-attach refusal (is_other n l p e is there named differs r) = cc
 
-attached : Changes (record { entries = []; attached = 0 }) attach (changed attach (record { entries = []; attached = 0 }))
-attached = record { free = free-attach; makes = attaches 0 acl acl (Access policy) [] [] refl refl refl refl }
+attached : HasChanged (record { entries = []; attached = 0 }) attach (changed attach (record { entries = []; attached = 0 }))
+attached = record { free = free-attach; effect = attaches 0 acl acl (Access policy) [] [] refl refl refl refl }
 
-link_stands : (past : Behind) (next : Happening) → false ≡ true → {X : Type 0} → X
+link_stands : (past : Trace) (next : Happening) → false ≡ true → {X : Type 0} → X
 link_stands past next e = absurd (let wrong : false ≡ true = e in cc)
 
-may-attach : May under [] (Op attach)
+may-attach : CanFollow under [] (Op attach)
 may-attach = record {
   numbered = tt;
   malformed = tt;
@@ -143,7 +143,7 @@ normal-150 = record {
   depth = omega arith;
 }
 
-may-take : May under none_yet (Took call)
+may-take : CanFollow under none_yet (Took call)
 may-take = record {
   numbered = record { number = refl; few = omega arith; loads = omega arith; copy = (omega arith, normal-150) };
   malformed = tt;
@@ -163,8 +163,8 @@ is-denied = record {
     back = [];
     entries = refl;
     named = refl;
-    call_stands = (0, omega arith, refl);
-    let_pass = All-nil (Lets under before 1);
+    is_pending = (0, omega arith, refl);
+    allowed = All-nil (IsAllowedInTrace under before 1);
   };
   present = refl;
   policy = policy;
@@ -174,7 +174,7 @@ is-denied = record {
   names = refl;
 }
 
-may-refuse : May under before (Refused 1 (cause.Access acl 1 (codes "no150")))
+may-refuse : CanFollow under before (Refused 1 (cause.Access acl 1 (codes "no150")))
 may-refuse = record {
   numbered = tt;
   malformed = tt;
@@ -188,45 +188,45 @@ may-refuse = record {
 
 -- ---- on each connection
 
-on-each : (P : ℕ → Behind → Type 0) (h : History) → P 1 (behind 1 h) → ((conn : ℕ) → P conn [])
-    → ((conn : ℕ) → 1 ≢ conn → behind conn h ≡ []) → (conn : ℕ) → P conn (behind conn h)
+on-each : (P : ℕ → Trace → Type 0) (h : History) → P 1 (trace_of 1 h) → ((conn : ℕ) → P conn [])
+    → ((conn : ℕ) → 1 ≢ conn → trace_of conn h ≡ []) → (conn : ℕ) → P conn (trace_of conn h)
 on-each P h here nowhere others conn = elim (eqb_tells 1 conn) [
-  | inl same ↦ let Q : ℕ → Type 0 = λ conn. P conn (behind conn h) in subst Q same.1 here
+  | inl same ↦ let Q : ℕ → Type 0 = λ conn. P conn (trace_of conn h) in subst Q same.1 here
   | inr other ↦ subst (P conn) (sym (others conn other.1)) (nowhere conn)
 ]
 
-other-taken : (conn : ℕ) → 1 ≢ conn → behind conn taken ≡ []
+other-taken : (conn : ℕ) → 1 ≢ conn → trace_of conn taken ≡ []
 other-taken conn other = behind-other conn (on_one (Op attach) ∷ []) (on_one (Took call)) other ∙ behind-other conn [] (on_one (Op attach)) other
 
-other-denied : (conn : ℕ) → 1 ≢ conn → behind conn denied ≡ []
+other-denied : (conn : ℕ) → 1 ≢ conn → trace_of conn denied ≡ []
 other-denied conn other = behind-other conn taken (on_one (Refused 1 (cause.Access acl 1 (codes "no150")))) other ∙ other-taken conn other
 
-abbrev IsLegalOn : ℕ → Behind → Type 0
-IsLegalOn conn past = IsLegalBehind (on_connection table 1024 conn) past
+abbrev IsLegalOn : ℕ → Trace → Type 0
+IsLegalOn conn past = IsLegalTrace (context_on table 1024 conn) past
 
-abbrev IsPrefixOn : ℕ → Behind → Type 0
-IsPrefixOn conn past = IsPrefix (on_connection table 1024 conn) past
+abbrev IsPrefixOn : ℕ → Trace → Type 0
+IsPrefixOn conn past = IsLegalPrefix (context_on table 1024 conn) past
 
 nothing-legal : (conn : ℕ) → IsLegalOn conn []
 nothing-legal conn = record { prefix = tt; closed = nothing_settled }
 
-prefixes-taken : ArePrefixes table 1024 taken
+prefixes-taken : AreLegalPrefixes table 1024 taken
 prefixes-taken = on-each IsPrefixOn taken ((tt, may-attach), may-take) (λ conn. tt) other-taken
 
 -- ---- the result
 
 -- the policy denies the call, and it is refused
-judged-denied : IsJudged table 1024 denied [] (Legal 3 0)
+judged-denied : IsCheckOfHistory table 1024 denied [] (Legal 3 0)
 judged-denied =
     legal (
     on-each IsLegalOn denied (record {
       prefix = (((tt, may-attach), may-take), may-refuse);
-      closed = record { malformed = λ z. z; quota = λ z. z; link = λ link. link.some_stand refl };
+      closed = record { malformed = λ z. z; quota = λ z. z; link = λ link. link.some_pending refl };
     }) nothing-legal other-denied
     ) (inl refl) refl
 
 -- it isn't refused yet
-judged-taken : IsJudged table 1024 taken [] (Legal 2 0)
+judged-taken : IsCheckOfHistory table 1024 taken [] (Legal 2 0)
 judged-taken =
     legal (
     on-each IsLegalOn taken (record {
@@ -239,7 +239,7 @@ judged-taken =
 abbrev form : Call
 form = record { conn = 1; seq = 1; method = 0; number = 0; tree = with_150 }
 
-denies-150 : (p : Policy) (level moment : ℕ) (past : Past) → p ≡ Access policy → Answers p level moment form past pass → ⊥
+denies-150 : (p : Policy) (level moment : ℕ) (past : Past) → p ≡ Access policy → IsEntryAnswer p level moment form past pass → ⊥
 denies-150 p level moment past is (allows q is_q allow answer) =
     let same : q ≡ policy = cc in
     let no : (verdict q form).allow ≡ false = ap (λ (r : AccessPolicy). (verdict r form).allow) same in
@@ -257,7 +257,7 @@ denies-150 p level moment past is (counts is_q none answer) = cc
 denies-150 p level moment past is (is_clear clears is_q left answer) = cc
 denies-150 p level moment past is (redacts clears is_q other answer) = cc
 
-keeps-before : (rule : Rule) → order_of rule < 4 → Keeps under before (Sent 1 19) rule
+keeps-before : (rule : Rule) → rule_rank rule < 4 → IsRuleKept under before (Sent 1 19) rule
 keeps-before A less = tt
 keeps-before B less = tt
 keeps-before C less = tt
@@ -268,22 +268,22 @@ keeps-before G less = absurd (omega (arith, less))
 keeps-before Stands less = absurd (omega (arith, less))
 
 -- it is sent, although its policy denies it
-judged-sent : IsJudged table 1024 sent [] (Illegal 3 E)
+judged-sent : IsCheckOfHistory table 1024 sent [] (Illegal 3 E)
 judged-sent =
     broken taken [] (on_one (Sent 1 19)) E refl prefixes-taken (record {
-      broken = λ sends. denies-150 (Access policy) 0 0 nothing refl (All-head (Lets under before 1) (new_entry acl 1 (Access policy)) [] sends.let_pass);
+      broken = λ sends. denies-150 (Access policy) 0 0 nothing refl (All-head (IsAllowedInTrace under before 1) (new_entry acl 1 (Access policy)) [] sends.allowed);
       earlier = keeps-before;
     }) refl
 
 -- a first call with the number 3
-abbrev third : Taken
+abbrev third : AcceptedCall
 third = record { seq = 3; method = 9; number = 0; addr = 2; after = 1; count = 0; copy = Malformed NoMethod 0 9 }
 
 audit-third : audit table (on_one (Took third) ∷ []) ≡ codes "took 1 3 9 0 2 1 0 malformed NoMethod 0 9\n"
 unfolding digits
 audit-third = refl
 
-judged-third : IsJudged table 1024 (on_one (Took third) ∷ []) [] (Illegal 1 A)
+judged-third : IsCheckOfHistory table 1024 (on_one (Took third) ∷ []) [] (Illegal 1 A)
 judged-third =
     broken [] [] (on_one (Took third)) A refl (λ conn. tt) (record {
       broken = λ takes. let wrong : 3 ≡ 1 = takes.number in absurd (omega (arith, wrong));
@@ -296,10 +296,10 @@ judged-third =
 abbrev single : History
 single = on_one (Took call) ∷ []
 
-other-single : (conn : ℕ) → 1 ≢ conn → behind conn single ≡ []
+other-single : (conn : ℕ) → 1 ≢ conn → trace_of conn single ≡ []
 other-single conn other = behind-other conn [] (on_one (Took call)) other
 
-may-take-alone : May under [] (Took call)
+may-take-alone : CanFollow under [] (Took call)
 may-take-alone = record {
   numbered = record { number = refl; few = omega arith; loads = omega arith; copy = (omega arith, normal-150) };
   malformed = tt;
@@ -322,7 +322,7 @@ legal-single =
 abbrev standing_call : ℕ → StandsLine
 standing_call seq = record { conn = 1; seq = seq; position = 0; name = transport; holding = None }
 
-lines-single : lines_of (standing_call 1 ∷ []) ≡ codes "stands 1 1 0 -\n"
+lines-single : bytes_of_all_stands (standing_call 1 ∷ []) ≡ codes "stands 1 1 0 -\n"
 unfolding digits
 lines-single = refl
 
@@ -332,13 +332,13 @@ the_call = (1, 1)
 abbrev Names : ℕ → ℕ → Type 0
 Names conn seq = let named : CallName = (conn, seq) in Contains (the_call ∷ []) named
 
-stands-single : (conn seq : ℕ) → Names conn seq ↔ Contains (map (λ call. call.seq) (standing (behind conn single))) seq
+stands-single : (conn seq : ℕ) → Names conn seq ↔ Contains (map (λ call. call.seq) (pending_calls (trace_of conn single))) seq
 stands-single conn seq = elim (eqb_tells 1 conn) [
   | inl same ↦
-      let Q : ℕ → Type 0 = λ conn. Names conn seq ↔ Contains (map (λ call. call.seq) (standing (behind conn single))) seq in
+      let Q : ℕ → Type 0 = λ conn. Names conn seq ↔ Contains (map (λ call. call.seq) (pending_calls (trace_of conn single))) seq in
       subst Q same.1 (on-first seq)
   | inr other ↦
-      let Q : Behind → Type 0 = λ past. Names conn seq ↔ Contains (map (λ call. call.seq) (standing past)) seq in
+      let Q : Trace → Type 0 = λ past. Names conn seq ↔ Contains (map (λ call. call.seq) (pending_calls past)) seq in
       subst Q (sym (other-single conn other.1)) (λ has. absurd (other.1 (first-of (in_one the_call (conn, seq) has))), λ has. absurd (none-in seq has))
 ]
   where
@@ -354,65 +354,65 @@ stands-single conn seq = elim (eqb_tells 1 conn) [
       λ has. let P : ℕ → Type 0 = λ n. Names 1 n in subst P (in_one 1 seq has) (in_first the_call []),
     )
 
-all-single : AreAllStanding single (the_call ∷ [])
+all-single : AreAllPending single (the_call ∷ [])
 all-single = record { ascend = (All-nil _, tt); each = stands-single }
 
 no-entry : (e : Entry) → slice_get [] 0 ≡ Some e → ⊥
 no-entry e is = cc
 
-tells-single : TellsNext under (Took call ∷ []) [] 1 0 transport None
+tells-single : IsNextPending under (Took call ∷ []) [] 1 0 transport None
 tells-single = record {
   call = call;
   is_call = refl;
   number = refl;
-  may_stand = record { within = omega arith; let_pass = All-nil (Lets under (Took call ∷ []) 1) };
+  legal_position = record { within = omega arith; allowed = All-nil (IsAllowedInTrace under (Took call ∷ []) 1) };
   falls = All-nil (λ p. 0 ≤ p);
   named = refl;
   tells = λ level cost first held. no-entry held.entry held.at;
 }
 
-told-single : (conn : ℕ) → TellCalls (on_connection table 1024 conn) (behind conn single) [] (lines_on conn (standing_call 1 ∷ []))
+told-single : (conn : ℕ) → AreNextPending (context_on table 1024 conn) (trace_of conn single) [] (lines_on conn (standing_call 1 ∷ []))
 told-single conn = elim (eqb_tells 1 conn) [
   | inl same ↦
-      let Q : ℕ → Type 0 = λ conn. TellCalls (on_connection table 1024 conn) (behind conn single) [] (lines_on conn (standing_call 1 ∷ [])) in
+      let Q : ℕ → Type 0 = λ conn. AreNextPending (context_on table 1024 conn) (trace_of conn single) [] (lines_on conn (standing_call 1 ∷ [])) in
       subst Q same.1 (tells-single, tt)
   | inr other ↦
       let none : lines_on conn (standing_call 1 ∷ []) ≡ [] = rw other.0 refl in
-      let Q : List StandsLine → Type 0 = λ lines. TellCalls (on_connection table 1024 conn) (behind conn single) [] lines in
+      let Q : List StandsLine → Type 0 = λ lines. AreNextPending (context_on table 1024 conn) (trace_of conn single) [] lines in
       subst Q (sym none) tt
 ]
 
-whole-single : AreWhole table 1024 single (standing_call 1 ∷ [])
+whole-single : AreAllListed table 1024 single (standing_call 1 ∷ [])
 whole-single = record { begin = record { calls = the_call ∷ []; all = all-single; front = ([], refl); tell = told-single }; all = all-single }
 
 -- its line lists it
-judged-stands : IsJudged table 1024 single (standing_call 1 ∷ []) (Legal 1 1)
+judged-stands : IsCheckOfHistory table 1024 single (standing_call 1 ∷ []) (Legal 1 1)
 judged-stands = legal legal-single (inr whole-single) refl
 
-begins-with_nothing : MayBegin table 1024 single []
+begins-with_nothing : MayBeListed table 1024 single []
 begins-with_nothing = record { calls = the_call ∷ []; all = all-single; front = (the_call ∷ [], refl); tell = λ conn. tt }
 
-tells-no-second : TellsNext under (Took call ∷ []) [] 2 0 transport None → ⊥
+tells-no-second : IsNextPending under (Took call ∷ []) [] 2 0 transport None → ⊥
 tells-no-second told =
     let same : call ≡ told.call = some-same call told.call told.is_call in
-    let wrong : 1 ≡ 2 = ap (λ (c : Taken). c.seq) same ∙ told.number in omega (arith, wrong)
+    let wrong : 1 ≡ 2 = ap (λ (c : AcceptedCall). c.seq) same ∙ told.number in omega (arith, wrong)
   where
-    some-same : (x y : Taken) → Some x ≡ Some y → x ≡ y
+    some-same : (x y : AcceptedCall) → Some x ≡ Some y → x ≡ y
     some-same x y e = cc
 
 -- the line of call 2 in its place lists no pending call
-judged-second : IsJudged table 1024 single (standing_call 2 ∷ []) (Illegal 2 Stands)
+judged-second : IsCheckOfHistory table 1024 single (standing_call 2 ∷ []) (Illegal 2 Stands)
 judged-second = misplaced [] [] (standing_call 2) legal-single refl begins-with_nothing (λ begin. tells-no-second (begin.tell 1).0) refl
 
 -- ---- a malformed call alone
 
-abbrev faulty : Taken
+abbrev faulty : AcceptedCall
 faulty = record { seq = 1; method = 9; number = 0; addr = 2; after = 1; count = 0; copy = Malformed NoMethod 0 9 }
 
 abbrev unrefused : History
 unrefused = on_one (Took faulty) ∷ []
 
-may-take-faulty : May under [] (Took faulty)
+may-take-faulty : CanFollow under [] (Took faulty)
 may-take-faulty = record {
   numbered = record { number = refl; few = omega arith; loads = omega arith; copy = (λ e. omega arith, λ less. refl) };
   malformed = tt;
@@ -424,7 +424,7 @@ may-take-faulty = record {
   link_end = (λ e. link_stands [] (Took faulty) e, tt);
 }
 
-none-earlier : (other : Rule) (conn : ℕ) → order_of other < 1 → Awaits (behind conn unrefused) other → ⊥
+none-earlier : (other : Rule) (conn : ℕ) → rule_rank other < 1 → HasObligationOf (trace_of conn unrefused) other → ⊥
 none-earlier A conn less awaited = awaited
 none-earlier B conn less awaited = omega (arith, less)
 none-earlier C conn less awaited = omega (arith, less)
@@ -435,7 +435,7 @@ none-earlier G conn less awaited = omega (arith, less)
 none-earlier Stands conn less awaited = omega (arith, less)
 
 -- it awaits its refusal
-judged-faulty : IsJudged table 1024 unrefused [] (Illegal 2 B)
+judged-faulty : IsCheckOfHistory table 1024 unrefused [] (Illegal 2 B)
 judged-faulty =
     open_end B (on-each IsPrefixOn unrefused (tt, may-take-faulty) (λ conn. tt) (λ conn other. behind-other conn [] (on_one (Took faulty)) other))
     (record { conn = 1; awaited = tt; earlier = none-earlier }) refl

@@ -1,6 +1,6 @@
 pub mod Checking
-pub mod InputReading
+pub mod InputStops
 pub mod Inputs
-pub mod Reading
+pub mod TextProgress
 pub mod Stages
 pub mod States

@@ -4,23 +4,23 @@ ghost use Rattle.std.specs.Prelude.{◌≡◌, ◌+◌, ◌<◌, ◌≤◌, ◌^
 ghost use Rattle.mrpc_table.specs.Valid.{IsValid};
 ghost use Rattle.engine_core.specs.Policies.{IsPolicy};
 ghost use Rattle.audit_text.specs.declared.reading.AuditFault.{AuditFault};
-ghost use Rattle.audit_text.specs.Faults.{FaultsAs};
-ghost use Rattle.audit_check.specs.Checking.{IsChecked, IsFirstBad};
-ghost use Rattle.audit_check.specs.Reading.{IsFamiliar, IsRead};
+ghost use Rattle.audit_text.specs.Faults.{IfBad};
+ghost use Rattle.audit_check.specs.Checking.{IsCheckOfText, IsFirstInvalidAuditLine};
+ghost use Rattle.audit_check.specs.TextProgress.{IsSomeProgress, IsRead};
 ghost use Rattle.audit_check.specs.States.{IsFirstLine};
 ghost use Rattle.audit_check.specs.declared.checked.Checked.{Checked};
 
 use crate::checked::Checked;
 use crate::first_line::first_line;
-use crate::laws::a_text_has_one_answer;
-use crate::progress::Progress;
+use crate::laws::check_is_deterministic;
+use crate::progress::TextProgress;
 use audit_text::{
-    AuditFault, a_line_is_cut_into_its_words, a_stands_line_tells_one_call, read_brief, read_line,
+    AuditFault, line_splits_into_words, read_happening_ref, read_line, stands_line_determines_call,
 };
 use mrpc_table::Table;
 use policy_declarations::Declarations;
 use std::alloc::Global;
-use wire_encode::Output;
+use wire_encode::BackwardBuffer;
 
 /// Checks an audit text of at most 16777216 bytes, under a table, the declared policies, and a limit of loads.
 ///
@@ -42,14 +42,14 @@ pub fn check_audit(
     requires valid { IsValid table.now }
     requires policies { All (λ p. IsPolicy p.policy) declared.now.policies }
     requires short { length text.now ≤ 16777216 }
-    ensures checked { IfOk result (IsChecked table.now declared.now loads text.now) }
-    ensures bad { IfErr result (FaultsAs (IsFirstBad table.now declared.now text.now)) }
-    ensures only_checked { (checked : Checked) → IsChecked table.now declared.now loads text.now checked
+    ensures checked { IfOk result (IsCheckOfText table.now declared.now loads text.now) }
+    ensures bad { IfErr result (IfBad (IsFirstInvalidAuditLine table.now declared.now text.now)) }
+    ensures only_checked { (checked : Checked) → IsCheckOfText table.now declared.now loads text.now checked
         → MatchResult result (λ c. c ≡ checked) (λ fault. fault ≡ AuditFault.Memory) }
-    ensures only_bad { (line : ℕ) → IsFirstBad table.now declared.now text.now line
+    ensures only_bad { (line : ℕ) → IsFirstInvalidAuditLine table.now declared.now text.now line
         → MatchResult result (λ _. ⊥) (λ fault. (fault ≡ AuditFault.Bad line) ⊎ (fault ≡ AuditFault.Memory)) }
 {
-    a_text_has_one_answer();
+    check_is_deterministic();
     read_text(alloc, table, declared, loads, text)
 }
 
@@ -64,14 +64,14 @@ fn read_text(
     requires valid { IsValid table.now }
     requires policies { All (λ p. IsPolicy p.policy) declared.now.policies }
     requires short { length text.now ≤ 16777216 }
-    ensures checked { IfOk result (IsChecked table.now declared.now loads text.now) }
-    ensures bad { IfErr result (FaultsAs (IsFirstBad table.now declared.now text.now)) }
+    ensures checked { IfOk result (IsCheckOfText table.now declared.now loads text.now) }
+    ensures bad { IfErr result (IfBad (IsFirstInvalidAuditLine table.now declared.now text.now)) }
 {
-    let mut progress = Progress::new(alloc, loads)?;
-    let mut encoding = Output::new(alloc)?;
+    let mut progress = TextProgress::new(alloc, loads)?;
+    let mut encoding = BackwardBuffer::new(alloc)?;
     let mut rest = text;
     while !rest.is_empty() {
-        let others = take_front(alloc, &mut encoding, &mut progress, table, declared, rest)?;
+        let others = take_first_line(alloc, &mut encoding, &mut progress, table, declared, rest)?;
         rest = others;
     }
     Ok(progress.end()?)
@@ -79,10 +79,10 @@ fn read_text(
 
 // Reads and applies the first line of a text, and returns the remainder. (Most lines are read without a search for
 // their ends.)
-fn take_front<'a>(
+fn take_first_line<'a>(
     alloc: Global,
-    encoding: &mut Output,
-    progress: &mut Progress,
+    encoding: &mut BackwardBuffer,
+    progress: &mut TextProgress,
     table: &Table,
     declared: &Declarations,
     rest: &'a [u8],
@@ -90,17 +90,17 @@ fn take_front<'a>(
     requires valid { IsValid table.now }
     requires policies { All (λ p. IsPolicy p.policy) declared.now.policies }
     requires few { progress.old.happenings + progress.old.stands + 3 < 2 ^ 32 }
-    requires familiar { IsFamiliar table.now progress.old }
+    requires familiar { IsSomeProgress table.now progress.old }
     requires some { 0 < length rest.now }
     ensures takes { (limit : ℕ) (text : List ℕ) → IsRead table.now declared.now limit text rest.now progress.old
         → MatchResult result (λ others. IsRead table.now declared.now limit text others.now progress.new)
-        (FaultsAs (IsFirstBad table.now declared.now text)) }
+        (IfBad (IsFirstInvalidAuditLine table.now declared.now text)) }
     ensures shorter { IfOk result (λ others. length others.now < length rest.now) }
 {
-    a_line_is_cut_into_its_words();
-    a_stands_line_tells_one_call();
-    if let Some((next, others)) = read_brief(rest) {
-        progress.note(alloc, table, next)?;
+    line_splits_into_words();
+    stands_line_determines_call();
+    if let Some((next, others)) = read_happening_ref(rest) {
+        progress.take_call_event(alloc, table, next)?;
         return Ok(others);
     }
     let (line, others) = first_line(rest);
@@ -111,8 +111,8 @@ fn take_front<'a>(
 // Reads a line by its words, and applies it.
 fn take_line(
     alloc: Global,
-    encoding: &mut Output,
-    progress: &mut Progress,
+    encoding: &mut BackwardBuffer,
+    progress: &mut TextProgress,
     table: &Table,
     declared: &Declarations,
     line: &[u8],
@@ -120,14 +120,14 @@ fn take_line(
     requires valid { IsValid table.now }
     requires policies { All (λ p. IsPolicy p.policy) declared.now.policies }
     requires few { progress.old.happenings + progress.old.stands + 3 < 2 ^ 32 }
-    requires familiar { IsFamiliar table.now progress.old }
+    requires familiar { IsSomeProgress table.now progress.old }
     ensures { (limit : ℕ) (text rest others : List ℕ) → IsRead table.now declared.now limit text rest progress.old
         → 0 < length rest → IsFirstLine rest line.now others
         → MatchResult result (λ _. IsRead table.now declared.now limit text others progress.new)
-        (FaultsAs (IsFirstBad table.now declared.now text)) }
+        (IfBad (IsFirstInvalidAuditLine table.now declared.now text)) }
 {
-    a_line_is_cut_into_its_words();
-    a_stands_line_tells_one_call();
+    line_splits_into_words();
+    stands_line_determines_call();
     match read_line(alloc, encoding, line, table, declared)? {
         Some(told) => progress.take(alloc, table, told),
         None => Err(AuditFault::Bad {

@@ -5,19 +5,19 @@ ghost use Rattle.std.specs.BTreeMap.{Updates, get};
 ghost use Rattle.std.specs.Ordering.{nat_cmp};
 ghost use Rattle.mrpc_table.specs.Valid.{IsValid};
 ghost use Rattle.mrpc_table.specs.declared.table.Table.{Table};
-ghost use Rattle.call_history.specs.Legal.{History, IsSettledUp, behind};
-ghost use Rattle.call_history.specs.Rules.{May};
-ghost use Rattle.audit_rules.specs.First.{BreaksFirst, order_of};
-ghost use Rattle.audit_rules.specs.Knowing.{IsReadable};
-ghost use Rattle.audit_check.specs.Checking.{IsFirstOpen, on_connection};
-ghost use Rattle.audit_text.specs.Briefs.{told_by, told_in};
+ghost use Rattle.call_history.specs.Legal.{History, HasNoObligation, trace_of};
+ghost use Rattle.call_history.specs.Rules.{CanFollow};
+ghost use Rattle.audit_rules.specs.BrokenRules.{IsFirstBrokenRule, rule_rank};
+ghost use Rattle.audit_rules.specs.CheckerState.{IsReadable};
+ghost use Rattle.audit_check.specs.Checking.{IsFirstObligation, context_on};
+ghost use Rattle.audit_text.specs.HappeningRefs.{event_of_ref, connection_event_of_ref};
 ghost use Rattle.audit_check.specs.declared.connections.TheConstants.{NEAR};
-ghost use Rattle.audit_check.specs.States.{IsEarlier, IsKnown, KnowsAll, KnowsEach, checker_of};
+ghost use Rattle.audit_check.specs.States.{IsEarlier, IsOfSomeHistory, KnowsAll, KnowsEach, checker_of};
 
-use crate::brief::{happened, judge};
+use crate::happening_ref::{check_ref, connection_event_of_ref};
 use audit_rules::{Checker, Rule};
-use audit_text::BriefLine;
-use call_history::Happened;
+use audit_text::HappenedRef;
+use call_history::ConnectionEvent;
 use mrpc_table::{Memory, Table};
 use std::alloc::Global;
 use std::collections::BTreeMap;
@@ -27,7 +27,7 @@ pub(crate) const NEAR: u32 = 17;
 
 // The checkers of connections, under one limit of loads.
 #[derive(Drop)]
-pub(crate) struct Connections {
+pub(crate) struct Checkers {
     pub limit: u64,
     // The checkers of the lowest numbers, by number, with events or without.
     pub near: Vec<Checker>,
@@ -35,9 +35,9 @@ pub(crate) struct Connections {
     pub far: BTreeMap<u32, Checker>,
 }
 
-impl Connections {
+impl Checkers {
     // Makes the checkers of connections without events.
-    pub(crate) fn new(alloc: Global, limit: u64) -> Result<Connections, Memory>
+    pub(crate) fn new(alloc: Global, limit: u64) -> Result<Checkers, Memory>
         ensures knows { IfOk result (λ c. (T : Table) → KnowsAll T [] c) }
         ensures limit { IfOk result (λ c. c.limit ≡ limit) }
     {
@@ -47,7 +47,7 @@ impl Connections {
             near.push(checker)?;
         }
         let far = BTreeMap::new(alloc);
-        Ok(Connections { limit, near, far })
+        Ok(Checkers { limit, near, far })
     }
 
     // Checks the next event on its connection. Returns the first rule that it breaks; `None` if it breaks none.
@@ -56,17 +56,17 @@ impl Connections {
         &mut self,
         alloc: Global,
         table: &Table,
-        next: Happened,
+        next: ConnectionEvent,
     ) -> Result<Option<Rule>, Memory>
         requires valid { IsValid table.now }
-        requires known { IsKnown table.now self.old }
+        requires known { IsOfSomeHistory table.now self.old }
         requires readable { IsReadable table.now next.what }
         ensures may { (h : History) → KnowsAll table.now h self.old → IfOk result (λ r. IfNone r
-            (May (on_connection table.now self.old.limit next.conn) (behind next.conn h) next.what)) }
+            (CanFollow (context_on table.now self.old.limit next.conn) (trace_of next.conn h) next.what)) }
         ensures knows { (h : History) → KnowsAll table.now h self.old
             → IfOk result (λ r. IfNone r (KnowsAll table.now (h ++ next ∷ []) self.new)) }
         ensures breaks { (h : History) → KnowsAll table.now h self.old → IfOk result (λ r. IfSome r
-            (BreaksFirst (on_connection table.now self.old.limit next.conn) (behind next.conn h) next.what)) }
+            (IsFirstBrokenRule (context_on table.now self.old.limit next.conn) (trace_of next.conn h) next.what)) }
         ensures limit { self.new.limit ≡ self.old.limit }
     {
         let place = next.conn as usize;
@@ -77,27 +77,29 @@ impl Connections {
     }
 
     // Like `check`, for a note or a send as its line has it.
-    pub(crate) fn check_brief(
+    pub(crate) fn check_ref(
         &mut self,
         alloc: Global,
         table: &Table,
-        next: BriefLine<'_>,
+        next: HappenedRef<'_>,
     ) -> Result<Option<Rule>, Memory>
         requires valid { IsValid table.now }
-        requires known { IsKnown table.now self.old }
+        requires known { IsOfSomeHistory table.now self.old }
         ensures may { (h : History) → KnowsAll table.now h self.old → IfOk result (λ r. IfNone r
-            (May (on_connection table.now self.old.limit next.entry.conn) (behind next.entry.conn h) (told_by next.entry.what))) }
+            (CanFollow (context_on table.now self.old.limit next.entry.conn) (trace_of next.entry.conn h)
+            (event_of_ref next.entry.what))) }
         ensures knows { (h : History) → KnowsAll table.now h self.old
-            → IfOk result (λ r. IfNone r (KnowsAll table.now (h ++ told_in next.entry ∷ []) self.new)) }
+            → IfOk result (λ r. IfNone r (KnowsAll table.now (h ++ connection_event_of_ref next.entry ∷ []) self.new)) }
         ensures breaks { (h : History) → KnowsAll table.now h self.old → IfOk result (λ r. IfSome r
-            (BreaksFirst (on_connection table.now self.old.limit next.entry.conn) (behind next.entry.conn h) (told_by next.entry.what))) }
+            (IsFirstBrokenRule (context_on table.now self.old.limit next.entry.conn) (trace_of next.entry.conn h)
+            (event_of_ref next.entry.what))) }
         ensures limit { self.new.limit ≡ self.old.limit }
     {
         let place = next.conn as usize;
         if place < self.near.len() {
-            return Ok(judge(&mut self.near[place], table, next.what));
+            return Ok(check_ref(&mut self.near[place], table, next.what));
         }
-        let next = happened(alloc, next)?;
+        let next = connection_event_of_ref(alloc, next)?;
         self.check_far(alloc, table, next)
     }
 
@@ -108,47 +110,47 @@ impl Connections {
         &mut self,
         alloc: Global,
         table: &Table,
-        next: Happened,
+        next: ConnectionEvent,
     ) -> Result<Option<Rule>, Memory>
         requires valid { IsValid table.now }
-        requires known { IsKnown table.now self.old }
+        requires known { IsOfSomeHistory table.now self.old }
         requires readable { IsReadable table.now next.what }
         requires far { length self.old.near.items ≤ next.conn }
         ensures may { (h : History) → KnowsAll table.now h self.old → IfOk result (λ r. IfNone r
-            (May (on_connection table.now self.old.limit next.conn) (behind next.conn h) next.what)) }
+            (CanFollow (context_on table.now self.old.limit next.conn) (trace_of next.conn h) next.what)) }
         ensures knows { (h : History) → KnowsAll table.now h self.old
             → IfOk result (λ r. IfNone r (KnowsAll table.now (h ++ next ∷ []) self.new)) }
         ensures breaks { (h : History) → KnowsAll table.now h self.old → IfOk result (λ r. IfSome r
-            (BreaksFirst (on_connection table.now self.old.limit next.conn) (behind next.conn h) next.what)) }
+            (IsFirstBrokenRule (context_on table.now self.old.limit next.conn) (trace_of next.conn h) next.what)) }
         ensures limit { self.new.limit ≡ self.old.limit }
     {
         match self.far.get_mut(&next.conn) {
             Some(checker) => Ok(checker.check(table, next.what)),
-            None => self.begin(alloc, table, next),
+            None => self.check_first(alloc, table, next),
         }
     }
 
     // Like `check_far`, for the first event of a connection.
     #[inline(never)]
-    fn begin(
+    fn check_first(
         &mut self,
         alloc: Global,
         table: &Table,
-        next: Happened,
+        next: ConnectionEvent,
     ) -> Result<Option<Rule>, Memory>
         requires valid { IsValid table.now }
         requires readable { IsReadable table.now next.what }
         requires far { length self.old.near.items ≤ next.conn }
         requires first { get nat_cmp self.old.far next.conn ≡ None }
         ensures may { (h : History) → KnowsAll table.now h self.old → IfOk result (λ r. IfNone r
-            (May (on_connection table.now self.old.limit next.conn) (behind next.conn h) next.what)) }
+            (CanFollow (context_on table.now self.old.limit next.conn) (trace_of next.conn h) next.what)) }
         ensures knows { (h : History) → KnowsAll table.now h self.old
             → IfOk result (λ r. IfNone r (KnowsAll table.now (h ++ next ∷ []) self.new)) }
         ensures breaks { (h : History) → KnowsAll table.now h self.old → IfOk result (λ r. IfSome r
-            (BreaksFirst (on_connection table.now self.old.limit next.conn) (behind next.conn h) next.what)) }
+            (IsFirstBrokenRule (context_on table.now self.old.limit next.conn) (trace_of next.conn h) next.what)) }
         ensures limit { self.new.limit ≡ self.old.limit }
     {
-        let Happened { conn, what } = next;
+        let ConnectionEvent { conn, what } = next;
         let mut checker = Checker::open(alloc, conn, self.limit)?;
         let rule = checker.check(table, what);
         let _ = self.far.insert(conn, checker)?;
@@ -160,7 +162,7 @@ impl Connections {
         requires { length self.near.items ≤ NEAR }
         ensures { IfOk result (λ all. (conn : ℕ) → get nat_cmp all conn ≡ checker_of self conn) }
     {
-        let Connections {
+        let Checkers {
             mut near,
             far: mut all,
             ..
@@ -182,15 +184,15 @@ fn put(all: &mut BTreeMap<u32, Checker>, conn: u32, checker: Checker) -> Result<
 
 // The first of the rules with an obligation on any connection; `None` if there is none.
 #[inline(never)]
-pub(crate) fn left_open(checkers: &BTreeMap<u32, Checker>) -> Option<Rule>
+pub(crate) fn first_obligation(checkers: &BTreeMap<u32, Checker>) -> Option<Rule>
     ensures settled { (T : Table) (limit : ℕ) (h : History) → KnowsEach T limit h checkers.now
-        → IfNone result ((conn : ℕ) → IsSettledUp (behind conn h)) }
+        → IfNone result ((conn : ℕ) → HasNoObligation (trace_of conn h)) }
     ensures open { (T : Table) (limit : ℕ) (h : History) → KnowsEach T limit h checkers.now
-        → IfSome result (IsFirstOpen h) }
+        → IfSome result (IsFirstObligation h) }
 {
     let mut first = None;
     for (_, checker) in checkers {
-        first = earlier(first, checker.left_open());
+        first = earlier(first, checker.first_obligation());
     }
     first
 }
@@ -210,7 +212,7 @@ fn earlier(one: Option<Rule>, other: Option<Rule>) -> Option<Rule>
 
 // The rank of a rule.
 fn order_of(rule: Rule) -> u8
-    ensures { result ≡ order_of rule }
+    ensures { result ≡ rule_rank rule }
 {
     match rule {
         Rule::A => 0,

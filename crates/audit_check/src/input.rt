@@ -4,15 +4,18 @@ ghost use Rattle.std.specs.Prelude.{◌≡◌, ℕ, List, length, IfOk, IfErr, M
 ghost use Rattle.std.specs.Str.{bytes_eq};
 ghost use Rattle.mrpc_table.specs.Valid.{IsValid};
 ghost use Rattle.mrpc_table.specs.declared.table.Table.{Table as TheTable};
-ghost use Rattle.policy_declarations.specs.Declarations.{Declared, IsSound};
+ghost use Rattle.policy_declarations.specs.Declarations.{Declared, AreValidDeclarations};
 ghost use Rattle.script_grammar.specs.declared.fault.ScriptFault.TheVariants.{Memory as OutOfMemory};
-ghost use Rattle.audit_check.specs.Inputs.{audit_line, Says, IsFaultOf};
-ghost use Rattle.audit_check.specs.InputReading.{AreItems, IsStopOf, stop_of};
+ghost use Rattle.audit_check.specs.Inputs.{audit_word, IsAuditInput, IsFaultOfAuditInput};
+ghost use Rattle.audit_check.specs.InputStops.{AreReadDeclarations, IsInputStopOf, input_stop_of};
 
-use crate::input_laws::one_input;
-use mrpc_table::{Memory, Table, cut, line_count};
-use policy_declarations::{Declarations, ItemForm, ItemLines, one_item, read_item, stays_sound};
-use script_grammar::{ScriptFault, ScriptReason, read_front};
+use crate::input_laws::audit_input_or_fault;
+use mrpc_table::{Memory, Table, line_count, split_once};
+use policy_declarations::{
+    DeclarationForm, DeclarationLines, Declarations, declaration_or_fault,
+    declaration_preserves_validity, read_declaration,
+};
+use script_grammar::{ScriptFault, ScriptReason, read_preamble};
 use std::alloc::Global;
 
 // The first line, with its line feed.
@@ -37,7 +40,7 @@ pub struct AuditInput<'a> {
 
 // The declarations before the line `audit`, and the remainder from that line on.
 #[derive(Drop)]
-struct Items<'a> {
+struct ReadDeclarations<'a> {
     declared: Declarations,
     // The text from the line `audit` on.
     rest: &'a [u8],
@@ -47,7 +50,7 @@ struct Items<'a> {
 
 // Why reading ended before a line `audit`.
 #[derive(Clone, Copy)]
-enum Stop {
+enum InputStop {
     // A line with a fault, counted from 1 at the start of the remaining bytes.
     At {
         left: usize,
@@ -72,29 +75,29 @@ enum Stop {
 /// memory.
 pub fn read_audit_input(alloc: Global, text: &[u8]) -> Result<AuditInput<'_>, ScriptFault>
     // The result is the input that the text means.
-    ensures read { IfOk result (λ a. Says text.now a.loads a.table a.declared a.text.now a.line) }
+    ensures read { IfOk result (λ a. IsAuditInput text.now a.loads a.table a.declared a.text.now a.line) }
     // If the text is an input, the call returns it, unless it runs out of memory.
     ensures only { (loads : ℕ) (T : TheTable) (d : Declared) (rest : List ℕ) (line : ℕ)
-        → Says text.now loads T d rest line
+        → IsAuditInput text.now loads T d rest line
         → MatchResult result (λ a. (a.loads ≡ loads) × (a.table ≡ T) × (a.declared ≡ d) × (a.text.now ≡ rest)
         × (a.line ≡ line)) (λ e. e ≡ OutOfMemory) }
     // A fault is the text's: the first line with a fault, and its first reason.
-    ensures fault { IfErr result (IsFaultOf text.now) }
+    ensures fault { IfErr result (IsFaultOfAuditInput text.now) }
     // Properties of each input.
     ensures table { IfOk result (λ a. IsValid a.table) }
-    ensures declared { IfOk result (λ a. IsSound a.declared) }
+    ensures declared { IfOk result (λ a. AreValidDeclarations a.declared) }
 {
-    one_input();
+    audit_input_or_fault();
     input_of(alloc, text)
 }
 
 fn input_of(alloc: Global, text: &[u8]) -> Result<AuditInput<'_>, ScriptFault>
-    ensures { MatchResult result (λ a. Says text.now a.loads a.table a.declared a.text.now a.line)
-        (IsFaultOf text.now) }
+    ensures { MatchResult result (λ a. IsAuditInput text.now a.loads a.table a.declared a.text.now a.line)
+        (IsFaultOfAuditInput text.now) }
 {
-    one_item();
-    let front = read_front(alloc, text, FIRST_LINE)?;
-    match read_items(alloc, &front.table, front.behind) {
+    declaration_or_fault();
+    let front = read_preamble(alloc, text, FIRST_LINE)?;
+    match read_declarations(alloc, &front.table, front.behind) {
         Ok(items) => Ok(AuditInput {
             loads: front.loads,
             table: front.table,
@@ -102,37 +105,41 @@ fn input_of(alloc: Global, text: &[u8]) -> Result<AuditInput<'_>, ScriptFault>
             text: items.text,
             line: line_count(&text[..text.len() - items.rest.len()]) as u64 + 1,
         }),
-        Err(Stop::At { left, line, reason }) => Err(ScriptFault::At {
+        Err(InputStop::At { left, line, reason }) => Err(ScriptFault::At {
             line: line_count(&text[..text.len() - left]) as u64 + line,
             reason,
         }),
-        Err(Stop::Memory) => Err(ScriptFault::Memory),
+        Err(InputStop::Memory) => Err(ScriptFault::Memory),
     }
 }
 
 // Reads the declarations before the line `audit`, and returns them with the remainder from that line on.
-fn read_items<'a>(alloc: Global, table: &Table, text: &'a [u8]) -> Result<Items<'a>, Stop>
+fn read_declarations<'a>(
+    alloc: Global,
+    table: &Table,
+    text: &'a [u8],
+) -> Result<ReadDeclarations<'a>, InputStop>
     requires { IsValid table.now }
-    ensures { MatchResult result (λ i. AreItems table.now text.now i) (IsStopOf table.now text.now) }
+    ensures { MatchResult result (λ i. AreReadDeclarations table.now text.now i) (IsInputStopOf table.now text.now) }
 {
-    one_item();
+    declaration_or_fault();
     let mut declared = Declarations::new(alloc);
     let mut rest = text;
-    while let Some((line, behind)) = cut(rest, b'\n') {
+    while let Some((line, behind)) = split_once(rest, b'\n') {
         if is_audit(line) {
-            return Ok(Items {
+            return Ok(ReadDeclarations {
                 declared,
                 rest,
                 text: behind,
             });
         }
-        let Some(form) = ItemForm::of(line) else {
+        let Some(form) = DeclarationForm::of(line) else {
             return Err(stopped(rest, ScriptReason::Word));
         };
-        let lines = ItemLines { form, line, behind };
-        match read_item(alloc, table, &declared, lines, false) {
+        let lines = DeclarationLines { form, line, behind };
+        match read_declaration(alloc, table, &declared, lines, false) {
             Ok((item, more)) => {
-                stays_sound();
+                declaration_preserves_validity();
                 declared = declared.with(alloc, item)?;
                 rest = more;
             }
@@ -149,42 +156,42 @@ fn read_items<'a>(alloc: Global, table: &Table, text: &'a [u8]) -> Result<Items<
 
 // Returns true for the line before the audit.
 fn is_audit(line: &[u8]) -> bool
-    ensures { result ≡ bytes_eq line.now audit_line }
+    ensures { result ≡ bytes_eq line.now audit_word }
 {
     line == AUDIT
 }
 
 // The declaration at the start of these bytes has a fault.
-fn stopped_by(rest: &[u8], fault: ScriptFault) -> Stop
-    ensures { result ≡ stop_of (length rest.now) fault }
+fn stopped_by(rest: &[u8], fault: ScriptFault) -> InputStop
+    ensures { result ≡ input_stop_of (length rest.now) fault }
 {
     match fault {
-        ScriptFault::At { line, reason } => Stop::At {
+        ScriptFault::At { line, reason } => InputStop::At {
             left: rest.len(),
             line,
             reason,
         },
-        ScriptFault::Memory => Stop::Memory,
+        ScriptFault::Memory => InputStop::Memory,
     }
 }
 
 // The first line of these bytes has a fault.
-fn stopped(rest: &[u8], reason: ScriptReason) -> Stop
-    ensures { result ≡ Stop.At (length rest.now) 1 reason }
+fn stopped(rest: &[u8], reason: ScriptReason) -> InputStop
+    ensures { result ≡ InputStop.At (length rest.now) 1 reason }
 {
-    Stop::At {
+    InputStop::At {
         left: rest.len(),
         line: 1,
         reason,
     }
 }
 
-impl From<Memory> for Stop {
-    ghost use Rattle.audit_check.specs.declared.input.Stop.TheVariants as stop;
+impl From<Memory> for InputStop {
+    ghost use Rattle.audit_check.specs.declared.input.InputStop.TheVariants as stop;
 
     ghost from_gives = { λ _ e. e ≡ stop.Memory };
 
-    fn from(_: Memory) -> Stop {
-        Stop::Memory
+    fn from(_: Memory) -> InputStop {
+        InputStop::Memory
     }
 }

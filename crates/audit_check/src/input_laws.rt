@@ -3,29 +3,30 @@
 ghost use Rattle.std.specs.Prelude.{◌≡◌, ◌⊎◌, ℕ, List};
 ghost use Rattle.mrpc_table.specs.Valid.{IsValid};
 ghost use Rattle.mrpc_table.specs.declared.table.Table.{Table};
-ghost use Rattle.policy_declarations.specs.Declarations.{Declared, IsSound};
+ghost use Rattle.policy_declarations.specs.Declarations.{Declared, AreValidDeclarations};
 ghost use Rattle.script_grammar.specs.declared.fault.ScriptReason.{ScriptReason};
-ghost use Rattle.audit_check.specs.Inputs.{Says, IsFault};
+ghost use Rattle.audit_check.specs.Inputs.{IsAuditInput, IsAuditInputFault};
 
-use policy_declarations::{one_item, stays_sound};
-use script_grammar::one_front;
+use policy_declarations::{declaration_or_fault, declaration_preserves_validity};
+use script_grammar::preamble_or_fault;
 
 /// A text is exactly one input of `audit`, or has exactly one first fault.
-pub fn one_input()
+pub fn audit_input_or_fault()
     ensures one { (text : List ℕ) (m n : ℕ) (T U : Table) (d e : Declared) (x y : List ℕ) (k l : ℕ)
-        → Says text m T d x k → Says text n U e y l → (m ≡ n) × (T ≡ U) × (d ≡ e) × (x ≡ y) × (k ≡ l) }
-    ensures one_fault { (text : List ℕ) (m n : ℕ) (r q : ScriptReason) → IsFault text m r → IsFault text n q
+        → IsAuditInput text m T d x k → IsAuditInput text n U e y l → (m ≡ n) × (T ≡ U) × (d ≡ e) × (x ≡ y) × (k ≡ l) }
+    ensures one_fault { (text : List ℕ) (m n : ℕ) (r q : ScriptReason) → IsAuditInputFault text m r
+        → IsAuditInputFault text n q
         → (m ≡ n) × (r ≡ q) }
     ensures not_both { (text : List ℕ) (loads : ℕ) (T : Table) (d : Declared) (x : List ℕ) (k line : ℕ)
-        (r : ScriptReason) → Says text loads T d x k → IsFault text line r → ⊥ }
+        (r : ScriptReason) → IsAuditInput text loads T d x k → IsAuditInputFault text line r → ⊥ }
     ensures either { (text : List ℕ)
-        → ((loads : ℕ) × (T : Table) × (d : Declared) × (x : List ℕ) × (k : ℕ) × Says text loads T d x k)
-        ⊎ ((line : ℕ) × (r : ScriptReason) × IsFault text line r) }
+        → ((loads : ℕ) × (T : Table) × (d : Declared) × (x : List ℕ) × (k : ℕ) × IsAuditInput text loads T d x k)
+        ⊎ ((line : ℕ) × (r : ScriptReason) × IsAuditInputFault text line r) }
     // Properties of each input.
     ensures sound { (text : List ℕ) (loads : ℕ) (T : Table) (d : Declared) (x : List ℕ) (k : ℕ)
-        → Says text loads T d x k → IsValid T × IsSound d }
+        → IsAuditInput text loads T d x k → IsValid T × AreValidDeclarations d }
 {
-    one_front();
-    one_item();
-    stays_sound();
+    preamble_or_fault();
+    declaration_or_fault();
+    declaration_preserves_validity();
 }

@@ -13,19 +13,19 @@
 #![tactic(auto)]
 
 mod audit;
-mod brief;
 mod checked;
 mod connections;
 mod first_line;
+mod happening_ref;
 mod input;
 mod input_laws;
 mod laws;
+mod listing;
 mod progress;
-mod row;
 mod stage;
 
 pub use audit::check_audit;
 pub use checked::Checked;
 pub use input::{AuditInput, read_audit_input};
-pub use input_laws::one_input;
-pub use laws::a_text_has_one_answer;
+pub use input_laws::audit_input_or_fault;
+pub use laws::check_is_deterministic;

@@ -4,36 +4,36 @@ ghost use Rattle.std.specs.Prelude.{◌≡◌, ◌+◌, ◌<◌, ◌^◌, ℕ, L
 ghost use Rattle.mrpc_table.specs.Valid.{IsValid};
 ghost use Rattle.mrpc_table.specs.declared.table.Table.{Table};
 ghost use Rattle.call_history.specs.Legal.{History};
-ghost use Rattle.audit_text.specs.Briefs.{told_in};
+ghost use Rattle.audit_text.specs.HappeningRefs.{connection_event_of_ref};
 ghost use Rattle.audit_text.specs.declared.line.AuditLine.TheVariants as lines;
-ghost use Rattle.audit_check.specs.Checking.{IsJudged, StandsLine};
-ghost use Rattle.audit_check.specs.Reading.{FailsOn, IsFamiliar, IsProgress, IsReadableLine, TakesOn};
+ghost use Rattle.audit_check.specs.Checking.{IsCheckOfHistory, StandsLine};
+ghost use Rattle.audit_check.specs.TextProgress.{IsFaultOfLine, IsSomeProgress, IsProgress, IsReadableLine, IsProgressAfterLine};
 
 use crate::checked::Checked;
-use crate::connections::Connections;
-use crate::row::Told;
+use crate::connections::Checkers;
+use crate::listing::PendingLine;
 use crate::stage::Stage;
-use audit_text::{AuditFault, AuditLine, BriefLine};
+use audit_text::{AuditFault, AuditLine, HappenedRef};
 use mrpc_table::{Memory, Table};
 use std::alloc::Global;
 
 // How many lines of each kind were read, and how they are judged.
 #[derive(Drop)]
-pub(crate) struct Progress {
+pub(crate) struct TextProgress {
     pub happenings: u64,
     pub stands: u64,
     pub stage: Stage,
 }
 
-impl Progress {
+impl TextProgress {
     // No line yet.
-    pub(crate) fn new(alloc: Global, limit: u64) -> Result<Progress, Memory>
+    pub(crate) fn new(alloc: Global, limit: u64) -> Result<TextProgress, Memory>
         ensures { IfOk result (λ p. (T : Table) → IsProgress T limit [] [] p) }
     {
-        Ok(Progress {
+        Ok(TextProgress {
             happenings: 0,
             stands: 0,
-            stage: Stage::Happening(Connections::new(alloc, limit)?),
+            stage: Stage::Events(Checkers::new(alloc, limit)?),
         })
     }
 
@@ -55,9 +55,10 @@ impl Progress {
         requires valid { IsValid table.now }
         requires readable { IsReadableLine table.now line }
         requires few { self.old.happenings + self.old.stands + 3 < 2 ^ 32 }
-        requires familiar { IsFamiliar table.now self.old }
+        requires familiar { IsSomeProgress table.now self.old }
         ensures { (limit : ℕ) (h : History) (told : List StandsLine) → IsProgress table.now limit h told self.old
-            → MatchResult result (λ _. TakesOn table.now limit h told line self.new) (FailsOn h told line) }
+            → MatchResult result (λ _. IsProgressAfterLine table.now limit h told line self.new)
+            (IsFaultOfLine h told line) }
     {
         let number = self.next_line();
         match line {
@@ -65,7 +66,7 @@ impl Progress {
                 if self.stands > 0 {
                     return Err(AuditFault::Bad { line: number });
                 }
-                self.stage.happen(alloc, table, next, number)?;
+                self.stage.apply_event(alloc, table, next, number)?;
                 self.happenings += 1;
                 Ok(())
             }
@@ -76,14 +77,14 @@ impl Progress {
                 name,
                 holding,
             } => {
-                let told = Told {
+                let told = PendingLine {
                     conn,
                     seq,
                     position,
                     name,
                     holding,
                 };
-                self.stage.stand(table, told, number)?;
+                self.stage.apply_pending_line(table, told, number)?;
                 self.stands += 1;
                 Ok(())
             }
@@ -91,24 +92,25 @@ impl Progress {
     }
 
     // Like `take`, for the line of a note or a send.
-    pub(crate) fn note(
+    pub(crate) fn take_call_event(
         &mut self,
         alloc: Global,
         table: &Table,
-        next: BriefLine<'_>,
+        next: HappenedRef<'_>,
     ) -> Result<(), AuditFault>
         requires valid { IsValid table.now }
         requires few { self.old.happenings + self.old.stands + 3 < 2 ^ 32 }
-        requires familiar { IsFamiliar table.now self.old }
+        requires familiar { IsSomeProgress table.now self.old }
         ensures { (limit : ℕ) (h : History) (told : List StandsLine) → IsProgress table.now limit h told self.old
-            → MatchResult result (λ _. TakesOn table.now limit h told (lines.Happened (told_in next.entry)) self.new)
-            (FailsOn h told (lines.Happened (told_in next.entry))) }
+            → MatchResult result (λ _. IsProgressAfterLine table.now limit h told
+            (lines.Happened (connection_event_of_ref next.entry)) self.new)
+            (IsFaultOfLine h told (lines.Happened (connection_event_of_ref next.entry))) }
     {
         let number = self.next_line();
         if self.stands > 0 {
             return Err(AuditFault::Bad { line: number });
         }
-        self.stage.note(alloc, table, next, number)?;
+        self.stage.apply_call_event(alloc, table, next, number)?;
         self.happenings += 1;
         Ok(())
     }
@@ -116,9 +118,9 @@ impl Progress {
     // The result of a text that ends here.
     pub(crate) fn end(self) -> Result<Checked, Memory>
         requires few { self.happenings + self.stands + 1 < 2 ^ 64 }
-        requires familiar { (T : Table) × IsFamiliar T self }
+        requires familiar { (T : Table) × IsSomeProgress T self }
         ensures { (T : Table) (limit : ℕ) (h : History) (told : List StandsLine) → IsProgress T limit h told self
-            → IfOk result (IsJudged T limit h told) }
+            → IfOk result (IsCheckOfHistory T limit h told) }
     {
         self.stage.end(self.happenings, self.stands)
     }

@@ -4,20 +4,20 @@ ghost use Rattle.std.specs.Prelude.{◌≡◌, ◌+◌, ◌<◌, ◌≤◌, ◌^
 ghost use Rattle.mrpc_table.specs.Valid.{IsValid};
 ghost use Rattle.mrpc_table.specs.declared.table.Table.{Table};
 ghost use Rattle.call_history.specs.Legal.{History, IsLegal};
-ghost use Rattle.audit_text.specs.Briefs.{told_in};
-ghost use Rattle.audit_rules.specs.Knowing.{IsReadable};
-ghost use Rattle.audit_check.specs.Checking.{IsJudged, StandsLine};
-ghost use Rattle.audit_check.specs.Stages.{IsHappening, IsIllegalAt, IsStage};
+ghost use Rattle.audit_text.specs.HappeningRefs.{connection_event_of_ref};
+ghost use Rattle.audit_rules.specs.CheckerState.{IsReadable};
+ghost use Rattle.audit_check.specs.Checking.{IsCheckOfHistory, StandsLine};
+ghost use Rattle.audit_check.specs.Stages.{IsEventStage, IsIllegalAt, IsStage};
 ghost use Rattle.audit_check.specs.declared.connections.TheConstants.{NEAR};
 ghost use Rattle.audit_check.specs.declared.stage.Stage.TheVariants as stages;
-ghost use Rattle.audit_check.specs.States.{IsRow, tells};
+ghost use Rattle.audit_check.specs.States.{IsListing, stands_line_of};
 
 use crate::checked::Checked;
-use crate::connections::{Connections, left_open};
-use crate::row::{Row, Told};
+use crate::connections::{Checkers, first_obligation};
+use crate::listing::{PendingLine, PendingListing};
 use audit_rules::Rule;
-use audit_text::BriefLine;
-use call_history::Happened;
+use audit_text::HappenedRef;
+use call_history::ConnectionEvent;
 use mrpc_table::{Memory, Table};
 use std::alloc::Global;
 use std::mem::replace;
@@ -26,9 +26,9 @@ use std::mem::replace;
 #[derive(Drop)]
 pub(crate) enum Stage {
     // All events are legal so far, and no line of a pending call was read.
-    Happening(Connections),
+    Events(Checkers),
     // The history is legal, and the lines after it can be the first ones of its pending calls.
-    Standing(Row),
+    Listing(PendingListing),
     // The lines are illegal.
     Illegal(Illegal),
 }
@@ -42,11 +42,11 @@ pub(crate) struct Illegal {
 
 impl Stage {
     // Applies an event, on a line. The checkers are updated in place.
-    pub(crate) fn happen(
+    pub(crate) fn apply_event(
         &mut self,
         alloc: Global,
         table: &Table,
-        next: Happened,
+        next: ConnectionEvent,
         line: u64,
     ) -> Result<(), Memory>
         requires valid { IsValid table.now }
@@ -57,40 +57,40 @@ impl Stage {
             → OnOk result (IsStage table.now limit (h ++ next ∷ []) [] self.new) }
     {
         match self {
-            Stage::Happening(connections) => match connections.check(alloc, table, next)? {
+            Stage::Events(connections) => match connections.check(alloc, table, next)? {
                 None => Ok(()),
                 Some(rule) => {
                     self.break_at(Illegal { line, rule });
                     Ok(())
                 }
             },
-            Stage::Standing(_) | Stage::Illegal(_) => Ok(()),
+            Stage::Listing(_) | Stage::Illegal(_) => Ok(()),
         }
     }
 
     // Like `happen`, for a note or a send as its line has it.
-    pub(crate) fn note(
+    pub(crate) fn apply_call_event(
         &mut self,
         alloc: Global,
         table: &Table,
-        next: BriefLine<'_>,
+        next: HappenedRef<'_>,
         line: u64,
     ) -> Result<(), Memory>
         requires valid { IsValid table.now }
         requires known { (limit : ℕ) × (h : History) × IsStage table.now limit h [] self.old
             × (line ≡ length h + 1) × (line + 2 < 2 ^ 32) }
         ensures { (limit : ℕ) (h : History) → IsStage table.now limit h [] self.old → line ≡ length h + 1
-            → OnOk result (IsStage table.now limit (h ++ told_in next.entry ∷ []) [] self.new) }
+            → OnOk result (IsStage table.now limit (h ++ connection_event_of_ref next.entry ∷ []) [] self.new) }
     {
         match self {
-            Stage::Happening(connections) => match connections.check_brief(alloc, table, next)? {
+            Stage::Events(connections) => match connections.check_ref(alloc, table, next)? {
                 None => Ok(()),
                 Some(rule) => {
                     self.break_at(Illegal { line, rule });
                     Ok(())
                 }
             },
-            Stage::Standing(_) | Stage::Illegal(_) => Ok(()),
+            Stage::Listing(_) | Stage::Illegal(_) => Ok(()),
         }
     }
 
@@ -103,16 +103,16 @@ impl Stage {
     }
 
     // No events follow, from this line on.
-    fn row(self, line: u64) -> Result<Result<Row, Illegal>, Memory>
+    fn listing(self, line: u64) -> Result<Result<PendingListing, Illegal>, Memory>
         requires known { (T : Table) × (limit : ℕ) × (h : History) × (told : List StandsLine)
             × IsStage T limit h told self }
         ensures { (T : Table) (limit : ℕ) (h : History) (told : List StandsLine) → IsStage T limit h told self
             → (told ≡ [] → line ≡ length h + 1) → IfOk result (λ r. MatchResult r
-            (λ row. IsLegal T limit h × IsRow T limit h told row) (IsIllegalAt T limit h told)) }
+            (λ row. IsLegal T limit h × IsListing T limit h told row) (IsIllegalAt T limit h told)) }
     {
         match self {
-            Stage::Happening(connections) => first_row(connections, line),
-            Stage::Standing(row) => Ok(Ok(row)),
+            Stage::Events(connections) => first_listing(connections, line),
+            Stage::Listing(row) => Ok(Ok(row)),
             Stage::Illegal(illegal) => Ok(Err(illegal)),
         }
     }
@@ -120,32 +120,37 @@ impl Stage {
     // Applies the line of a pending call. During the call the stage counts as illegal, so that an error leaves a
     // defined state.
     #[inline(never)]
-    pub(crate) fn stand(&mut self, table: &Table, told: Told, line: u64) -> Result<(), Memory>
+    pub(crate) fn apply_pending_line(
+        &mut self,
+        table: &Table,
+        told: PendingLine,
+        line: u64,
+    ) -> Result<(), Memory>
         requires valid { IsValid table.now }
         requires known { (limit : ℕ) × (h : History) × (before : List StandsLine)
             × IsStage table.now limit h before self.old × (line ≡ length h + length before + 1) }
         ensures { (limit : ℕ) (h : History) (before : List StandsLine) → IsStage table.now limit h before self.old
             → line ≡ length h + length before + 1
-            → OnOk result (IsStage table.now limit h (before ++ tells told ∷ []) self.new) }
+            → OnOk result (IsStage table.now limit h (before ++ stands_line_of told ∷ []) self.new) }
     {
         let rule = Rule::Stands;
         let stage = replace(self, Stage::Illegal(Illegal { line, rule }));
-        *self = stage.tell(table, told, line)?;
+        *self = stage.list_next(table, told, line)?;
         Ok(())
     }
 
     // The judgement after one more line, of a pending call.
-    fn tell(self, table: &Table, told: Told, line: u64) -> Result<Stage, Memory>
+    fn list_next(self, table: &Table, told: PendingLine, line: u64) -> Result<Stage, Memory>
         requires valid { IsValid table.now }
         requires known { (limit : ℕ) × (h : History) × (before : List StandsLine)
             × IsStage table.now limit h before self × (line ≡ length h + length before + 1) }
         ensures { (limit : ℕ) (h : History) (before : List StandsLine) → IsStage table.now limit h before self
             → line ≡ length h + length before + 1
-            → IfOk result (IsStage table.now limit h (before ++ tells told ∷ [])) }
+            → IfOk result (IsStage table.now limit h (before ++ stands_line_of told ∷ [])) }
     {
-        match self.row(line)? {
-            Ok(row) => match row.tell(table, told) {
-                Some(row) => Ok(Stage::Standing(row)),
+        match self.listing(line)? {
+            Ok(row) => match row.list_next(table, told) {
+                Some(row) => Ok(Stage::Listing(row)),
                 None => Ok(Stage::Illegal(Illegal {
                     line,
                     rule: Rule::Stands,
@@ -161,37 +166,41 @@ impl Stage {
         requires known { (T : Table) × (limit : ℕ) × (h : History) × (told : List StandsLine)
             × IsStage T limit h told self }
         ensures { (T : Table) (limit : ℕ) (h : History) (told : List StandsLine) → IsStage T limit h told self
-            → happenings ≡ length h → stands ≡ length told → IfOk result (IsJudged T limit h told) }
+            → happenings ≡ length h → stands ≡ length told → IfOk result (IsCheckOfHistory T limit h told) }
     {
         let line = happenings + stands + 1;
-        match self.row(line)? {
-            Ok(row) => Ok(whole(row, happenings, stands)),
+        match self.listing(line)? {
+            Ok(row) => Ok(legal_result(row, happenings, stands)),
             Err(Illegal { line, rule }) => Ok(Checked::Illegal { line, rule }),
         }
     }
 }
 
 // The pending calls, if all events are legal and there is no obligation.
-fn first_row(connections: Connections, line: u64) -> Result<Result<Row, Illegal>, Memory>
+fn first_listing(
+    connections: Checkers,
+    line: u64,
+) -> Result<Result<PendingListing, Illegal>, Memory>
     requires { length connections.near.items ≤ NEAR }
-    ensures { (T : Table) (limit : ℕ) (h : History) (told : List StandsLine) → IsHappening T limit h told connections
+    ensures { (T : Table) (limit : ℕ) (h : History) (told : List StandsLine) → IsEventStage T limit h told connections
         → (told ≡ [] → line ≡ length h + 1) → IfOk result (λ r. MatchResult r
-        (λ row. IsLegal T limit h × IsRow T limit h told row) (IsIllegalAt T limit h told)) }
+        (λ row. IsLegal T limit h × IsListing T limit h told row) (IsIllegalAt T limit h told)) }
 {
     let checkers = connections.gather()?;
-    match left_open(&checkers) {
-        None => Ok(Ok(Row::new(checkers))),
+    match first_obligation(&checkers) {
+        None => Ok(Ok(PendingListing::new(checkers))),
         Some(rule) => Ok(Err(Illegal { line, rule })),
     }
 }
 
 // The result of a legal history with this many lines of pending calls after it.
-fn whole(row: Row, happenings: u64, stands: u64) -> Checked
+fn legal_result(row: PendingListing, happenings: u64, stands: u64) -> Checked
     requires { happenings + stands + 1 < 2 ^ 64 }
     ensures { (T : Table) (limit : ℕ) (h : History) (told : List StandsLine) → IsLegal T limit h
-        → IsRow T limit h told row → happenings ≡ length h → stands ≡ length told → IsJudged T limit h told result }
+        → IsListing T limit h told row → happenings ≡ length h → stands ≡ length told
+        → IsCheckOfHistory T limit h told result }
 {
-    if row.is_whole() || stands == 0 {
+    if row.has_listed_all() || stands == 0 {
         Checked::Legal { happenings, stands }
     } else {
         Checked::Illegal {

@@ -13,13 +13,13 @@ use Rattle.std.proofs.lemmas.Option.{slice_get-get_or}
 use Rattle.std.proofs.lemmas.Slice.Eq.{bytes_eq-Decides}
 use Rattle.mrpc_table.specs.Valid.{AreDistinct}
 use Rattle.engine_core.specs.Chains.{Chain, Entry, is_named, names_of}
-use Rattle.engine_core.specs.Engines.{EngineParts, chain_of}
-use Rattle.engine_core.specs.Marks.{StandingCall, seqs_of}
-use Rattle.engine_core.specs.Moves.{place_of}
-use Rattle.call_history.specs.Behind.{Behind, chain, standing}
-use Rattle.call_history.specs.Rules.{IsAt, Lets, Under}
+use Rattle.engine_core.specs.Engines.{EngineParts, chain_of_engines}
+use Rattle.engine_core.specs.Marks.{PendingCall, seqs_of}
+use Rattle.engine_core.specs.Moves.{position_of}
+use Rattle.call_history.specs.Trace.{Trace, chain, pending_calls}
+use Rattle.call_history.specs.Rules.{IsAt, IsAllowedInTrace, JudgeContext}
 use Rattle.call_history.specs.Ties.{AreNumbersApart, IsNumberApart}
-use Rattle.audit_rules.specs.Asking.{IsRising, LetsAll}
+use Rattle.audit_rules.specs.Asking.{IsRising, HasPassedFirst}
 use Rattle.audit_rules.proofs.Asked.{map-at}
 
 -- ---- names
@@ -34,9 +34,9 @@ one-more : (b : Bool) (n : ℕ) → (if b then 0 else n + 1) ≡ cond b 0 (1 + n
 one-more true n = refl
 one-more false n = omega arith
 
-place-len : (name : List ℕ) (es : List EngineParts) → place_of name (map (λ e. e.entry) es) ≡ position_or_len (λ e. is_named name e.entry) es
-place-len name es = is_position_or_len (λ (es : List EngineParts). place_of name (map (λ e. e.entry) es)) (λ (e : EngineParts). is_named name e.entry) refl
-    (λ x xs. one-more (is_named name x.entry) (place_of name (map (λ e. e.entry) xs))) es
+place-len : (name : List ℕ) (es : List EngineParts) → position_of name (map (λ e. e.entry) es) ≡ position_or_len (λ e. is_named name e.entry) es
+place-len name es = is_position_or_len (λ (es : List EngineParts). position_of name (map (λ e. e.entry) es)) (λ (e : EngineParts). is_named name e.entry) refl
+    (λ x xs. one-more (is_named name x.entry) (position_of name (map (λ e. e.entry) xs))) es
 
 no-first : (b : Bool) (n : ℕ) → cond b (Some n) None ≡ None → b ≡ false
 no-first true n is = absurd cc
@@ -50,11 +50,11 @@ less-then true n m less = omega arith
 less-then false n m less = omega arith
 
 place-within : (name : List ℕ) (es : List EngineParts) (j : ℕ) → j < length (names_of (map (λ e. e.entry) es))
-    → get_or (names_of (map (λ e. e.entry) es)) j name ≡ name → place_of name (map (λ e. e.entry) es) < length es
+    → get_or (names_of (map (λ e. e.entry) es)) j name ≡ name → position_of name (map (λ e. e.entry) es) < length es
 place-within name [] j inside same = absurd (omega arith)
 place-within name (x ∷ xs) zero inside same = let mine = named-is name x.entry same in rw mine (omega arith)
 place-within name (x ∷ xs) (suc j) inside same =
-    less-then (is_named name x.entry) (place_of name (map (λ e. e.entry) xs)) (length xs) (place-within name xs j (omega arith) same)
+    less-then (is_named name x.entry) (position_of name (map (λ e. e.entry) xs)) (length xs) (place-within name xs j (omega arith) same)
 
 -- the engine of a name is at an index
 pub record IsFound (name : List ℕ) (place : ℕ) (es : List EngineParts) : Type 0 where
@@ -121,25 +121,25 @@ contains-seq [] j n is = absurd cc
 contains-seq (m ∷ ns) zero n is = (0, omega arith, cc)
 contains-seq (m ∷ ns) (suc j) n is = let rest = contains-seq ns j n is in (suc rest.0, omega (arith, rest.1), rest.2)
 
-module _ (u : Under) (past : Behind) (es : List EngineParts) (n : ℕ) (calls : List StandingCall) (same : chain_of es n ≡ chain past)
-    (apart : AreDistinct (names_of (chain past).entries)) (stands : seqs_of calls ≡ map (λ call. call.seq) (standing past)) where
+module _ (u : JudgeContext) (past : Trace) (es : List EngineParts) (n : ℕ) (calls : List PendingCall) (same : chain_of_engines es n ≡ chain past)
+    (apart : AreDistinct (names_of (chain past).entries)) (stands : seqs_of calls ≡ map (λ call. call.seq) (pending_calls past)) where
   entries : map (λ e. e.entry) es ≡ (chain past).entries
   entries = ap (λ (c : Chain). c.entries) same
 
   -- it is there if all entries before let it pass
   pub is-at : (name : List ℕ) (seq j p : ℕ) (e : EngineParts) → slice_get (seqs_of calls) j ≡ Some seq → slice_get es p ≡ Some e → e.entry.name ≡ name
-      → LetsAll u past seq p → IsAt u past seq name e.entry
+      → HasPassedFirst u past seq p → IsAt u past seq name e.entry
   is-at name seq j p e there is named lets = record {
     front = take p (chain past).entries;
     back = drop (suc p) (chain past).entries;
     entries = split-at (chain past).entries p e.entry (subst (λ (xs : List Entry). slice_get xs p ≡ Some e.entry) entries (map-at (λ (e : EngineParts). e.entry) es p e is));
     named = named;
-    call_stands = subst (λ (ns : List ℕ). Contains ns seq) stands (contains-seq (seqs_of calls) j seq there);
-    let_pass = lets;
+    is_pending = subst (λ (ns : List ℕ). Contains ns seq) stands (contains-seq (seqs_of calls) j seq there);
+    allowed = lets;
   }
 
   pub not-standing : (name : List ℕ) (seq : ℕ) (e : Entry) → (Contains (seqs_of calls) seq → ⊥) → IsAt u past seq name e → ⊥
-  not-standing name seq e none at = none (subst (λ (ns : List ℕ). Contains ns seq) (sym stands) at.call_stands)
+  not-standing name seq e none at = none (subst (λ (ns : List ℕ). Contains ns seq) (sym stands) at.is_pending)
 
   pub not-named : (name : List ℕ) (seq : ℕ) (e : Entry) → position (λ e. is_named name e.entry) es ≡ None → IsAt u past seq name e → ⊥
   not-named name seq e is at = none-found name es is
@@ -158,20 +158,20 @@ module _ (u : Under) (past : Behind) (es : List EngineParts) (n : ℕ) (calls : 
       (split-there at.front at.back x e.entry p (subst (λ (xs : List Entry). AreDistinct (names_of xs)) at.entries apart)
       (subst (λ (xs : List Entry). slice_get xs p ≡ Some e.entry) at.entries there) (named ∙ sym at.named))
 
-  pub not-passed : (name : List ℕ) (seq p : ℕ) (x : Entry) (e : EngineParts) → slice_get es p ≡ Some e → e.entry.name ≡ name → (LetsAll u past seq p → ⊥)
+  pub not-passed : (name : List ℕ) (seq p : ℕ) (x : Entry) (e : EngineParts) → slice_get es p ≡ Some e → e.entry.name ≡ name → (HasPassedFirst u past seq p → ⊥)
       → IsAt u past seq name x → ⊥
   not-passed name seq p x e is named stops at =
       let split = there-split name seq p x e is named at in
-      stops (subst (λ (xs : List Entry). All (Lets u past seq) xs) (sym split.before) at.let_pass)
+      stops (subst (λ (xs : List Entry). All (IsAllowedInTrace u past seq) xs) (sym split.before) at.allowed)
 
 -- ---- numbers that ascend are distinct
 
-rising-above : (below top seq : ℕ) (calls : List StandingCall) → seq ≤ below → IsRising below top (seqs_of calls) → IsNumberApart seq calls
+rising-above : (below top seq : ℕ) (calls : List PendingCall) → seq ≤ below → IsRising below top (seqs_of calls) → IsNumberApart seq calls
 rising-above below top seq [] le rising = All-nil (λ s. s.call.seq ≢ seq)
 rising-above below top seq (s ∷ calls) le rising = All-cons (λ s. s.call.seq ≢ seq) s calls (λ same. omega (arith, rising.0, same))
     (rising-above s.call.seq top seq calls (omega (arith, rising.0)) rising.2)
 
-pub apart-rising : (below top : ℕ) (calls : List StandingCall) → IsRising below top (seqs_of calls) → AreNumbersApart calls
+pub apart-rising : (below top : ℕ) (calls : List PendingCall) → IsRising below top (seqs_of calls) → AreNumbersApart calls
 apart-rising below top [] rising = tt
 apart-rising below top (s ∷ calls) rising = (rising-above s.call.seq top s.call.seq calls (omega arith) rising.2, apart-rising s.call.seq top calls rising.2)
 

@@ -6,21 +6,21 @@ use Rattle.std.specs.List.{AllZip}
 use Rattle.std.proofs.lemmas.Bool.{eq-eqb, ne_eqb}
 use Rattle.std.proofs.lemmas.List.Elements.{All-cons, All-head, All-nil, All-tail}
 use Rattle.mrpc_table.specs.declared.call.Call.{Call}
-use Rattle.engine_core.specs.Answers.{Past, Answers, pass, allows, denies, was_charged, charges, holds, refuses, is_within, is_over, draws, was_counted, counts, is_clear, redacts}
+use Rattle.engine_core.specs.Answers.{Past, IsEntryAnswer, pass, allows, denies, was_charged, charges, holds, refuses, is_within, is_over, draws, was_counted, counts, is_clear, redacts}
 use Rattle.engine_core.specs.Chains.{Chain, Entry}
 use Rattle.engine_core.specs.Engines.{EngineParts}
 use Rattle.engine_core.specs.declared.policy.Policy.{Policy}
-use Rattle.call_history.specs.Behind.{Behind, chain, form, level, moment, noted, noted_calls}
-use Rattle.call_history.specs.Rules.{Lets, Under}
+use Rattle.call_history.specs.Trace.{Trace, chain, form, level_in_trace, timestamp, noted, noted_calls}
+use Rattle.call_history.specs.Rules.{IsAllowedInTrace, JudgeContext}
 use Rattle.call_history.specs.declared.happening.Happening.{Happening}
-use Rattle.call_history.specs.declared.happening.Taken.{Taken}
-use Rattle.audit_rules.specs.Asking.{IsRising, LetsAll}
-use Rattle.audit_rules.specs.Knowing.{IsLatest, greatest}
+use Rattle.call_history.specs.declared.happening.AcceptedCall.{AcceptedCall}
+use Rattle.audit_rules.specs.Asking.{IsRising, HasPassedFirst}
+use Rattle.audit_rules.specs.CheckerState.{IsLatest, greatest}
 use Rattle.audit_rules.proofs.Numbers.{above, read, within}
 
 -- ---- what lets a call pass
 
-pass-on : (policy : Policy) (l m l' m' : ℕ) (call : Call) (past : Past) → Answers policy l m call past pass → Answers policy l' m' call past pass
+pass-on : (policy : Policy) (l m l' m' : ℕ) (call : Call) (past : Past) → IsEntryAnswer policy l m call past pass → IsEntryAnswer policy l' m' call past pass
 pass-on policy l m l' m' call past (allows p is allow answer) = allows p is allow refl
 pass-on policy l m l' m' call past (denies p is allow answer) = absurd cc
 pass-on policy l m l' m' call past (was_charged r is some answer) = was_charged r is some refl
@@ -35,18 +35,18 @@ pass-on policy l m l' m' call past (counts is none answer) = absurd cc
 pass-on policy l m l' m' call past (is_clear clears is left answer) = is_clear clears is left refl
 pass-on policy l m l' m' call past (redacts clears is other answer) = absurd cc
 
-some-on : (policy : Policy) (l m l' m' : ℕ) (f : Option Call) (past : Past) → IsSomeAnd f (λ call. Answers policy l m call past pass)
-    → IsSomeAnd f (λ call. Answers policy l' m' call past pass)
+some-on : (policy : Policy) (l m l' m' : ℕ) (f : Option Call) (past : Past) → IsSomeAnd f (λ call. IsEntryAnswer policy l m call past pass)
+    → IsSomeAnd f (λ call. IsEntryAnswer policy l' m' call past pass)
 some-on policy l m l' m' None past gives = absurd gives
 some-on policy l m l' m' (Some call) past gives = pass-on policy l m l' m' call past gives
 
 -- an entry lets a call pass that has the same form and the same notes
-pub lets-on : (u : Under) (past past' : Behind) (seq : ℕ) (e : Entry) → form u.conn seq past' ≡ form u.conn seq past
-    → noted e.name seq past' ≡ noted e.name seq past → Lets u past seq e → Lets u past' seq e
+pub lets-on : (u : JudgeContext) (past past' : Trace) (seq : ℕ) (e : Entry) → form u.conn seq past' ≡ form u.conn seq past
+    → noted e.name seq past' ≡ noted e.name seq past → IsAllowedInTrace u past seq e → IsAllowedInTrace u past' seq e
 lets-on u past past' seq e forms notes lets =
-    subst (λ (f : Option Call). IsSomeAnd f (λ call. Answers e.policy (level e.name past') (moment past') call (noted e.name seq past') pass)) (sym forms)
-    (subst (λ (q : Past). IsSomeAnd (form u.conn seq past) (λ call. Answers e.policy (level e.name past') (moment past') call q pass)) (sym notes)
-    (some-on e.policy (level e.name past) (moment past) (level e.name past') (moment past') (form u.conn seq past) (noted e.name seq past) lets))
+    subst (λ (f : Option Call). IsSomeAnd f (λ call. IsEntryAnswer e.policy (level_in_trace e.name past') (timestamp past') call (noted e.name seq past') pass)) (sym forms)
+    (subst (λ (q : Past). IsSomeAnd (form u.conn seq past) (λ call. IsEntryAnswer e.policy (level_in_trace e.name past') (timestamp past') call q pass)) (sym notes)
+    (some-on e.policy (level_in_trace e.name past) (timestamp past) (level_in_trace e.name past') (timestamp past') (form u.conn seq past) (noted e.name seq past) lets))
 
 pub all-on : {X : Type 0} (P Q : X → Type 0) (xs : List X) → ((x : X) → P x → Q x) → All P xs → All Q xs
 all-on P Q [] on all = All-nil Q
@@ -106,7 +106,7 @@ pub rising-push : (below top : ℕ) (ns : List ℕ) → below ≤ top → IsRisi
 rising-push below top [] le rising = (omega arith, omega arith, tt)
 rising-push below top (n ∷ ns) le rising = (rising.0, omega (arith, rising.1), rising-push n top ns rising.1 rising.2)
 
-others-above : (below top seq : ℕ) (calls : List Taken) → seq ≤ below → IsRising below top (map (λ call. call.seq) calls)
+others-above : (below top seq : ℕ) (calls : List AcceptedCall) → seq ≤ below → IsRising below top (map (λ call. call.seq) calls)
     → map (λ call. call.seq) (filter (λ call. not (seq == call.seq)) calls) ≡ map (λ call. call.seq) calls
 others-above below top seq [] le rising = refl
 others-above below top seq (call ∷ calls) le rising =
@@ -117,7 +117,7 @@ others-above below top seq (call ∷ calls) le rising =
     (ne_eqb seq call.seq apart) ∙ ap (λ (ns : List ℕ). call.seq ∷ ns) rest
 
 -- all but the call with a number, by numbers
-pub others-leave : (below top seq place : ℕ) (calls : List Taken) → IsRising below top (map (λ call. call.seq) calls)
+pub others-leave : (below top seq place : ℕ) (calls : List AcceptedCall) → IsRising below top (map (λ call. call.seq) calls)
     → slice_get (map (λ call. call.seq) calls) place ≡ Some seq
     → map (λ call. call.seq) (filter (λ call. not (seq == call.seq)) calls) ≡ remove (map (λ call. call.seq) calls) place
 others-leave below top seq place [] rising there = absurd cc
@@ -147,24 +147,24 @@ all-remove P (x ∷ xs) (suc i) all = All-cons P x (remove xs i) (All-head P x x
 
 -- ---- events that neither note, nor clear, nor change the chain
 
-pub record IsApart (past : Behind) (what : Happening) : Type 0 where
+pub record IsApart (past : Trace) (what : Happening) : Type 0 where
   pub chained : chain (what ∷ past) ≡ chain past
   pub notes : (name : List ℕ) (seq : ℕ) → noted name seq (what ∷ past) ≡ noted name seq past
   pub calls : (name : List ℕ) → noted_calls name (what ∷ past) ≡ noted_calls name past
   pub forms : (conn seq : ℕ) → form conn seq (what ∷ past) ≡ form conn seq past
 
-pub apart-lets : (u : Under) (past : Behind) (what : Happening) → IsApart past what → (seq r : ℕ) → LetsAll u past seq r → LetsAll u (what ∷ past) seq r
+pub apart-lets : (u : JudgeContext) (past : Trace) (what : Happening) → IsApart past what → (seq r : ℕ) → HasPassedFirst u past seq r → HasPassedFirst u (what ∷ past) seq r
 apart-lets u past what apart seq r lets =
-    subst (λ (c : Chain). All (Lets u (what ∷ past) seq) (take r c.entries)) (sym apart.chained)
-    (all-on (Lets u past seq) (Lets u (what ∷ past) seq) (take r (chain past).entries)
+    subst (λ (c : Chain). All (IsAllowedInTrace u (what ∷ past) seq) (take r c.entries)) (sym apart.chained)
+    (all-on (IsAllowedInTrace u past seq) (IsAllowedInTrace u (what ∷ past) seq) (take r (chain past).entries)
     (λ e one. lets-on u past (what ∷ past) seq e (apart.forms u.conn seq) (apart.notes e.name seq) one) lets)
 
-pub apart-latest : (past : Behind) (what : Happening) → IsApart past what → (es : List EngineParts) (ls : List ℕ)
+pub apart-latest : (past : Trace) (what : Happening) → IsApart past what → (es : List EngineParts) (ls : List ℕ)
     → AllZip (IsLatest past) es ls → AllZip (IsLatest (what ∷ past)) es ls
 apart-latest past what apart es ls all = zip-on (IsLatest past) (IsLatest (what ∷ past)) es ls (λ e n is. is ∙ sym (ap (λ (ns : List ℕ). greatest ns) (apart.calls e.entry.name))) all
 
 -- the latest numbers of engines with the same entries
-pub latest-same : (past : Behind) (es es' : List EngineParts) (ls : List ℕ)
+pub latest-same : (past : Trace) (es es' : List EngineParts) (ls : List ℕ)
     → map (λ e. e.entry) es' ≡ map (λ e. e.entry) es → AllZip (IsLatest past) es ls → AllZip (IsLatest past) es' ls
 latest-same past [] [] ls same all = all
 latest-same past [] (e' ∷ es') ls same all = absurd cc

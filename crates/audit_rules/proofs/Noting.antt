@@ -20,20 +20,20 @@ use Rattle.engine_core.specs.declared.outcome.Noted.TheVariants as notes
 use Rattle.engine_core.specs.declared.outcome.Outcome.{Outcome}
 use Rattle.engine_core.specs.declared.outcome.Outcome.TheVariants as outcomes
 use Rattle.engine_core.specs.declared.outcome.Why.{Why}
-use Rattle.call_history.specs.Behind.{Behind, chain, form, has_failed, moment, noted, standing, taken}
-use Rattle.call_history.specs.Events.{note_behind}
-use Rattle.call_history.specs.Rules.{Gives, Lets, May, Under, cap_of}
+use Rattle.call_history.specs.Trace.{Trace, chain, form, has_failed, timestamp, noted, pending_calls, taken}
+use Rattle.call_history.specs.Transitions.{with_note}
+use Rattle.call_history.specs.Rules.{IsAnswerInTrace, IsAllowedInTrace, CanFollow, JudgeContext, cap_of}
 use Rattle.call_history.specs.Ties.{AreTied, worked}
 use Rattle.call_history.specs.declared.happening.Happening.{Happening}
 use Rattle.call_history.specs.declared.happening.Happening.TheVariants.{Charged, Counted, Drawn, Redacted, Refused}
 use Rattle.call_history.specs.declared.happening.Cause.{Cause}
 use Rattle.engine_core.specs.Marks.{seqs_of}
-use Rattle.audit_rules.specs.Asking.{IsAsked, IsRising, LetsAll}
-use Rattle.audit_rules.specs.Knowing.{HasRoom, IsFree, IsLatest, Knows, LeavesOpen, under}
-use Rattle.audit_rules.specs.declared.ask.Asked.{Asked}
+use Rattle.audit_rules.specs.Asking.{IsEntryOutcome, IsRising, HasPassedFirst}
+use Rattle.audit_rules.specs.CheckerState.{HasRoom, HasNoMalformed, IsLatest, IsCheckerAfter, IsObligationAfter, checker_context}
+use Rattle.audit_rules.specs.declared.ask.EntryOutcome.{EntryOutcome}
 use Rattle.audit_rules.specs.declared.checker.Checker.{Checker}
-use Rattle.audit_rules.specs.declared.left.Left.{Left}
-use Rattle.audit_rules.specs.declared.left.Left.TheVariants.{Nothing}
+use Rattle.audit_rules.specs.declared.obligation.Obligation.{Obligation}
+use Rattle.audit_rules.specs.declared.obligation.Obligation.TheVariants.{Nothing}
 use Rattle.audit_rules.proofs.Asked.{lets-more}
 use Rattle.audit_rules.proofs.Due.{noted-answer}
 use Rattle.audit_rules.proofs.Entries.{set-there, zip-at, zip-set}
@@ -55,7 +55,7 @@ noted-elsewhere : (p rest : Past) (name other : List ℕ) (seq s : ℕ) → name
 noted-elsewhere p rest name other seq s apart = ap (λ (b : Bool). cond ((seq == s) && b) p rest) (bytes-other name other apart)
     ∙ ap (λ (b : Bool). cond b p rest) (and-false (seq == s))
 
-charged-note : (past : Behind) (name : List ℕ) (seq left : ℕ) → IsNote past name seq (Charged seq name left)
+charged-note : (past : Trace) (name : List ℕ) (seq left : ℕ) → IsNote past name seq (Charged seq name left)
 charged-note past name seq left = record {
   chained = refl;
   another = λ other s apart. noted-another charged (noted other s past) name other seq s apart;
@@ -68,7 +68,7 @@ charged-note past name seq left = record {
   fails = refl;
 }
 
-drawn-note : (past : Behind) (name : List ℕ) (seq window ticket : ℕ) → IsNote past name seq (Drawn seq name window ticket)
+drawn-note : (past : Trace) (name : List ℕ) (seq window ticket : ℕ) → IsNote past name seq (Drawn seq name window ticket)
 drawn-note past name seq window ticket = record {
   chained = refl;
   another = λ other s apart. noted-another (drawn ticket) (noted other s past) name other seq s apart;
@@ -81,7 +81,7 @@ drawn-note past name seq window ticket = record {
   fails = refl;
 }
 
-counted-note : (past : Behind) (name : List ℕ) (seq : ℕ) → IsNote past name seq (Counted seq name)
+counted-note : (past : Trace) (name : List ℕ) (seq : ℕ) → IsNote past name seq (Counted seq name)
 counted-note past name seq = record {
   chained = refl;
   another = λ other s apart. noted-another counted (noted other s past) name other seq s apart;
@@ -94,8 +94,8 @@ counted-note past name seq = record {
   fails = refl;
 }
 
-pub is-note : (past : Behind) (name : List ℕ) (seq : ℕ) (n : Noted) (what : Happening) → n ≢ notes.Nothing
-    → note_behind name seq n past ≡ what ∷ past → IsNote past name seq what
+pub is-note : (past : Trace) (name : List ℕ) (seq : ℕ) (n : Noted) (what : Happening) → n ≢ notes.Nothing
+    → with_note name seq n past ≡ what ∷ past → IsNote past name seq what
 is-note past name seq notes.Nothing what some is = absurd (some refl)
 is-note past name seq (notes.Charged left) what some is = let same : Charged seq name left ≡ what = cc in subst (IsNote past name seq) same (charged-note past name seq left)
 is-note past name seq (notes.Drawn window ticket) what some is = let same : Drawn seq name window ticket ≡ what =
@@ -103,17 +103,17 @@ is-note past name seq (notes.Drawn window ticket) what some is = let same : Draw
 is-note past name seq notes.Counted what some is = let same : Counted seq name ≡ what = cc in subst (IsNote past name seq) same (counted-note past name seq)
 
 -- it is no refusal, and leaves no obligation unless it draws
-pub note-settles : (past : Behind) (name : List ℕ) (seq : ℕ) (n : Noted) (what : Happening) → n ≢ notes.Nothing
-    → ticket_in (note n) ≡ None → note_behind name seq n past ≡ what ∷ past
-    → LeavesOpen (what ∷ past) Nothing
+pub note-settles : (past : Trace) (name : List ℕ) (seq : ℕ) (n : Noted) (what : Happening) → n ≢ notes.Nothing
+    → ticket_in (note n) ≡ None → with_note name seq n past ≡ what ∷ past
+    → IsObligationAfter (what ∷ past) Nothing
 note-settles past name seq notes.Nothing what some none is = absurd (some refl)
 note-settles past name seq (notes.Charged left) what some none is =
-    let same : Charged seq name left ≡ what = cc in subst (λ (w : Happening). LeavesOpen (w ∷ past) Nothing) same (λ none. none, λ none. none)
+    let same : Charged seq name left ≡ what = cc in subst (λ (w : Happening). IsObligationAfter (w ∷ past) Nothing) same (λ none. none, λ none. none)
 note-settles past name seq (notes.Drawn window ticket) what some none is = absurd cc
 note-settles past name seq notes.Counted what some none is =
-    let same : Counted seq name ≡ what = cc in subst (λ (w : Happening). LeavesOpen (w ∷ past) Nothing) same (λ none. none, λ none. none)
+    let same : Counted seq name ≡ what = cc in subst (λ (w : Happening). IsObligationAfter (w ∷ past) Nothing) same (λ none. none, λ none. none)
 
-pub note-other : (past : Behind) (name : List ℕ) (seq : ℕ) (n : Noted) (what : Happening) → n ≢ notes.Nothing → note_behind name seq n past ≡ what ∷ past
+pub note-other : (past : Trace) (name : List ℕ) (seq : ℕ) (n : Noted) (what : Happening) → n ≢ notes.Nothing → with_note name seq n past ≡ what ∷ past
     → (s : ℕ) (why : Cause) → what ≡ Refused s why → ⊥
 note-other past name seq notes.Nothing what some is s why refused = some refl
 note-other past name seq (notes.Charged left) what some is s why refused = cc
@@ -128,7 +128,7 @@ noted-on c c1 c2 first then =
     let left : c2.left ≡ c.left = ap (λ (d : Checker). d.left) then ∙ ap (λ (d : Checker). d.left) first in
     then ∙ (ap (λ (d : Checker). record d { reached = c2.reached }) first
     ∙ (ap (λ v. record c { latest = v; reached = c2.reached }) (sym latest)
-    ∙ ap (λ (l : Left). record c { latest = c2.latest; left = l; reached = c2.reached }) (sym left)))
+    ∙ ap (λ (l : Obligation). record c { latest = c2.latest; left = l; reached = c2.reached }) (sym left)))
 
 pub settled-on : (c c1 c2 : Checker) → c1 ≡ record c { latest = c1.latest } → c2 ≡ record c1 { left = c2.left; reached = c2.reached }
     → c2 ≡ record c { latest = c2.latest; left = c2.left; reached = c2.reached }
@@ -139,8 +139,8 @@ settled-on c c1 c2 first then =
 
 -- ---- what is known after a turn
 
-module _ (T : Table) (past : Behind) (c c1 : Checker) (seq : ℕ) (name : List ℕ) (a : Asked) (knows : Knows T past c) (free : IsFree c.left)
-    (asked : IsAsked (under T c) past c.attached seq name a c.calls c1.engines.items c1.calls c1.reached.items)
+module _ (T : Table) (past : Trace) (c c1 : Checker) (seq : ℕ) (name : List ℕ) (a : EntryOutcome) (knows : IsCheckerAfter T past c) (free : HasNoMalformed c.left)
+    (asked : IsEntryOutcome (checker_context T c) past c.attached seq name a c.calls c1.engines.items c1.calls c1.reached.items)
     (same : c1 ≡ record c { engines = c1.engines; calls = c1.calls; reached = c1.reached }) (room : HasRoom c1) (numbers : seqs_of c1.calls ≡ seqs_of c.calls)
     (entries : map (λ e. e.entry) c1.engines.items ≡ map (λ e. e.entry) c.engines.items) (of_table : All (λ s. IsCallOf T s.call) c1.calls)
     (distinct : AreDistinct (names_of (chain past).entries)) where
@@ -163,58 +163,58 @@ module _ (T : Table) (past : Behind) (c c1 : Checker) (seq : ℕ) (name : List �
   pub there1 : slice_get (seqs_of c1.calls) a.place ≡ Some seq
   there1 = subst (λ (ns : List ℕ). slice_get ns a.place ≡ Some seq) (sym numbers) asked.place
 
-  lets1 : LetsAll (under T c) past seq a.at
-  lets1 = subst (LetsAll (under T c) past seq) (get_or_from_slice_get c1.reached.items a.place a.at a.at asked.reached_it)
-      (zip-at (LetsAll (under T c) past) (seqs_of c1.calls) c1.reached.items a.place seq a.at asked.reaches there1)
+  lets1 : HasPassedFirst (checker_context T c) past seq a.at
+  lets1 = subst (HasPassedFirst (checker_context T c) past seq) (get_or_from_slice_get c1.reached.items a.place a.at a.at asked.reached_it)
+      (zip-at (HasPassedFirst (checker_context T c) past) (seqs_of c1.calls) c1.reached.items a.place seq a.at asked.reaches there1)
 
   -- nothing was noted or cleared
-  pub knows-asked : (why : Why) → a.outcome ≡ outcomes.Refused notes.Nothing why → Knows T past c1
-  knows-asked why is = knows-worked T past past c c1 knows free (subst IsFree (sym same-left) free)
+  pub knows-asked : (why : Why) → a.outcome ≡ outcomes.Refused notes.Nothing why → IsCheckerAfter T past c1
+  knows-asked why is = knows-worked T past past c c1 knows free (subst HasNoMalformed (sym same-left) free)
       (same ∙ ap (λ (d : Checker). record c { engines = c1.engines; latest = d.latest; calls = c1.calls; reached = c1.reached; left = d.left }) (sym same))
       knows.row.prefix (subst (λ (o : Outcome). AreTied c.conn (worked asked.entry seq o past) c1.engines.items c.attached c1.calls) is asked.ties)
-      asked.reaches refl numbers refl refl latest1 refl (subst (LeavesOpen past) (sym same-left) knows.left) of_table (omega arith) entries room
+      asked.reaches refl numbers refl refl latest1 refl (subst (IsObligationAfter past) (sym same-left) knows.left) of_table (omega arith) entries room
 
-  module _ (c' : Checker) (what : Happening) (may : May (under T c) past what) where
+  module _ (c' : Checker) (what : Happening) (may : CanFollow (checker_context T c) past what) where
     -- a note preserves the entries that the calls are known to pass
-    pub reaches-noted : (n : Noted) → n ≢ notes.Nothing → note_behind name seq n past ≡ what ∷ past
-        → AllZip (LetsAll (under T c) (what ∷ past)) (seqs_of c1.calls) c1.reached.items
-    reaches-noted n some is = note-reaches (under T c) past name seq what (is-note past name seq n what some is) 0 c.taken a.place a.at asked.entry
+    pub reaches-noted : (n : Noted) → n ≢ notes.Nothing → with_note name seq n past ≡ what ∷ past
+        → AllZip (HasPassedFirst (checker_context T c) (what ∷ past)) (seqs_of c1.calls) c1.reached.items
+    reaches-noted n some is = note-reaches (checker_context T c) past name seq what (is-note past name seq n what some is) 0 c.taken a.place a.at asked.entry
         (seqs_of c1.calls) c1.reached.items rising1 distinct asked.is_entry asked.is_at.named there1 asked.reached_it lets1 asked.reaches
 
     -- and the entry lets the call pass
-    pub reaches-passed : (n : Noted) → noted_in a.outcome ≡ n → n ≢ notes.Nothing → note_behind name seq n past ≡ what ∷ past → IsBelow asked.entry.policy n
-        → AllZip (LetsAll (under T c) (what ∷ past)) (seqs_of c1.calls) (set c1.reached.items a.place (a.at + 1))
+    pub reaches-passed : (n : Noted) → noted_in a.outcome ≡ n → n ≢ notes.Nothing → with_note name seq n past ≡ what ∷ past → IsBelow asked.entry.policy n
+        → AllZip (HasPassedFirst (checker_context T c) (what ∷ past)) (seqs_of c1.calls) (set c1.reached.items a.place (a.at + 1))
     reaches-passed n noted some is below =
-        let u : Under = under T c in
+        let u : JudgeContext = checker_context T c in
         let to : IsNote past name seq what = is-note past name seq n what some is in
-        let gives : Gives u past asked.entry seq (note n) =
-        subst (λ (answer : Answer). Gives u past asked.entry seq answer) (noted-answer a.outcome n noted some) asked.gives in
-        let own : Lets u (what ∷ past) seq asked.entry =
-        lets-noted u past seq n what asked.entry some (ap (λ (m : List ℕ). note_behind m seq n past) asked.is_at.named ∙ is) (to.forms u.conn seq) gives below in
-        let before : LetsAll u (what ∷ past) seq a.at =
+        let gives : IsAnswerInTrace u past asked.entry seq (note n) =
+        subst (λ (answer : Answer). IsAnswerInTrace u past asked.entry seq answer) (noted-answer a.outcome n noted some) asked.gives in
+        let own : IsAllowedInTrace u (what ∷ past) seq asked.entry =
+        lets-noted u past seq n what asked.entry some (ap (λ (m : List ℕ). with_note m seq n past) asked.is_at.named ∙ is) (to.forms u.conn seq) gives below in
+        let before : HasPassedFirst u (what ∷ past) seq a.at =
         own-lets u past name seq what to a.at asked.entry distinct asked.is_entry asked.is_at.named lets1 in
         let there : slice_get (chain (what ∷ past)).entries a.at ≡ Some asked.entry =
         subst (λ (x : Chain). slice_get x.entries a.at ≡ Some asked.entry) (sym to.chained) asked.is_entry in
-        let further : LetsAll u (what ∷ past) seq (a.at + 1) =
+        let further : HasPassedFirst u (what ∷ past) seq (a.at + 1) =
         let one_more : suc a.at ≡ a.at + 1 = omega arith in
-        subst (λ (k : ℕ). LetsAll u (what ∷ past) seq k) one_more
-        (lets-more (Lets u (what ∷ past) seq) (chain (what ∷ past)).entries a.at asked.entry there own before) in
-        zip-set (LetsAll u (what ∷ past)) (seqs_of c1.calls) c1.reached.items a.place seq (a.at + 1) (reaches-noted n some is) there1 further
+        subst (λ (k : ℕ). HasPassedFirst u (what ∷ past) seq k) one_more
+        (lets-more (IsAllowedInTrace u (what ∷ past) seq) (chain (what ∷ past)).entries a.at asked.entry there own before) in
+        zip-set (HasPassedFirst u (what ∷ past)) (seqs_of c1.calls) c1.reached.items a.place seq (a.at + 1) (reaches-noted n some is) there1 further
 
     -- by the state after a ticket
     pub reaches-settled : (window ticket : ℕ) (engine : EngineParts) (reached' : List ℕ) → engine.entry ≡ asked.entry
-        → noted_in a.outcome ≡ notes.Drawn window ticket → note_behind name seq (notes.Drawn window ticket) past ≡ what ∷ past
+        → noted_in a.outcome ≡ notes.Drawn window ticket → with_note name seq (notes.Drawn window ticket) past ≡ what ∷ past
         → (reached' ≡ c1.reached.items) ⊎ ((reached' ≡ set c1.reached.items a.place (a.at + 1))
         × ((cap : ℕ) → cap_of engine.entry.policy ≡ Some cap → ticket < cap))
-        → AllZip (LetsAll (under T c) (what ∷ past)) (seqs_of c1.calls) reached'
+        → AllZip (HasPassedFirst (checker_context T c) (what ∷ past)) (seqs_of c1.calls) reached'
     reaches-settled window ticket engine reached' same_entry noted is (inl same) =
-        subst (λ (rs : List ℕ). AllZip (LetsAll (under T c) (what ∷ past)) (seqs_of c1.calls) rs) (sym same)
+        subst (λ (rs : List ℕ). AllZip (HasPassedFirst (checker_context T c) (what ∷ past)) (seqs_of c1.calls) rs) (sym same)
         (reaches-noted (notes.Drawn window ticket) (λ is. cc) is)
     reaches-settled window ticket engine reached' same_entry noted is (inr further) =
         let below : IsBelow asked.entry.policy (notes.Drawn window ticket) = λ w t cap told quota.
         (let same : ticket ≡ t = cc in
         rw (sym same) (further.1 cap (ap (λ (e : Entry). cap_of e.policy) same_entry ∙ quota))) in
-        subst (λ (rs : List ℕ). AllZip (LetsAll (under T c) (what ∷ past)) (seqs_of c1.calls) rs) (sym further.0)
+        subst (λ (rs : List ℕ). AllZip (HasPassedFirst (checker_context T c) (what ∷ past)) (seqs_of c1.calls) rs) (sym further.0)
         (reaches-passed (notes.Drawn window ticket) noted (λ is. cc) is below)
 
     noted-to : Checker
@@ -223,20 +223,20 @@ module _ (T : Table) (past : Behind) (c c1 : Checker) (seq : ℕ) (name : List �
     -- something was noted
     pub knows-noted : (n : Noted) → c' ≡ record c1 { latest = c'.latest; left = c'.left; reached = c'.reached }
         → c'.latest.items ≡ set c1.latest.items a.at seq → vec_capacity c'.latest ≡ vec_capacity c1.latest → get_or c1.latest.items a.at 0 < seq
-        → AllZip (LetsAll (under T c) (what ∷ past)) (seqs_of c1.calls) c'.reached.items → deque_capacity c'.reached ≡ deque_capacity c1.reached
-        → noted_in a.outcome ≡ n → n ≢ notes.Nothing → note_behind name seq n past ≡ what ∷ past → LeavesOpen (what ∷ past) c'.left → IsFree c'.left
-        → Knows T (what ∷ past) c'
+        → AllZip (HasPassedFirst (checker_context T c) (what ∷ past)) (seqs_of c1.calls) c'.reached.items → deque_capacity c'.reached ≡ deque_capacity c1.reached
+        → noted_in a.outcome ≡ n → n ≢ notes.Nothing → with_note name seq n past ≡ what ∷ past → IsObligationAfter (what ∷ past) c'.left → HasNoMalformed c'.left
+        → IsCheckerAfter T (what ∷ past) c'
     unfolding noted-to
     knows-noted n rest latest capacity less reaches places noted some is left free' =
         let to_note : IsNote past name seq what = is-note past name seq n what some is in
         let behind : worked asked.entry seq a.outcome past ≡ what ∷ past =
-        note-worked asked.entry seq a.outcome past n noted some ∙ (ap (λ (m : List ℕ). note_behind m seq n past) asked.is_at.named ∙ is) in
-        let to : Knows T (what ∷ past) noted-to = knows-worked T past (what ∷ past) c noted-to knows free free'
+        note-worked asked.entry seq a.outcome past n noted some ∙ (ap (λ (m : List ℕ). with_note m seq n past) asked.is_at.named ∙ is) in
+        let to : IsCheckerAfter T (what ∷ past) noted-to = knows-worked T past (what ∷ past) c noted-to knows free free'
         (ap (λ (d : Checker). record d { latest = c'.latest; left = c'.left; reached = c'.reached }) same)
-        (knows.row.prefix, may) (subst (λ (p : Behind). AreTied c.conn p c1.engines.items c.attached c1.calls) behind asked.ties)
+        (knows.row.prefix, may) (subst (λ (p : Trace). AreTied c.conn p c1.engines.items c.attached c1.calls) behind asked.ties)
         reaches to_note.same_moment numbers to_note.stands to_note.same_taken
         (subst (λ (ls : List ℕ). AllZip (IsLatest (what ∷ past)) c1.engines.items ls) (sym latest)
-        (note-latest (under T c) past name seq what to_note c1.engines.items c1.latest.items a.at asked.entry (subst (λ (es : List Entry). AreDistinct (names_of es)) (sym chained) distinct)
+        (note-latest (checker_context T c) past name seq what to_note c1.engines.items c1.latest.items a.at asked.entry (subst (λ (es : List Entry). AreDistinct (names_of es)) (sym chained) distinct)
         (subst (λ (es : List Entry). slice_get es a.at ≡ Some asked.entry) (sym chained) asked.is_entry) asked.is_at.named less latest1))
         to_note.fails left of_table (omega arith) entries
         (record {
@@ -245,34 +245,34 @@ module _ (T : Table) (past : Behind) (c c1 : Checker) (seq : ℕ) (name : List �
           latest = omega (arith, room.latest, capacity);
           calls = omega (arith, room.calls, places);
         }) in
-        subst (λ (d : Checker). Knows T (what ∷ past) d) (sym rest) to
+        subst (λ (d : Checker). IsCheckerAfter T (what ∷ past) d) (sym rest) to
 
     cleared-to : Checker
     cleared-to = record c1 { reached = c'.reached }
 
     -- fields were cleared, and the call starts again at the first entry
-    pub knows-cleared : (version : ℕ) → ((conn seq s version : ℕ) (name : List ℕ) (past : Behind) → seq ≢ s
+    pub knows-cleared : (version : ℕ) → ((conn seq s version : ℕ) (name : List ℕ) (past : Trace) → seq ≢ s
         → form conn s (Redacted seq name version ∷ past) ≡ form conn s past)
         → what ≡ Redacted seq name version → c' ≡ record c1 { reached = c'.reached } → c'.reached.items ≡ set c1.reached.items a.place 0
         → deque_capacity c'.reached ≡ deque_capacity c1.reached → a.outcome ≡ outcomes.Redacted → asked.entry.version ≡ version
-        → LeavesOpen (what ∷ past) c1.left → Knows T (what ∷ past) c'
+        → IsObligationAfter (what ∷ past) c1.left → IsCheckerAfter T (what ∷ past) c'
     unfolding cleared-to
     knows-cleared version law is rest reached capacity redacted present left =
-        let u : Under = under T c in
+        let u : JudgeContext = checker_context T c in
         let behind : worked asked.entry seq a.outcome past ≡ what ∷ past =
         ap (λ (o : Outcome). worked asked.entry seq o past) redacted ∙ (ap (λ (m : List ℕ). Redacted seq m asked.entry.version ∷ past) asked.is_at.named
         ∙ (ap (λ (v : ℕ). Redacted seq name v ∷ past) present ∙ ap (λ (w : Happening). w ∷ past) (sym is))) in
-        let zero : AllZip (LetsAll u past) (seqs_of c1.calls) (set c1.reached.items a.place 0) =
-        zip-set (LetsAll u past) (seqs_of c1.calls) c1.reached.items a.place seq 0 asked.reaches there1 (All-nil (Lets u past seq)) in
-        let other : (s r : ℕ) → s ≢ seq → LetsAll u past s r → LetsAll u (Redacted seq name version ∷ past) s r = λ s r apart lets.
-        all-on (Lets u past s) (Lets u (Redacted seq name version ∷ past) s) (take r (chain past).entries)
+        let zero : AllZip (HasPassedFirst u past) (seqs_of c1.calls) (set c1.reached.items a.place 0) =
+        zip-set (HasPassedFirst u past) (seqs_of c1.calls) c1.reached.items a.place seq 0 asked.reaches there1 (All-nil (IsAllowedInTrace u past seq)) in
+        let other : (s r : ℕ) → s ≢ seq → HasPassedFirst u past s r → HasPassedFirst u (Redacted seq name version ∷ past) s r = λ s r apart lets.
+        all-on (IsAllowedInTrace u past s) (IsAllowedInTrace u (Redacted seq name version ∷ past) s) (take r (chain past).entries)
         (λ e one. lets-on u past (Redacted seq name version ∷ past) s e (law c.conn seq s version name past (λ equal. apart (sym equal))) refl one) lets in
-        let again : AllZip (LetsAll u (Redacted seq name version ∷ past)) (seqs_of c1.calls) (set c1.reached.items a.place 0) =
-        zip-except (LetsAll u past) (LetsAll u (Redacted seq name version ∷ past)) 0 c.taken seq 0 a.place (seqs_of c1.calls) (set c1.reached.items a.place 0) rising1 there1
+        let again : AllZip (HasPassedFirst u (Redacted seq name version ∷ past)) (seqs_of c1.calls) (set c1.reached.items a.place 0) =
+        zip-except (HasPassedFirst u past) (HasPassedFirst u (Redacted seq name version ∷ past)) 0 c.taken seq 0 a.place (seqs_of c1.calls) (set c1.reached.items a.place 0) rising1 there1
         (set-there c1.reached.items a.place 0
         (asked-reached T past c seq name a c1.engines.items c1.calls c1.reached.items asked))
-        (All-nil (Lets u (Redacted seq name version ∷ past) seq)) other zero in
-        let to : Knows T (what ∷ past) cleared-to = knows-worked T past (what ∷ past) c cleared-to knows free (subst IsFree (sym same-left) free)
+        (All-nil (IsAllowedInTrace u (Redacted seq name version ∷ past) seq)) other zero in
+        let to : IsCheckerAfter T (what ∷ past) cleared-to = knows-worked T past (what ∷ past) c cleared-to knows free (subst HasNoMalformed (sym same-left) free)
         (ap (λ (d : Checker). record d { reached = c'.reached }) same
         ∙ ap (λ (d : Checker). record c {
           engines = c1.engines;
@@ -281,11 +281,11 @@ module _ (T : Table) (past : Behind) (c c1 : Checker) (seq : ℕ) (name : List �
           reached = c'.reached;
           left = d.left;
         }) (sym same))
-        (knows.row.prefix, may) (subst (λ (p : Behind). AreTied c.conn p c1.engines.items c.attached c1.calls) behind asked.ties)
-        (subst (λ (w : Happening). AllZip (LetsAll u (w ∷ past)) (seqs_of c1.calls) c'.reached.items) (sym is)
-        (subst (λ (rs : List ℕ). AllZip (LetsAll u (Redacted seq name version ∷ past)) (seqs_of c1.calls) rs) (sym reached) again))
-        (ap (λ (w : Happening). moment (w ∷ past)) is) numbers (ap (λ (w : Happening). standing (w ∷ past)) is) (ap (λ (w : Happening). taken (w ∷ past)) is)
+        (knows.row.prefix, may) (subst (λ (p : Trace). AreTied c.conn p c1.engines.items c.attached c1.calls) behind asked.ties)
+        (subst (λ (w : Happening). AllZip (HasPassedFirst u (w ∷ past)) (seqs_of c1.calls) c'.reached.items) (sym is)
+        (subst (λ (rs : List ℕ). AllZip (HasPassedFirst u (Redacted seq name version ∷ past)) (seqs_of c1.calls) rs) (sym reached) again))
+        (ap (λ (w : Happening). timestamp (w ∷ past)) is) numbers (ap (λ (w : Happening). pending_calls (w ∷ past)) is) (ap (λ (w : Happening). taken (w ∷ past)) is)
         (subst (λ (w : Happening). AllZip (IsLatest (w ∷ past)) c1.engines.items c1.latest.items) (sym is) latest1)
         (ap (λ (w : Happening). has_failed (w ∷ past)) is) left of_table (omega arith) entries
         (record { few_engines = room.few_engines; engines = room.engines; latest = room.latest; calls = omega (arith, room.calls, capacity) }) in
-        subst (λ (d : Checker). Knows T (what ∷ past) d) (sym rest) to
+        subst (λ (d : Checker). IsCheckerAfter T (what ∷ past) d) (sym rest) to

@@ -6,27 +6,27 @@ use Rattle.std.proofs.lemmas.List.Elements.{All-cons, All-head, All-nil, All-tai
 use Rattle.mrpc_table.specs.declared.table.Table.{Table}
 use Rattle.engine_core.specs.Chains.{Entry}
 use Rattle.engine_core.specs.Engines.{EngineParts}
-use Rattle.engine_core.specs.Marks.{StandingCall, seqs_of}
+use Rattle.engine_core.specs.Marks.{PendingCall, seqs_of}
 use Rattle.engine_core.specs.declared.op.Op.{Op as Step}
-use Rattle.call_history.specs.Behind.{Behind, chain, noted}
-use Rattle.call_history.specs.Rules.{Lets, May}
+use Rattle.call_history.specs.Trace.{Trace, chain, noted}
+use Rattle.call_history.specs.Rules.{IsAllowedInTrace, CanFollow}
 use Rattle.call_history.specs.Ties.{AreTied}
 use Rattle.call_history.specs.declared.happening.Happening.{Happening}
 use Rattle.call_history.specs.declared.happening.Happening.TheVariants.{Away, Op}
-use Rattle.audit_rules.specs.Asking.{LetsAll}
-use Rattle.audit_rules.specs.Knowing.{HasRoom, IsLatest, Knows, LeavesOpen, under}
+use Rattle.audit_rules.specs.Asking.{HasPassedFirst}
+use Rattle.audit_rules.specs.CheckerState.{HasRoom, IsLatest, IsCheckerAfter, IsObligationAfter, checker_context}
 use Rattle.audit_rules.specs.declared.checker.Checker.{Checker}
-use Rattle.audit_rules.specs.declared.left.Left.{Left}
-use Rattle.audit_rules.specs.declared.left.Left.TheVariants.{Nothing}
+use Rattle.audit_rules.specs.declared.obligation.Obligation.{Obligation}
+use Rattle.audit_rules.specs.declared.obligation.Obligation.TheVariants.{Nothing}
 use Rattle.audit_rules.proofs.Asked.{lets-less}
 use Rattle.audit_rules.proofs.Going.{IsApart, all-on, apart-latest, apart-lets, lets-on, zip-on}
 use Rattle.audit_rules.proofs.States.{not-left}
 
 -- ---- a submission is rejected
 
-pub knows-away : (T : Table) (past : Behind) (method number addr : ℕ) (c : Checker) → Knows T past c → May (under T c) past (Away method number addr)
-    → ((conn : ℕ) (past : Behind) (es : List EngineParts) (n : ℕ) (calls : List StandingCall) (method number addr : ℕ) → AreTied conn past es n calls
-    → AreTied conn (Away method number addr ∷ past) es n calls) → Knows T (Away method number addr ∷ past) c
+pub knows-away : (T : Table) (past : Trace) (method number addr : ℕ) (c : Checker) → IsCheckerAfter T past c → CanFollow (checker_context T c) past (Away method number addr)
+    → ((conn : ℕ) (past : Trace) (es : List EngineParts) (n : ℕ) (calls : List PendingCall) (method number addr : ℕ) → AreTied conn past es n calls
+    → AreTied conn (Away method number addr ∷ past) es n calls) → IsCheckerAfter T (Away method number addr ∷ past) c
 knows-away T past method number addr c knows may law =
     let what : Happening = Away method number addr in
     let apart : IsApart past what = record { chained = refl; notes = λ name seq. refl; calls = λ name. refl; forms = λ conn seq. refl } in
@@ -35,7 +35,7 @@ knows-away T past method number addr c knows may law =
       row = record {
         prefix = (knows.row.prefix, may);
         ties = law c.conn past c.engines.items c.attached c.calls method number addr knows.row.ties;
-        reaches = zip-on (LetsAll (under T c) past) (LetsAll (under T c) (what ∷ past)) (seqs_of c.calls) c.reached.items (apart-lets (under T c) past what apart) knows.row.reaches;
+        reaches = zip-on (HasPassedFirst (checker_context T c) past) (HasPassedFirst (checker_context T c) (what ∷ past)) (seqs_of c.calls) c.reached.items (apart-lets (checker_context T c) past what apart) knows.row.reaches;
         shows = knows.row.shows;
       };
       numbers = knows.numbers;
@@ -43,7 +43,7 @@ knows-away T past method number addr c knows may law =
       taken = knows.taken;
       latest = apart-latest past what apart c.engines.items c.latest.items knows.latest;
       failed = knows.failed;
-      left = subst (λ (l : Left). LeavesOpen (what ∷ past) l) (sym nothing) (λ none. none, λ none. none);
+      left = subst (λ (l : Obligation). IsObligationAfter (what ∷ past) l) (sym nothing) (λ none. none, λ none. none);
       of_table = knows.of_table;
       attachments = omega (arith, knows.attachments);
       versions = all-on (λ (e : EngineParts). e.entry.version ≤ length past + 1) (λ (e : EngineParts). e.entry.version
@@ -89,10 +89,10 @@ all-front P (x ∷ xs) zero all = All-nil P
 all-front P (x ∷ xs) (suc k) all = All-cons P x (take k xs) (All-head P x xs all) (all-front P xs k (All-tail P x xs all))
 
 -- the operation preserves the notes of an entry
-abbrev pub KeepsNotes : Behind → Step → Entry → Type 0
+abbrev pub KeepsNotes : Trace → Step → Entry → Type 0
 KeepsNotes past step e = (seq : ℕ) → noted e.name seq (Op step ∷ past) ≡ noted e.name seq past
 
-module _ (T : Table) (past : Behind) (step : Step) (at : ℕ) (c c' : Checker) (knows : Knows T past c) (may : May (under T c) past (Op step))
+module _ (T : Table) (past : Trace) (step : Step) (at : ℕ) (c c' : Checker) (knows : IsCheckerAfter T past c) (may : CanFollow (checker_context T c) past (Op step))
     (rest : c' ≡ record c { engines = c'.engines; latest = c'.latest; attached = c'.attached; reached = c'.reached })
     (ties : AreTied c.conn (Op step ∷ past) c'.engines.items c'.attached c.calls) (reached : c'.reached.items ≡ map (λ r. min r at) c.reached.items)
     (front : take at (chain (Op step ∷ past)).entries ≡ take at (chain past).entries) (notes : All (KeepsNotes past step) (take at (chain past).entries))
@@ -101,28 +101,28 @@ module _ (T : Table) (past : Behind) (step : Step) (at : ℕ) (c c' : Checker) (
   stepped : Checker
   stepped = record c { engines = c'.engines; latest = c'.latest; attached = c'.attached; reached = c'.reached }
 
-  lets-before : (n r : ℕ) → LetsAll (under T c) past n r → LetsAll (under T c) (Op step ∷ past) n (min r at)
+  lets-before : (n r : ℕ) → HasPassedFirst (checker_context T c) past n r → HasPassedFirst (checker_context T c) (Op step ∷ past) n (min r at)
   lets-before n r lets =
       let same = take-fewer (chain (Op step ∷ past)).entries (chain past).entries (min r at) at (omega arith) front in
       let few : take (min r at) (take at (chain past).entries) ≡ take (min r at) (chain past).entries = take-twice (chain past).entries (min r at) at (omega arith) in
       let kept : All (KeepsNotes past step) (take (min r at) (chain past).entries) = subst (λ (es : List Entry). All (KeepsNotes past step) es) few
       (all-front (KeepsNotes past step) (take at (chain past).entries) (min r at) notes) in
-      subst (λ (es : List Entry). All (Lets (under T c) (Op step ∷ past) n) es) (sym same)
-      (all-two (KeepsNotes past step) (Lets (under T c) past n) (Lets (under T c) (Op step ∷ past) n) (take (min r at) (chain past).entries)
-      (λ e keeps. lets-on (under T c) past (Op step ∷ past) n e refl (keeps n)) kept
-      (lets-less (Lets (under T c) past n) (chain past).entries (min r at) r (omega arith) lets))
+      subst (λ (es : List Entry). All (IsAllowedInTrace (checker_context T c) (Op step ∷ past) n) es) (sym same)
+      (all-two (KeepsNotes past step) (IsAllowedInTrace (checker_context T c) past n) (IsAllowedInTrace (checker_context T c) (Op step ∷ past) n) (take (min r at) (chain past).entries)
+      (λ e keeps. lets-on (checker_context T c) past (Op step ∷ past) n e refl (keeps n)) kept
+      (lets-less (IsAllowedInTrace (checker_context T c) past n) (chain past).entries (min r at) r (omega arith) lets))
 
   is-nothing : c.left ≡ Nothing
   is-nothing = not-left past (Op step) c.left knows.left may.malformed may.drawn_refused (λ seq why is. cc)
 
-  knows-stepped : Knows T (Op step ∷ past) stepped
+  knows-stepped : IsCheckerAfter T (Op step ∷ past) stepped
   unfolding stepped
   knows-stepped = record {
     row = record {
       prefix = (knows.row.prefix, may);
       ties = ties;
-      reaches = subst (λ (rs : List ℕ). AllZip (LetsAll (under T c) (Op step ∷ past)) (seqs_of c.calls) rs) (sym reached)
-          (zip-fewer (LetsAll (under T c) past) (LetsAll (under T c) (Op step ∷ past)) at (seqs_of c.calls) c.reached.items lets-before knows.row.reaches);
+      reaches = subst (λ (rs : List ℕ). AllZip (HasPassedFirst (checker_context T c) (Op step ∷ past)) (seqs_of c.calls) rs) (sym reached)
+          (zip-fewer (HasPassedFirst (checker_context T c) past) (HasPassedFirst (checker_context T c) (Op step ∷ past)) at (seqs_of c.calls) c.reached.items lets-before knows.row.reaches);
       shows = knows.row.shows;
     };
     numbers = knows.numbers;
@@ -130,7 +130,7 @@ module _ (T : Table) (past : Behind) (step : Step) (at : ℕ) (c c' : Checker) (
     taken = knows.taken;
     latest = latest;
     failed = knows.failed;
-    left = subst (λ (l : Left). LeavesOpen (Op step ∷ past) l) (sym is-nothing) (λ none. none, λ none. none);
+    left = subst (λ (l : Obligation). IsObligationAfter (Op step ∷ past) l) (sym is-nothing) (λ none. none, λ none. none);
     of_table = knows.of_table;
     attachments = omega (arith, attachments);
     versions = versions;
@@ -138,6 +138,6 @@ module _ (T : Table) (past : Behind) (step : Step) (at : ℕ) (c c' : Checker) (
     untold = knows.untold;
   }
 
-  pub knows-operated : Knows T (Op step ∷ past) c'
+  pub knows-operated : IsCheckerAfter T (Op step ∷ past) c'
   unfolding stepped
-  knows-operated = subst (λ (d : Checker). Knows T (Op step ∷ past) d) (sym rest) knows-stepped
+  knows-operated = subst (λ (d : Checker). IsCheckerAfter T (Op step ∷ past) d) (sym rest) knows-stepped

@@ -10,20 +10,20 @@ use Rattle.std.proofs.lemmas.List.Elements.{All-append, All-cons, All-drop, All-
 use Rattle.mrpc_table.specs.Valid.{AreDistinct}
 use Rattle.mrpc_table.specs.declared.table.Table.{Table}
 use Rattle.engine_core.specs.Answers.{nothing}
-use Rattle.engine_core.specs.Chains.{Chain, Changes, Entry, IsAgainst, IsChain, Refusal, Refuses, changed, is_named}
+use Rattle.engine_core.specs.Chains.{Chain, HasChanged, Entry, IsReasonToReject, IsChain, Refusal, IsRejection, changed, is_named}
 use Rattle.engine_core.specs.Chains.{names_of, new_entry, upgraded, no_such, taken, no_place, full, other_kind}
 use Rattle.engine_core.specs.Chains.{detaches_none, upgrades_none, is_taken, is_past, is_full, is_other}
 use Rattle.engine_core.specs.Engines.{EngineParts}
-use Rattle.engine_core.specs.Marks.{IsTrueFor, StandingCall}
-use Rattle.engine_core.specs.Policies.{first_level, is_same_kind, level_under}
+use Rattle.engine_core.specs.Marks.{IsTrueFor, PendingCall}
+use Rattle.engine_core.specs.Policies.{initial_level, is_same_kind, level_after_upgrade}
 use Rattle.engine_core.specs.declared.op.Op.{Op as Step}
 use Rattle.engine_core.specs.declared.op.Op.TheVariants.{Attach, Detach, Upgrade}
 use Rattle.engine_core.specs.declared.policy.Policy.{Policy}
-use Rattle.call_history.specs.Behind.{Behind, chain, moment, noted, noted_calls}
-use Rattle.call_history.specs.Rules.{KeepsChain, May}
-use Rattle.call_history.specs.Ties.{AreTied, AttachesOn, DetachesOn, UpgradesOn}
+use Rattle.call_history.specs.Trace.{Trace, chain, timestamp, noted, noted_calls}
+use Rattle.call_history.specs.Rules.{IsChainPreserved, CanFollow}
+use Rattle.call_history.specs.Ties.{AreTied, AreTiedAfterAttach, AreTiedAfterDetach, AreTiedAfterUpgrade}
 use Rattle.call_history.specs.declared.happening.Happening.TheVariants.{Op}
-use Rattle.audit_rules.specs.Knowing.{IsLatest, Knows, greatest, under}
+use Rattle.audit_rules.specs.CheckerState.{IsLatest, IsCheckerAfter, greatest, checker_context}
 use Rattle.audit_rules.specs.declared.checker.Checker.{Checker}
 use Rattle.audit_rules.proofs.Asked.{All-at, map-at}
 use Rattle.audit_rules.proofs.Entries.{found, named-is, none-found}
@@ -35,10 +35,10 @@ use Rattle.audit_rules.proofs.Worked.{bytes-other, bytes-same, names-at, none-na
 
 -- if an operation has no reason for a rejection, the chain accepts it
 abbrev pub UnlessRefused : Type 0
-UnlessRefused = (before : Chain) (op : Step) → IsChain before → ((r : Refusal) → Refuses before op r → ⊥) → Changes before op (changed op before)
+UnlessRefused = (before : Chain) (op : Step) → IsChain before → ((r : Refusal) → IsRejection before op r → ⊥) → HasChanged before op (changed op before)
 
 free-attach : (es : List Entry) (at : ℕ) (name label : List ℕ) (policy : Policy) (r : Refusal) → (Contains (names_of es) name → ⊥) → at ≤ length es
-    → length es < 8 → IsAgainst es (Attach at name label policy) r → ⊥
+    → length es < 8 → IsReasonToReject es (Attach at name label policy) r → ⊥
 free-attach es at name label policy r none within few (detaches_none name' is other s) = absurd cc
 free-attach es at name label policy r none within few (upgrades_none name' label' policy' is other s) = absurd cc
 free-attach es at name label policy r none within few (is_taken at' name' label' policy' is has s) = let same : name ≡ name' = cc in none (rw same has)
@@ -46,7 +46,7 @@ free-attach es at name label policy r none within few (is_past at' name' label' 
 free-attach es at name label policy r none within few (is_full at' name' label' policy' is many s) = omega arith
 free-attach es at name label policy r none within few (is_other name' label' policy' e is there named other s) = absurd cc
 
-free-detach : (es : List Entry) (name : List ℕ) (r : Refusal) → Contains (names_of es) name → IsAgainst es (Detach name) r → ⊥
+free-detach : (es : List Entry) (name : List ℕ) (r : Refusal) → Contains (names_of es) name → IsReasonToReject es (Detach name) r → ⊥
 free-detach es name r has (detaches_none name' is none s) = let same : name ≡ name' = cc in none (rw same at has)
 free-detach es name r has (upgrades_none name' label' policy' is none s) = absurd cc
 free-detach es name r has (is_taken at' name' label' policy' is has' s) = absurd cc
@@ -81,7 +81,7 @@ has-entry (x ∷ xs) zero e is = let there : x ≡ e = cc in (0, omega arith, th
 has-entry (x ∷ xs) (suc p) e is = let rest = has-entry xs p e is in (suc rest.0, omega (arith, rest.1), rest.2)
 
 free-upgrade : (es : List Entry) (name label : List ℕ) (policy : Policy) (r : Refusal) (p : ℕ) (e : Entry) → AreDistinct (names_of es) → slice_get es p ≡ Some e
-    → e.name ≡ name → is_same_kind e.policy policy ≡ true → IsAgainst es (Upgrade name label policy) r → ⊥
+    → e.name ≡ name → is_same_kind e.policy policy ≡ true → IsReasonToReject es (Upgrade name label policy) r → ⊥
 free-upgrade es name label policy r p e apart is same kind (detaches_none name' at none s) = absurd cc
 free-upgrade es name label policy r p e apart is same kind (upgrades_none name' label' policy' at none s) =
     let equal : name ≡ name' = cc in none (rw equal at (has-name es p e name is same))
@@ -96,42 +96,42 @@ free-upgrade es name label policy r p e apart is same kind (is_other name' label
     let wrong : false ≡ true = sym not_kind ∙ kind in
     cc
 
-module _ (past : Behind) (law : UnlessRefused) (is_chain : IsChain (chain past)) where
+module _ (past : Trace) (law : UnlessRefused) (is_chain : IsChain (chain past)) where
   pub attach-keeps : (at : ℕ) (name label : List ℕ) (policy : Policy) → (Contains (names_of (chain past).entries) name → ⊥) → at ≤ length (chain past).entries
-      → length (chain past).entries < 8 → KeepsChain past (Op (Attach at name label policy))
+      → length (chain past).entries < 8 → IsChainPreserved past (Op (Attach at name label policy))
   attach-keeps at name label policy none within few = law (chain past) (Attach at name label policy) is_chain
       (λ r refuses. free-attach (chain past).entries at name label policy r none within few refuses.against)
 
-  pub detach-keeps : (name : List ℕ) (p : ℕ) (e : Entry) → slice_get (chain past).entries p ≡ Some e → e.name ≡ name → KeepsChain past (Op (Detach name))
+  pub detach-keeps : (name : List ℕ) (p : ℕ) (e : Entry) → slice_get (chain past).entries p ≡ Some e → e.name ≡ name → IsChainPreserved past (Op (Detach name))
   detach-keeps name p e is named =
       law (chain past) (Detach name) is_chain
       (λ r refuses. free-detach (chain past).entries name r (has-name (chain past).entries p e name is named)
       refuses.against)
 
   pub upgrade-keeps : (name label : List ℕ) (policy : Policy) (p : ℕ) (e : Entry) → slice_get (chain past).entries p ≡ Some e → e.name ≡ name
-      → is_same_kind e.policy policy ≡ true → KeepsChain past (Op (Upgrade name label policy))
+      → is_same_kind e.policy policy ≡ true → IsChainPreserved past (Op (Upgrade name label policy))
   upgrade-keeps name label policy p e is named kind = law (chain past) (Upgrade name label policy) is_chain
       (λ r refuses. free-upgrade (chain past).entries name label policy r p e is_chain.names is named kind refuses.against)
 
-pub not-attached-twice : (past : Behind) (at : ℕ) (name label : List ℕ) (policy : Policy)
-    → Contains (names_of (chain past).entries) name → KeepsChain past (Op (Attach at name label policy)) → ⊥
+pub not-attached-twice : (past : Trace) (at : ℕ) (name label : List ℕ) (policy : Policy)
+    → Contains (names_of (chain past).entries) name → IsChainPreserved past (Op (Attach at name label policy)) → ⊥
 not-attached-twice past at name label policy has keeps = keeps.free (taken name) (is_taken at name label policy refl has refl)
 
-pub not-past-end : (past : Behind) (at : ℕ) (name label : List ℕ) (policy : Policy) → length (chain past).entries < at → KeepsChain past (Op (Attach at name label policy)) → ⊥
+pub not-past-end : (past : Trace) (at : ℕ) (name label : List ℕ) (policy : Policy) → length (chain past).entries < at → IsChainPreserved past (Op (Attach at name label policy)) → ⊥
 not-past-end past at name label policy more keeps = keeps.free (no_place at) (is_past at name label policy refl more refl)
 
-pub not-to-full : (past : Behind) (at : ℕ) (name label : List ℕ) (policy : Policy) → 8 ≤ length (chain past).entries → KeepsChain past (Op (Attach at name label policy)) → ⊥
+pub not-to-full : (past : Trace) (at : ℕ) (name label : List ℕ) (policy : Policy) → 8 ≤ length (chain past).entries → IsChainPreserved past (Op (Attach at name label policy)) → ⊥
 not-to-full past at name label policy many keeps = keeps.free (full (length (chain past).entries)) (is_full at name label policy refl many refl)
 
-pub not-detached : (past : Behind) (name : List ℕ) → (Contains (names_of (chain past).entries) name → ⊥) → KeepsChain past (Op (Detach name)) → ⊥
+pub not-detached : (past : Trace) (name : List ℕ) → (Contains (names_of (chain past).entries) name → ⊥) → IsChainPreserved past (Op (Detach name)) → ⊥
 not-detached past name none keeps = keeps.free (no_such name) (detaches_none name refl none refl)
 
-pub not-upgraded : (past : Behind) (name label : List ℕ) (policy : Policy)
-    → (Contains (names_of (chain past).entries) name → ⊥) → KeepsChain past (Op (Upgrade name label policy)) → ⊥
+pub not-upgraded : (past : Trace) (name label : List ℕ) (policy : Policy)
+    → (Contains (names_of (chain past).entries) name → ⊥) → IsChainPreserved past (Op (Upgrade name label policy)) → ⊥
 not-upgraded past name label policy none keeps = keeps.free (no_such name) (upgrades_none name label policy refl none refl)
 
-pub not-of-kind : (past : Behind) (name label : List ℕ) (policy : Policy) (p : ℕ) (e : Entry) → slice_get (chain past).entries p ≡ Some e → e.name ≡ name
-    → is_same_kind e.policy policy ≡ false → KeepsChain past (Op (Upgrade name label policy)) → ⊥
+pub not-of-kind : (past : Trace) (name label : List ℕ) (policy : Policy) (p : ℕ) (e : Entry) → slice_get (chain past).entries p ≡ Some e → e.name ≡ name
+    → is_same_kind e.policy policy ≡ false → IsChainPreserved past (Op (Upgrade name label policy)) → ⊥
 not-of-kind past name label policy p e is named other keeps =
     keeps.free (other_kind name) (is_other name label policy e refl (has-entry (chain past).entries p e is) named other refl)
 
@@ -214,26 +214,26 @@ none-entries [] name none = All-nil (λ e. e.name ≢ name)
 none-entries (e ∷ es) name none = All-cons (λ e. e.name ≢ name) e es (λ same. none (0, omega arith, same))
     (none-entries es name (λ has. none (suc has.0, omega (arith, has.1), has.2)))
 
-attach-notes : (past : Behind) (at : ℕ) (name label : List ℕ) (policy : Policy) (e : Entry) → e.name ≢ name → KeepsNotes past (Attach at name label policy) e
+attach-notes : (past : Trace) (at : ℕ) (name label : List ℕ) (policy : Policy) (e : Entry) → e.name ≢ name → KeepsNotes past (Attach at name label policy) e
 attach-notes past at name label policy e other seq = ap (λ (b : Bool). cond b nothing (noted e.name seq past)) (bytes-other name e.name (λ same. other (sym same)))
 
-attach-latest : (past : Behind) (at : ℕ) (name label : List ℕ) (policy : Policy) (e : EngineParts) (n : ℕ) → e.entry.name ≢ name → IsLatest past e n
+attach-latest : (past : Trace) (at : ℕ) (name label : List ℕ) (policy : Policy) (e : EngineParts) (n : ℕ) → e.entry.name ≢ name → IsLatest past e n
     → IsLatest (Op (Attach at name label policy) ∷ past) e n
 attach-latest past at name label policy e n other is =
     is ∙ sym (ap (λ (b : Bool). greatest (cond b [] (noted_calls e.entry.name past)))
     (bytes-other name e.entry.name (λ same. other (sym same))))
 
-attach-first : (past : Behind) (at : ℕ) (name label : List ℕ) (policy : Policy) (e : EngineParts) → e.entry.name ≡ name → IsLatest (Op (Attach at name label policy) ∷ past) e 0
+attach-first : (past : Trace) (at : ℕ) (name label : List ℕ) (policy : Policy) (e : EngineParts) → e.entry.name ≡ name → IsLatest (Op (Attach at name label policy) ∷ past) e 0
 attach-first past at name label policy e same = sym (ap (λ (b : Bool). greatest (cond b [] (noted_calls e.entry.name past))) (bytes-same name e.entry.name (sym same)))
 
-new-engine : (name : List ℕ) (attach last : ℕ) (policy : Policy) (e : EngineParts) → e.entry ≡ new_entry name attach policy → e.level ≡ first_level policy → e.last ≡ last
-    → e ≡ record { entry = new_entry name attach policy; level = first_level policy; last = last }
+new-engine : (name : List ℕ) (attach last : ℕ) (policy : Policy) (e : EngineParts) → e.entry ≡ new_entry name attach policy → e.level ≡ initial_level policy → e.last ≡ last
+    → e ≡ record { entry = new_entry name attach policy; level = initial_level policy; last = last }
 new-engine name attach last policy e entry level same_last =
     ap {B = EngineParts} (λ (x : Entry). record { entry = x; level = e.level; last = e.last }) entry
     ∙ (ap {B = EngineParts} (λ (l : ℕ). record { entry = new_entry name attach policy; level = l; last = e.last }) level
-    ∙ ap {B = EngineParts} (λ (m : ℕ). record { entry = new_entry name attach policy; level = first_level policy; last = m }) same_last)
+    ∙ ap {B = EngineParts} (λ (m : ℕ). record { entry = new_entry name attach policy; level = initial_level policy; last = m }) same_last)
 
-module _ (T : Table) (past : Behind) (c c' : Checker) (knows : Knows T past c) where
+module _ (T : Table) (past : Trace) (c c' : Checker) (knows : IsCheckerAfter T past c) where
   entries : map (λ e. e.entry) c.engines.items ≡ (chain past).entries
   entries = ap (λ (x : Chain). x.entries) knows.row.ties.same_chain
 
@@ -249,16 +249,16 @@ module _ (T : Table) (past : Behind) (c c' : Checker) (knows : Knows T past c) w
   pub entry-known : (p : ℕ) (e : Entry) → slice_get (map (λ e. e.entry) c.engines.items) p ≡ Some e → slice_get (chain past).entries p ≡ Some e
   entry-known p e is = subst (λ (es : List Entry). slice_get es p ≡ Some e) entries is
 
-  pub knows-attached : (at : ℕ) (name label : List ℕ) (policy : Policy) (e : EngineParts) → May (under T c) past (Op (Attach at name label policy)) → AttachesOn
+  pub knows-attached : (at : ℕ) (name label : List ℕ) (policy : Policy) (e : EngineParts) → CanFollow (checker_context T c) past (Op (Attach at name label policy)) → AreTiedAfterAttach
       → c' ≡ record c { engines = c'.engines; latest = c'.latest; attached = c'.attached; reached = c'.reached } → c'.attached ≡ c.attached + 1
       → c'.engines.items ≡ insert c.engines.items at e → c'.latest.items ≡ insert c.latest.items at 0 → c'.reached.items ≡ map (λ r. min r at) c.reached.items
-      → e.entry ≡ new_entry name (c.attached + 1) policy → e.level ≡ first_level policy → e.last ≡ c.moment
+      → e.entry ≡ new_entry name (c.attached + 1) policy → e.level ≡ initial_level policy → e.last ≡ c.moment
       → (Contains (names_of (map (λ e. e.entry) c.engines.items)) name → ⊥) → at ≤ length c.engines.items → length c.engines.items < 8
       → vec_capacity c'.engines ≡ vec_capacity c.engines → vec_capacity c'.latest ≡ vec_capacity c.latest → deque_capacity c'.reached ≡ deque_capacity c.reached
-      → Knows T (Op (Attach at name label policy) ∷ past) c'
+      → IsCheckerAfter T (Op (Attach at name label policy) ∷ past) c'
   knows-attached at name label policy e may law rest attached engines latest reached entry level last none within few room1 room2 room3 =
       let step : Step = Attach at name label policy in
-      let is = new-engine name (c.attached + 1) (moment past) policy e entry level (last ∙ knows.row.shows) in
+      let is = new-engine name (c.attached + 1) (timestamp past) policy e entry level (last ∙ knows.row.shows) in
       let named : e.entry.name ≡ name = ap (λ (x : Entry). x.name) entry in
       let tied : AreTied c.conn (Op step ∷ past) c'.engines.items c'.attached c.calls =
       subst (λ (n : ℕ). AreTied c.conn (Op step ∷ past) c'.engines.items n c.calls) (sym attached)
@@ -336,7 +336,7 @@ upgraded-named name policy (x ∷ xs) (suc p) e apart is same =
     let rest = upgraded-named name policy xs p e apart.1 is same in
     rw other (ap (λ (ys : List Entry). x ∷ ys) rest)
 
-renamed-latest : (past : Behind) (es : List EngineParts) (ls : List ℕ) (p : ℕ) (e e' : EngineParts)
+renamed-latest : (past : Trace) (es : List EngineParts) (ls : List ℕ) (p : ℕ) (e e' : EngineParts)
     → slice_get es p ≡ Some e → e'.entry.name ≡ e.entry.name → AllZip (IsLatest past) es ls
     → AllZip (IsLatest past) (set es p e') ls
 renamed-latest past [] ls p e e' is same all = absurd cc
@@ -346,19 +346,19 @@ renamed-latest past (x ∷ es) (l ∷ ls) zero e e' is same all =
     (all.0 ∙ ap (λ (name : List ℕ). greatest (noted_calls name past)) (ap (λ (y : EngineParts). y.entry.name) there ∙ sym same), all.1)
 renamed-latest past (x ∷ es) (l ∷ ls) (suc p) e e' is same all = (all.0, renamed-latest past es ls p e e' is same all.1)
 
-module _ (T : Table) (past : Behind) (c c' : Checker) (knows : Knows T past c) (distinct : AreDistinct (names_of (chain past).entries)) (name : List ℕ) (at : ℕ) (e : EngineParts)
+module _ (T : Table) (past : Trace) (c c' : Checker) (knows : IsCheckerAfter T past c) (distinct : AreDistinct (names_of (chain past).entries)) (name : List ℕ) (at : ℕ) (e : EngineParts)
     (there : slice_get c.engines.items at ≡ Some e) (there_entry : slice_get (chain past).entries at ≡ Some e.entry) (named : e.entry.name ≡ name)
     (rest : c' ≡ record c { engines = c'.engines; latest = c'.latest; attached = c'.attached; reached = c'.reached }) (attached : c'.attached ≡ c.attached)
     (reached : c'.reached.items ≡ map (λ r. min r at) c.reached.items) (room1 : vec_capacity c'.engines ≡ vec_capacity c.engines)
     (room2 : vec_capacity c'.latest ≡ vec_capacity c.latest) (room3 : deque_capacity c'.reached ≡ deque_capacity c.reached) where
-  pub knows-detached : May (under T c) past (Op (Detach name)) → DetachesOn → c'.engines.items ≡ remove c.engines.items at → c'.latest.items ≡ remove c.latest.items at
-      → Knows T (Op (Detach name) ∷ past) c'
+  pub knows-detached : CanFollow (checker_context T c) past (Op (Detach name)) → AreTiedAfterDetach → c'.engines.items ≡ remove c.engines.items at → c'.latest.items ≡ remove c.latest.items at
+      → IsCheckerAfter T (Op (Detach name) ∷ past) c'
   knows-detached may law engines latest =
       let step : Step = Detach name in
       let tied : AreTied c.conn (Op step ∷ past) c'.engines.items c'.attached c.calls =
       subst (λ (n : ℕ). AreTied c.conn (Op step ∷ past) c'.engines.items n c.calls) (sym attached)
       (subst (λ (es : List EngineParts). AreTied c.conn (Op step ∷ past) es c.attached c.calls) (sym engines)
-      (law (under T c) past c.engines.items c.attached c.calls name at e knows.row.prefix knows.row.ties there named)) in
+      (law (checker_context T c) past c.engines.items c.attached c.calls name at e knows.row.prefix knows.row.ties there named)) in
       knows-operated T past step at c c' knows may rest tied reached
       (ap (λ (es : List Entry). take at es) (without-named name (chain past).entries at e.entry distinct there_entry named) ∙ take-remove (chain past).entries at)
       (all-given (KeepsNotes past step) (take at (chain past).entries) (λ x seq. refl))
@@ -378,16 +378,16 @@ module _ (T : Table) (past : Behind) (c c' : Checker) (knows : Knows T past c) (
         calls = omega (arith, knows.room.calls, room3);
       })
 
-  pub knows-upgraded : (label : List ℕ) (policy : Policy) (e' : EngineParts) → May (under T c) past (Op (Upgrade name label policy)) → UpgradesOn
+  pub knows-upgraded : (label : List ℕ) (policy : Policy) (e' : EngineParts) → CanFollow (checker_context T c) past (Op (Upgrade name label policy)) → AreTiedAfterUpgrade
       → c'.engines.items ≡ set c.engines.items at e' → c'.latest.items ≡ c.latest.items
-      → e'.entry ≡ upgraded e.entry policy → e'.level ≡ level_under e.entry.policy policy e.level
-      → e'.last ≡ e.last → ((s : StandingCall) → IsTrueFor e.entry s → IsTrueFor e'.entry s) → Knows T (Op (Upgrade name label policy) ∷ past) c'
+      → e'.entry ≡ upgraded e.entry policy → e'.level ≡ level_after_upgrade e.entry.policy policy e.level
+      → e'.last ≡ e.last → ((s : PendingCall) → IsTrueFor e.entry s → IsTrueFor e'.entry s) → IsCheckerAfter T (Op (Upgrade name label policy) ∷ past) c'
   knows-upgraded label policy e' may law engines latest entry level last stays =
       let step : Step = Upgrade name label policy in
       let tied : AreTied c.conn (Op step ∷ past) c'.engines.items c'.attached c.calls =
       subst (λ (n : ℕ). AreTied c.conn (Op step ∷ past) c'.engines.items n c.calls) (sym attached)
       (subst (λ (es : List EngineParts). AreTied c.conn (Op step ∷ past) es c.attached c.calls) (sym engines)
-      (law (under T c) past c.engines.items c.attached c.calls name label policy at e e' knows.row.prefix knows.row.ties there named
+      (law (checker_context T c) past c.engines.items c.attached c.calls name label policy at e e' knows.row.prefix knows.row.ties there named
       (record { entry = entry; level = level; last = last; true_for = stays }))) in
       let old : e.entry.version ≤ length past + 1 = All-at (λ (x : EngineParts). x.entry.version ≤ length past + 1) c.engines.items at e knows.versions there in
       knows-operated T past step at c c' knows may rest tied reached

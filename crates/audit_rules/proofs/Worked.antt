@@ -17,40 +17,40 @@ use Rattle.engine_core.specs.declared.outcome.Noted.{Noted}
 use Rattle.engine_core.specs.declared.outcome.Noted.TheVariants as notes
 use Rattle.engine_core.specs.declared.outcome.Outcome.{Outcome}
 use Rattle.engine_core.specs.declared.outcome.Outcome.TheVariants.{Passed, Held, Refused, Redacted}
-use Rattle.call_history.specs.Behind.{Behind, chain, form, has_failed, moment, noted, noted_calls, standing, taken}
-use Rattle.call_history.specs.Events.{note_behind}
-use Rattle.call_history.specs.Legal.{IsPrefix}
-use Rattle.call_history.specs.Rules.{Lets, Under}
+use Rattle.call_history.specs.Trace.{Trace, chain, form, has_failed, timestamp, noted, noted_calls, pending_calls, taken}
+use Rattle.call_history.specs.Transitions.{with_note}
+use Rattle.call_history.specs.Legal.{IsLegalPrefix}
+use Rattle.call_history.specs.Rules.{IsAllowedInTrace, JudgeContext}
 use Rattle.call_history.specs.Ties.{AreTied, worked}
 use Rattle.call_history.specs.declared.happening.Happening.{Happening}
-use Rattle.call_history.specs.declared.happening.Taken.{Taken}
+use Rattle.call_history.specs.declared.happening.AcceptedCall.{AcceptedCall}
 use Rattle.engine_core.specs.Marks.{seqs_of}
-use Rattle.audit_rules.specs.Asking.{IsRising, LetsAll}
-use Rattle.audit_rules.specs.Knowing.{HasRoom, IsFree, IsLatest, Knows, LeavesOpen, greatest, under}
+use Rattle.audit_rules.specs.Asking.{IsRising, HasPassedFirst}
+use Rattle.audit_rules.specs.CheckerState.{HasRoom, HasNoMalformed, IsLatest, IsCheckerAfter, IsObligationAfter, greatest, checker_context}
 use Rattle.audit_rules.specs.declared.checker.Checker.{Checker}
 use Rattle.audit_rules.proofs.Going.{all-on, entries-same-all, lets-on, zip-except}
 use Rattle.audit_rules.proofs.Known.{free-numbers, known-rising, known-standing}
 
 -- ---- a turn
 
-module _ (T : Table) (past past' : Behind) (c c' : Checker) (knows : Knows T past c) (free : IsFree c.left) (free' : IsFree c'.left)
+module _ (T : Table) (past past' : Trace) (c c' : Checker) (knows : IsCheckerAfter T past c) (free : HasNoMalformed c.left) (free' : HasNoMalformed c'.left)
     (rest : c' ≡ record c { engines = c'.engines; latest = c'.latest; calls = c'.calls; reached = c'.reached; left = c'.left })
-    (prefix : IsPrefix (under T c) past') (ties : AreTied c.conn past' c'.engines.items c.attached c'.calls)
-    (reaches : AllZip (LetsAll (under T c) past') (seqs_of c'.calls) c'.reached.items) (moments : moment past' ≡ moment past)
-    (numbers : seqs_of c'.calls ≡ seqs_of c.calls) (stands : standing past' ≡ standing past) (takes : taken past' ≡ taken past)
-    (latest : AllZip (IsLatest past') c'.engines.items c'.latest.items) (fails : has_failed past' ≡ has_failed past) (left : LeavesOpen past' c'.left)
+    (prefix : IsLegalPrefix (checker_context T c) past') (ties : AreTied c.conn past' c'.engines.items c.attached c'.calls)
+    (reaches : AllZip (HasPassedFirst (checker_context T c) past') (seqs_of c'.calls) c'.reached.items) (moments : timestamp past' ≡ timestamp past)
+    (numbers : seqs_of c'.calls ≡ seqs_of c.calls) (stands : pending_calls past' ≡ pending_calls past) (takes : taken past' ≡ taken past)
+    (latest : AllZip (IsLatest past') c'.engines.items c'.latest.items) (fails : has_failed past' ≡ has_failed past) (left : IsObligationAfter past' c'.left)
     (of_table : All (λ s. IsCallOf T s.call) c'.calls) (longer : length past ≤ length past')
     (entries : map (λ e. e.entry) c'.engines.items ≡ map (λ e. e.entry) c.engines.items) (room : HasRoom c') where
   after : Checker
   after = record c { engines = c'.engines; latest = c'.latest; calls = c'.calls; reached = c'.reached; left = c'.left }
 
-  knows-after : Knows T past' after
+  knows-after : IsCheckerAfter T past' after
   unfolding after
   knows-after = record {
     row = record { prefix = prefix; ties = ties; reaches = reaches; shows = knows.row.shows ∙ sym moments };
-    numbers = free-numbers c'.left (seqs_of c'.calls) free' ∙ (numbers ∙ (known-standing T past c knows free ∙ ap (λ (cs : List Taken). map (λ call. call.seq) cs) (sym stands)));
+    numbers = free-numbers c'.left (seqs_of c'.calls) free' ∙ (numbers ∙ (known-standing T past c knows free ∙ ap (λ (cs : List AcceptedCall). map (λ call. call.seq) cs) (sym stands)));
     rising = subst (λ (ns : List ℕ). IsRising 0 c.taken ns) (sym (free-numbers c'.left (seqs_of c'.calls) free' ∙ numbers)) (known-rising T past c knows free);
-    taken = knows.taken ∙ ap (λ (cs : List Taken). length cs) (sym takes);
+    taken = knows.taken ∙ ap (λ (cs : List AcceptedCall). length cs) (sym takes);
     latest = latest;
     failed = knows.failed ∙ sym fails;
     left = left;
@@ -63,9 +63,9 @@ module _ (T : Table) (past past' : Behind) (c c' : Checker) (knows : Knows T pas
     untold = knows.untold;
   }
 
-  pub knows-worked : Knows T past' c'
+  pub knows-worked : IsCheckerAfter T past' c'
   unfolding after
-  knows-worked = subst (λ (d : Checker). Knows T past' d) (sym rest) knows-after
+  knows-worked = subst (λ (d : Checker). IsCheckerAfter T past' d) (sym rest) knows-after
 
 -- ---- names
 
@@ -113,35 +113,35 @@ zip-both P R R' (x ∷ xs) (y ∷ ys) on ps all = (on x y (All-head P x xs ps) a
 -- ---- a note
 
 -- an event that notes a call at a name
-pub record IsNote (past : Behind) (name : List ℕ) (seq : ℕ) (what : Happening) : Type 0 where
+pub record IsNote (past : Trace) (name : List ℕ) (seq : ℕ) (what : Happening) : Type 0 where
   pub chained : chain (what ∷ past) ≡ chain past
   pub another : (other : List ℕ) (s : ℕ) → seq ≢ s → noted other s (what ∷ past) ≡ noted other s past
   pub elsewhere : (other : List ℕ) (s : ℕ) → name ≢ other → noted other s (what ∷ past) ≡ noted other s past
   pub calls : (other : List ℕ) → noted_calls other (what ∷ past) ≡ cond (bytes_eq name other) (seq ∷ noted_calls other past) (noted_calls other past)
   pub forms : (conn s : ℕ) → form conn s (what ∷ past) ≡ form conn s past
-  pub same_moment : moment (what ∷ past) ≡ moment past
+  pub same_moment : timestamp (what ∷ past) ≡ timestamp past
   pub same_taken : taken (what ∷ past) ≡ taken past
-  pub stands : standing (what ∷ past) ≡ standing past
+  pub stands : pending_calls (what ∷ past) ≡ pending_calls past
   pub fails : has_failed (what ∷ past) ≡ has_failed past
 
-module _ (u : Under) (past : Behind) (name : List ℕ) (seq : ℕ) (what : Happening) (n : IsNote past name seq what) where
-  other-lets : (s r : ℕ) → s ≢ seq → LetsAll u past s r → LetsAll u (what ∷ past) s r
-  other-lets s r other lets = subst (λ (c : Chain). All (Lets u (what ∷ past) s) (take r c.entries)) (sym n.chained)
-      (all-on (Lets u past s) (Lets u (what ∷ past) s) (take r (chain past).entries)
+module _ (u : JudgeContext) (past : Trace) (name : List ℕ) (seq : ℕ) (what : Happening) (n : IsNote past name seq what) where
+  other-lets : (s r : ℕ) → s ≢ seq → HasPassedFirst u past s r → HasPassedFirst u (what ∷ past) s r
+  other-lets s r other lets = subst (λ (c : Chain). All (IsAllowedInTrace u (what ∷ past) s) (take r c.entries)) (sym n.chained)
+      (all-on (IsAllowedInTrace u past s) (IsAllowedInTrace u (what ∷ past) s) (take r (chain past).entries)
       (λ e one. lets-on u past (what ∷ past) s e (n.forms u.conn s) (n.another e.name s (λ same. other (sym same))) one) lets)
 
   pub own-lets : (at : ℕ) (e : Entry) → AreDistinct (names_of (chain past).entries) → slice_get (chain past).entries at ≡ Some e → e.name ≡ name
-      → LetsAll u past seq at → LetsAll u (what ∷ past) seq at
-  own-lets at e apart is named lets = subst (λ (c : Chain). All (Lets u (what ∷ past) seq) (take at c.entries)) (sym n.chained)
-      (all-both (λ x. x.name ≢ e.name) (Lets u past seq) (Lets u (what ∷ past) seq) (take at (chain past).entries)
+      → HasPassedFirst u past seq at → HasPassedFirst u (what ∷ past) seq at
+  own-lets at e apart is named lets = subst (λ (c : Chain). All (IsAllowedInTrace u (what ∷ past) seq) (take at c.entries)) (sym n.chained)
+      (all-both (λ x. x.name ≢ e.name) (IsAllowedInTrace u past seq) (IsAllowedInTrace u (what ∷ past) seq) (take at (chain past).entries)
       (λ x other one. lets-on u past (what ∷ past) seq x (n.forms u.conn seq) (n.elsewhere x.name seq (λ same. other (sym same ∙ sym named))) one)
       (before-apart (chain past).entries at e apart is) lets)
 
   pub note-reaches : (below top place at : ℕ) (e : Entry) (ns rs : List ℕ) → IsRising below top ns → AreDistinct (names_of (chain past).entries)
-      → slice_get (chain past).entries at ≡ Some e → e.name ≡ name → slice_get ns place ≡ Some seq → slice_get rs place ≡ Some at → LetsAll u past seq at
-      → AllZip (LetsAll u past) ns rs → AllZip (LetsAll u (what ∷ past)) ns rs
+      → slice_get (chain past).entries at ≡ Some e → e.name ≡ name → slice_get ns place ≡ Some seq → slice_get rs place ≡ Some at → HasPassedFirst u past seq at
+      → AllZip (HasPassedFirst u past) ns rs → AllZip (HasPassedFirst u (what ∷ past)) ns rs
   note-reaches below top place at e ns rs rising apart is named there reached lets all =
-      zip-except (LetsAll u past) (LetsAll u (what ∷ past)) below top seq at place ns rs rising there reached (own-lets at e apart is named lets) other-lets all
+      zip-except (HasPassedFirst u past) (HasPassedFirst u (what ∷ past)) below top seq at place ns rs rising there reached (own-lets at e apart is named lets) other-lets all
 
   latest-other : (e : EngineParts) (l : ℕ) → e.entry.name ≢ name → IsLatest past e l → IsLatest (what ∷ past) e l
   latest-other e l other is = is ∙ sym (ap (λ (ns : List ℕ). greatest ns) (n.calls e.entry.name
@@ -170,9 +170,9 @@ module _ (u : Under) (past : Behind) (name : List ℕ) (seq : ℕ) (what : Happe
       (latest-other x l other all.0, note-latest es ls at e apart.1 is named less all.1)
 
 -- the turn in which something was noted
-pub note-worked : (e : Entry) (seq : ℕ) (outcome : Outcome) (past : Behind) (n : Noted) → noted_in outcome ≡ n → n ≢ notes.Nothing
-    → worked e seq outcome past ≡ note_behind e.name seq n past
-note-worked e seq (Passed m) past n is some = ap (λ (k : Noted). note_behind e.name seq k past) is
+pub note-worked : (e : Entry) (seq : ℕ) (outcome : Outcome) (past : Trace) (n : Noted) → noted_in outcome ≡ n → n ≢ notes.Nothing
+    → worked e seq outcome past ≡ with_note e.name seq n past
+note-worked e seq (Passed m) past n is some = ap (λ (k : Noted). with_note e.name seq k past) is
 note-worked e seq (Held level cost) past n is some = absurd (some (sym is))
-note-worked e seq (Refused m why) past n is some = ap (λ (k : Noted). note_behind e.name seq k past) is
+note-worked e seq (Refused m why) past n is some = ap (λ (k : Noted). with_note e.name seq k past) is
 note-worked e seq Redacted past n is some = absurd (some (sym is))

@@ -12,17 +12,17 @@ use Rattle.frame_transport.specs.declared.format.TheConstants.{HEADER_LEN}
 use Rattle.policy_access.specs.Verdict.{AccessPolicy}
 use Rattle.policy_rate.specs.declared.rate.Rate.{Rate as RatePolicy}
 use Rattle.engine_core.specs.Answers.{nothing, drawn, counted, charged, denies, was_charged, charges, is_within, is_over, draws, was_counted, counts}
-use Rattle.engine_core.specs.Chains.{Changes, Entry, IsAgainst, Refusal, attaches, changed, detaches, detaches_none, names_of, new_entry, upgrades_none, is_taken, is_past, is_full, is_other}
+use Rattle.engine_core.specs.Chains.{HasChanged, Entry, IsReasonToReject, Refusal, attaches, changed, detaches, detaches_none, names_of, new_entry, upgrades_none, is_taken, is_past, is_full, is_other}
 use Rattle.engine_core.specs.declared.op.Op.TheVariants.{Attach, Detach}
 use Rattle.engine_core.specs.declared.policy.Policy.{Policy}
 use Rattle.engine_core.specs.declared.policy.Policy.TheVariants.{Access, Count, Quota, Rate}
-use Rattle.call_history.specs.Behind.{Behind, has_failed, level, standing, taken}
-use Rattle.call_history.specs.Legal.{IsLegalBehind, IsPrefix}
-use Rattle.call_history.specs.Rules.{EndsWithLink, IsLinkRefusal, Lets, May, RefusesDrawn, RefusesMalformed, Under, cap_of, payload}
+use Rattle.call_history.specs.Trace.{Trace, has_failed, level_in_trace, pending_calls, taken}
+use Rattle.call_history.specs.Legal.{IsLegalTrace, IsLegalPrefix}
+use Rattle.call_history.specs.Rules.{IsEndedWithLink, IsLinkRefusal, IsAllowedInTrace, CanFollow, IsRefusedIfPastCap, IsMalformedRefusedAtOnce, JudgeContext, cap_of, payload}
 use Rattle.call_history.specs.declared.happening.Cause.TheVariants as cause
 use Rattle.call_history.specs.declared.happening.Happening.{Happening}
 use Rattle.call_history.specs.declared.happening.Happening.TheVariants.{Took, Op, Charged, Drawn, Counted, Sent, Refused}
-use Rattle.call_history.specs.declared.happening.Taken.{Taken}
+use Rattle.call_history.specs.declared.happening.AcceptedCall.{AcceptedCall}
 use Rattle.call_history.specs.declared.happening.TookCopy.TheVariants.{Copy}
 
 -- ---- requests with 7
@@ -34,13 +34,13 @@ table = record {
   methods = record { service = codes "S"; name = codes "Get"; input = 0; output = 0 } ∷ [];
 }
 
-abbrev under : Under
+abbrev under : JudgeContext
 under = record { conn = 1; table = table; limit = 1024 }
 
 abbrev with_7 : Node
 with_7 = field 1 (one (number 7)) no_fields
 
-abbrev seven : ℕ → Taken
+abbrev seven : ℕ → AcceptedCall
 seven seq = record { seq = seq; method = 0; number = 0; addr = 2; after = 1; count = 1; copy = Copy with_7 }
 
 abbrev form_of : ℕ → Call
@@ -58,11 +58,11 @@ unfolding varint groups
 long-7 seq = refl
 
 -- the link hasn't failed
-stands_open : (past : Behind) (next : Happening) → has_failed past ≡ false → IsLinkRefusal past next → EndsWithLink past next
+stands_open : (past : Trace) (next : Happening) → has_failed past ≡ false → IsLinkRefusal past next → IsEndedWithLink past next
 stands_open past next live refusal = (λ failed. absurd (let wrong : false ≡ true = sym live ∙ failed in cc), refusal)
 
-may-take : (past : Behind) (seq : ℕ) → has_failed past ≡ false → seq ≡ length (taken past) + 1 → length (standing past) < 64
-    → RefusesMalformed past (Took (seven seq)) → RefusesDrawn past (Took (seven seq)) → May under past (Took (seven seq))
+may-take : (past : Trace) (seq : ℕ) → has_failed past ≡ false → seq ≡ length (taken past) + 1 → length (pending_calls past) < 64
+    → IsMalformedRefusedAtOnce past (Took (seven seq)) → IsRefusedIfPastCap past (Took (seven seq)) → CanFollow under past (Took (seven seq))
 may-take past seq live next few malformed over = record {
   numbered = record { number = next; few = few; loads = omega arith; copy = (omega arith, normal-7) };
   malformed = malformed;
@@ -84,7 +84,7 @@ in_one name other has = All-contains (λ z. name ≡ z) (name ∷ []) other (All
 
 free-attach : (entries : List Entry) (at : ℕ) (name label : List ℕ) (policy : Policy) (refusal : Refusal)
     → (Contains (names_of entries) name → ⊥) → (length entries < at → ⊥) → length entries < 8
-    → IsAgainst entries (Attach at name label policy) refusal → ⊥
+    → IsReasonToReject entries (Attach at name label policy) refusal → ⊥
 free-attach entries at name label policy refusal none within few (detaches_none n is not r) = cc
 free-attach entries at name label policy refusal none within few (upgrades_none n l p is not r) = cc
 free-attach entries at name label policy refusal none within few (is_taken a n l p is some r) = let names : n ≡ name = cc in none (rw (← names) some)
@@ -93,13 +93,13 @@ free-attach entries at name label policy refusal none within few (is_full a n l 
 free-attach entries at name label policy refusal none within few (is_other n l p e is there named differs r) = cc
 
 attached-first : (many : ℕ) (name label : List ℕ) (policy : Policy)
-    → Changes (record { entries = []; attached = many }) (Attach 0 name label policy) (changed (Attach 0 name label policy) (record { entries = []; attached = many }))
+    → HasChanged (record { entries = []; attached = many }) (Attach 0 name label policy) (changed (Attach 0 name label policy) (record { entries = []; attached = many }))
 attached-first many name label policy = record {
   free = λ refusal. free-attach [] 0 name label policy refusal (in_nothing name) (λ less. omega (arith, less)) (omega arith);
-  makes = attaches 0 name label policy [] [] refl refl refl refl;
+  effect = attaches 0 name label policy [] [] refl refl refl refl;
 }
 
-may-attach : (name label : List ℕ) (policy : Policy) → May under [] (Op (Attach 0 name label policy))
+may-attach : (name label : List ℕ) (policy : Policy) → CanFollow under [] (Op (Attach 0 name label policy))
 may-attach name label policy = record {
   numbered = tt;
   malformed = tt;
@@ -119,16 +119,16 @@ q = codes "q"
 abbrev one_ticket : Policy
 one_ticket = Quota 0 1000 1
 
-abbrev two_taken : Behind
+abbrev two_taken : Trace
 two_taken = Took (seven 2) ∷ Took (seven 1) ∷ Op (Attach 0 q q one_ticket) ∷ []
 
-abbrev drawn_once : Behind
+abbrev drawn_once : Trace
 drawn_once = Drawn 1 q 0 0 ∷ two_taken
 
-abbrev drawn_twice : Behind
+abbrev drawn_twice : Trace
 drawn_twice = Drawn 2 q 0 1 ∷ drawn_once
 
-abbrev over_cap : Behind
+abbrev over_cap : Trace
 over_cap = Refused 2 (cause.Quota q 1 1) ∷ drawn_twice
 
 one-cap : (policy : Policy) (cap : ℕ) → Some one_ticket ≡ Some policy → cap_of policy ≡ Some cap → 1 ≡ cap
@@ -139,7 +139,7 @@ one-cap policy cap is has =
 not-drawn : (ticket : ℕ) → nothing ≡ drawn ticket → ⊥
 not-drawn ticket e = cc
 
-may-draw_first : May under two_taken (Drawn 1 q 0 0)
+may-draw_first : CanFollow under two_taken (Drawn 1 q 0 0)
 may-draw_first = record {
   numbered = tt;
   malformed = tt;
@@ -147,7 +147,7 @@ may-draw_first = record {
   notes_due = record {
     meets = record {
       entry = new_entry q 1 one_ticket;
-      at = record { front = []; back = []; entries = refl; named = refl; call_stands = (0, omega arith, refl); let_pass = All-nil _ };
+      at = record { front = []; back = []; entries = refl; named = refl; is_pending = (0, omega arith, refl); allowed = All-nil _ };
       gives = draws 0 1000 1 0 refl not-drawn refl;
     };
     ascends = All-nil _;
@@ -158,7 +158,7 @@ may-draw_first = record {
   link_end = stands_open two_taken (Drawn 1 q 0 0) refl tt;
 }
 
-may-draw_second : May under drawn_once (Drawn 2 q 0 1)
+may-draw_second : CanFollow under drawn_once (Drawn 2 q 0 1)
 may-draw_second = record {
   numbered = tt;
   malformed = tt;
@@ -166,7 +166,7 @@ may-draw_second = record {
   notes_due = record {
     meets = record {
       entry = new_entry q 1 one_ticket;
-      at = record { front = []; back = []; entries = refl; named = refl; call_stands = (1, omega arith, refl); let_pass = All-nil _ };
+      at = record { front = []; back = []; entries = refl; named = refl; is_pending = (1, omega arith, refl); allowed = All-nil _ };
       gives = draws 0 1000 1 1 refl not-drawn refl;
     };
     ascends = All-cons (λ other. other < 2) 1 [] (omega arith) (All-nil _);
@@ -177,7 +177,7 @@ may-draw_second = record {
   link_end = stands_open drawn_once (Drawn 2 q 0 1) refl tt;
 }
 
-may-refuse_second : May under drawn_twice (Refused 2 (cause.Quota q 1 1))
+may-refuse_second : CanFollow under drawn_twice (Refused 2 (cause.Quota q 1 1))
 may-refuse_second = record {
   numbered = tt;
   malformed = tt;
@@ -187,13 +187,13 @@ may-refuse_second = record {
   in_order = tt;
   answered = record {
     entry = new_entry q 1 one_ticket;
-    at = record { front = []; back = []; entries = refl; named = refl; call_stands = (1, omega arith, refl); let_pass = All-nil _ };
+    at = record { front = []; back = []; entries = refl; named = refl; is_pending = (1, omega arith, refl); allowed = All-nil _ };
     gives = is_over 0 1000 1 1 refl refl (omega arith) refl;
   };
   link_end = stands_open drawn_twice (Refused 2 (cause.Quota q 1 1)) refl tt;
 }
 
-may-send_first : May under over_cap (Sent 1 18)
+may-send_first : CanFollow under over_cap (Sent 1 18)
 may-send_first = record {
   numbered = tt;
   malformed = tt;
@@ -205,7 +205,7 @@ may-send_first = record {
     others = [];
     first = refl;
     number = refl;
-    let_pass = All-cons (Lets under over_cap 1) (new_entry q 1 one_ticket) [] (is_within 0 1000 1 0 refl refl (omega arith) refl) (All-nil _);
+    allowed = All-cons (IsAllowedInTrace under over_cap 1) (new_entry q 1 one_ticket) [] (is_within 0 1000 1 0 refl refl (omega arith) refl) (All-nil _);
     sent = form_of 1;
     is_form = refl;
     long = long-7 1;
@@ -215,7 +215,7 @@ may-send_first = record {
 }
 
 -- the second call's ticket is the cap: it is refused, and the first is sent
-legal-quota : IsLegalBehind under (Sent 1 18 ∷ over_cap)
+legal-quota : IsLegalTrace under (Sent 1 18 ∷ over_cap)
 legal-quota = record {
   prefix = (
     (
@@ -250,13 +250,13 @@ none_allowed = record { rules = []; allow = false }
 abbrev closing : Policy
 closing = Access none_allowed
 
-abbrev one_counted : Behind
+abbrev one_counted : Trace
 one_counted = Counted 1 c ∷ Took (seven 1) ∷ Op (Attach 0 c c Count) ∷ []
 
-abbrev then_closed : Behind
+abbrev then_closed : Trace
 then_closed = Op (Attach 1 d d closing) ∷ one_counted
 
-may-count : May under (Took (seven 1) ∷ Op (Attach 0 c c Count) ∷ []) (Counted 1 c)
+may-count : CanFollow under (Took (seven 1) ∷ Op (Attach 0 c c Count) ∷ []) (Counted 1 c)
 may-count = record {
   numbered = tt;
   malformed = tt;
@@ -264,7 +264,7 @@ may-count = record {
   notes_due = record {
     meets = record {
       entry = new_entry c 1 Count;
-      at = record { front = []; back = []; entries = refl; named = refl; call_stands = (0, omega arith, refl); let_pass = All-nil _ };
+      at = record { front = []; back = []; entries = refl; named = refl; is_pending = (0, omega arith, refl); allowed = All-nil _ };
       gives = counts refl refl refl;
     };
     ascends = All-nil _;
@@ -278,13 +278,13 @@ may-count = record {
 c-is-no-d : Contains (c ∷ []) d → ⊥
 c-is-no-d has = let same : 99 ≡ 100 = ap (λ (l : List ℕ). get_or l 0 0) (in_one c d has) in omega (arith, same)
 
-may-attach_second : May under one_counted (Op (Attach 1 d d closing))
+may-attach_second : CanFollow under one_counted (Op (Attach 1 d d closing))
 may-attach_second = record {
   numbered = tt;
   malformed = tt;
   chain_kept = record {
     free = λ refusal. free-attach (new_entry c 1 Count ∷ []) 1 d d closing refusal c-is-no-d (λ less. omega (arith, less)) (omega arith);
-    makes = attaches 1 d d closing (new_entry c 1 Count ∷ []) [] refl refl refl refl;
+    effect = attaches 1 d d closing (new_entry c 1 Count ∷ []) [] refl refl refl refl;
   };
   notes_due = tt;
   drawn_refused = tt;
@@ -296,7 +296,7 @@ may-attach_second = record {
 was-noted : counted ≡ nothing → ⊥
 was-noted e = cc
 
-may-refuse_counted : May under then_closed (Refused 1 (cause.Access d 1 (codes "default")))
+may-refuse_counted : CanFollow under then_closed (Refused 1 (cause.Access d 1 (codes "default")))
 may-refuse_counted = record {
   numbered = tt;
   malformed = tt;
@@ -311,8 +311,8 @@ may-refuse_counted = record {
       back = [];
       entries = refl;
       named = refl;
-      call_stands = (0, omega arith, refl);
-      let_pass = All-cons (Lets under then_closed 1) (new_entry c 1 Count) [] (was_counted refl was-noted refl) (All-nil _);
+      is_pending = (0, omega arith, refl);
+      allowed = All-cons (IsAllowedInTrace under then_closed 1) (new_entry c 1 Count) [] (was_counted refl was-noted refl) (All-nil _);
     };
     present = refl;
     policy = none_allowed;
@@ -324,7 +324,7 @@ may-refuse_counted = record {
   link_end = stands_open then_closed (Refused 1 (cause.Access d 1 (codes "default"))) refl tt;
 }
 
-legal-counted : IsLegalBehind under (Refused 1 (cause.Access d 1 (codes "default")) ∷ then_closed)
+legal-counted : IsLegalTrace under (Refused 1 (cause.Access d 1 (codes "default")) ∷ then_closed)
 legal-counted = record {
   prefix = (
     ((((tt, may-attach c c Count), may-take (Op (Attach 0 c c Count) ∷ []) 1 refl refl (omega arith) tt tt), may-count), may-attach_second),
@@ -347,31 +347,31 @@ one_at_once = record { amount = 1; per = 1000; burst = 1; hold = true }
 abbrev holding : Policy
 holding = Rate one_at_once
 
-abbrev three_taken : Behind
+abbrev three_taken : Trace
 three_taken = Took (seven 3) ∷ Took (seven 2) ∷ Took (seven 1) ∷ Op (Attach 0 rl r1 holding) ∷ []
 
-abbrev charged_first : Behind
+abbrev charged_first : Trace
 charged_first = Charged 1 rl 0 ∷ three_taken
 
-abbrev sent_first : Behind
+abbrev sent_first : Trace
 sent_first = Sent 1 18 ∷ charged_first
 
-abbrev detached : Behind
+abbrev detached : Trace
 detached = Op (Detach rl) ∷ sent_first
 
-abbrev again : Behind
+abbrev again : Trace
 again = Op (Attach 0 rl r1 holding) ∷ detached
 
-abbrev charged_second : Behind
+abbrev charged_second : Trace
 charged_second = Charged 2 rl 0 ∷ again
 
-level-first : level rl three_taken ≡ 1000
+level-first : level_in_trace rl three_taken ≡ 1000
 level-first = refl
 
-level-again : level rl again ≡ 1000
+level-again : level_in_trace rl again ≡ 1000
 level-again = refl
 
-may-charge_first : May under three_taken (Charged 1 rl 0)
+may-charge_first : CanFollow under three_taken (Charged 1 rl 0)
 may-charge_first = record {
   numbered = tt;
   malformed = tt;
@@ -379,7 +379,7 @@ may-charge_first = record {
   notes_due = record {
     meets = record {
       entry = new_entry rl 1 holding;
-      at = record { front = []; back = []; entries = refl; named = refl; call_stands = (0, omega arith, refl); let_pass = All-nil _ };
+      at = record { front = []; back = []; entries = refl; named = refl; is_pending = (0, omega arith, refl); allowed = All-nil _ };
       gives = charges one_at_once refl refl (omega (arith, level-first)) refl;
     };
     ascends = All-nil _;
@@ -390,7 +390,7 @@ may-charge_first = record {
   link_end = stands_open three_taken (Charged 1 rl 0) refl tt;
 }
 
-may-charge_second : May under again (Charged 2 rl 0)
+may-charge_second : CanFollow under again (Charged 2 rl 0)
 may-charge_second = record {
   numbered = tt;
   malformed = tt;
@@ -398,7 +398,7 @@ may-charge_second = record {
   notes_due = record {
     meets = record {
       entry = new_entry rl 2 holding;
-      at = record { front = []; back = []; entries = refl; named = refl; call_stands = (0, omega arith, refl); let_pass = All-nil _ };
+      at = record { front = []; back = []; entries = refl; named = refl; is_pending = (0, omega arith, refl); allowed = All-nil _ };
       gives = charges one_at_once refl refl (omega (arith, level-again)) refl;
     };
     ascends = All-nil _;
@@ -412,7 +412,7 @@ may-charge_second = record {
 was-charged : charged ≡ nothing → ⊥
 was-charged e = cc
 
-may-send_charged : May under charged_first (Sent 1 18)
+may-send_charged : CanFollow under charged_first (Sent 1 18)
 may-send_charged = record {
   numbered = tt;
   malformed = tt;
@@ -424,7 +424,7 @@ may-send_charged = record {
     others = seven 2 ∷ seven 3 ∷ [];
     first = refl;
     number = refl;
-    let_pass = All-cons (Lets under charged_first 1) (new_entry rl 1 holding) [] (was_charged one_at_once refl was-charged refl) (All-nil _);
+    allowed = All-cons (IsAllowedInTrace under charged_first 1) (new_entry rl 1 holding) [] (was_charged one_at_once refl was-charged refl) (All-nil _);
     sent = form_of 1;
     is_form = refl;
     long = long-7 1;
@@ -433,7 +433,7 @@ may-send_charged = record {
   link_end = stands_open charged_first (Sent 1 18) refl tt;
 }
 
-may-send_second : May under charged_second (Sent 2 18)
+may-send_second : CanFollow under charged_second (Sent 2 18)
 may-send_second = record {
   numbered = tt;
   malformed = tt;
@@ -445,7 +445,7 @@ may-send_second = record {
     others = seven 3 ∷ [];
     first = refl;
     number = refl;
-    let_pass = All-cons (Lets under charged_second 2) (new_entry rl 2 holding) [] (was_charged one_at_once refl was-charged refl) (All-nil _);
+    allowed = All-cons (IsAllowedInTrace under charged_second 2) (new_entry rl 2 holding) [] (was_charged one_at_once refl was-charged refl) (All-nil _);
     sent = form_of 2;
     is_form = refl;
     long = long-7 2;
@@ -454,7 +454,7 @@ may-send_second = record {
   link_end = stands_open charged_second (Sent 2 18) refl tt;
 }
 
-free-detach : (refusal : Refusal) → IsAgainst (new_entry rl 1 holding ∷ []) (Detach rl) refusal → ⊥
+free-detach : (refusal : Refusal) → IsReasonToReject (new_entry rl 1 holding ∷ []) (Detach rl) refusal → ⊥
 free-detach refusal (detaches_none n is not r) = let names : n ≡ rl = cc in not (rw names (0, omega arith, refl))
 free-detach refusal (upgrades_none n l p is not r) = cc
 free-detach refusal (is_taken a n l p is some r) = cc
@@ -462,11 +462,11 @@ free-detach refusal (is_past a n l p is past r) = cc
 free-detach refusal (is_full a n l p is full r) = cc
 free-detach refusal (is_other n l p e is there named differs r) = cc
 
-may-detach : May under sent_first (Op (Detach rl))
+may-detach : CanFollow under sent_first (Op (Detach rl))
 may-detach = record {
   numbered = tt;
   malformed = tt;
-  chain_kept = record { free = free-detach; makes = detaches rl (new_entry rl 1 holding) [] [] refl refl refl refl };
+  chain_kept = record { free = free-detach; effect = detaches rl (new_entry rl 1 holding) [] [] refl refl refl refl };
   notes_due = tt;
   drawn_refused = tt;
   in_order = tt;
@@ -474,7 +474,7 @@ may-detach = record {
   link_end = stands_open sent_first (Op (Detach rl)) refl tt;
 }
 
-may-attach_again : May under detached (Op (Attach 0 rl r1 holding))
+may-attach_again : CanFollow under detached (Op (Attach 0 rl r1 holding))
 may-attach_again = record {
   numbered = tt;
   malformed = tt;
@@ -486,7 +486,7 @@ may-attach_again = record {
   link_end = stands_open detached (Op (Attach 0 rl r1 holding)) refl tt;
 }
 
-prefix-taken : IsPrefix under three_taken
+prefix-taken : IsLegalPrefix under three_taken
 prefix-taken = (
   (
     ((tt, may-attach rl r1 holding), may-take (Op (Attach 0 rl r1 holding) ∷ []) 1 refl refl (omega arith) tt tt),
@@ -496,7 +496,7 @@ prefix-taken = (
 )
 
 -- the second call is charged again, and the third is pending
-legal-again : IsLegalBehind under (Sent 2 18 ∷ charged_second)
+legal-again : IsLegalTrace under (Sent 2 18 ∷ charged_second)
 legal-again = record {
   prefix = ((((((prefix-taken, may-charge_first), may-send_charged), may-detach), may-attach_again), may-charge_second), may-send_second);
   closed = record { malformed = λ z. z; quota = λ z. z; link = λ link. absurd (let wrong : false ≡ true = link.failed in cc) };

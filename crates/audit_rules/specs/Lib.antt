@@ -1,6 +1,6 @@
 pub mod Asking
-pub mod First
+pub mod BrokenRules
 pub mod Given
-pub mod Knowing
-pub mod Sorts
-pub mod Telling
+pub mod CheckerState
+pub mod EventKinds
+pub mod PendingLines

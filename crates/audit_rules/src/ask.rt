@@ -8,23 +8,23 @@ ghost use Rattle.engine_core.specs.Answers.{pass};
 ghost use Rattle.engine_core.specs.Chains.{Entry};
 ghost use Rattle.engine_core.specs.Marks.{seqs_of};
 ghost use Rattle.engine_core.specs.Turns.{noted_in};
-ghost use Rattle.engine_core.specs.Working.{Works};
-ghost use Rattle.call_history.specs.Behind.{Behind, moment, standing};
-ghost use Rattle.call_history.specs.Legal.{IsPrefix};
-ghost use Rattle.call_history.specs.Rules.{IsAt, Under};
+ghost use Rattle.engine_core.specs.Working.{HasWorked};
+ghost use Rattle.call_history.specs.Trace.{Trace, timestamp, pending_calls};
+ghost use Rattle.call_history.specs.Legal.{IsLegalPrefix};
+ghost use Rattle.call_history.specs.Rules.{IsAt, JudgeContext};
 ghost use Rattle.call_history.specs.Ties.{AreNumbersApart, AreTied};
-ghost use Rattle.audit_rules.specs.Asking.{IsAsked, IsRising, IsRowBehind, LetsAll, answer_of};
+ghost use Rattle.audit_rules.specs.Asking.{IsEntryOutcome, IsRising, IsRowOfTrace, HasPassedFirst, answer_of};
 
-use crate::drawn::Draws;
-use crate::prepared::Prepared;
-use call_history::{chain_goes_on, ties_go_on};
-use engine_core::{CallRow, Engine, Noted, Outcome, one_answer, place_named};
+use crate::drawn::DrawTrace;
+use crate::fixed_ticket::FixedTicket;
+use call_history::{chain_after_event, ties_after_event};
+use engine_core::{CallRow, Engine, Noted, Outcome, answer_is_unique, position_named};
 use mrpc_table::Table;
 use std::collections::VecDeque;
 
 // A pending call, the entry of a name that it has reached, and the outcome of that entry's turn.
 #[derive(Clone, Copy)]
-pub(crate) struct Asked {
+pub(crate) struct EntryOutcome {
     pub place: usize,
     pub at: usize,
     pub outcome: Outcome,
@@ -91,11 +91,11 @@ pub(crate) fn work(
     requires engine { at < length engines.old }
     requires few { length engines.old ≤ 8 }
     requires of_table { All (λ s. IsCallOf table.now s.call) calls.old }
-    ensures works { Works engines.old calls.old at place now result engines.new calls.new }
+    ensures works { HasWorked engines.old calls.old at place now result engines.new calls.new }
     ensures drawn { (window drawn : ℕ) → noted_in result ≡ Noted.Drawn window drawn → drawn ≡ ticket }
 {
-    let draws = Draws::new();
-    let mut prepared = Prepared { ticket, draws };
+    let draws = DrawTrace::new();
+    let mut prepared = FixedTicket { ticket, draws };
     calls.work(place, engines, at, table, now, &mut prepared, false)
 }
 
@@ -113,23 +113,23 @@ pub(crate) fn reaches(
     requires engine { at ≤ length engines.old }
     requires few { length engines.old ≤ 8 }
     requires of_table { All (λ s. IsCallOf table.now s.call) calls.old }
-    ensures passes { (u : Under) (past : Behind) (attached seq : ℕ) → IsPrefix u past
-        → AreTied u.conn past engines.old attached calls.old → AreNumbersApart calls.old → now ≡ moment past
-        → slice_get (seqs_of calls.old) place ≡ Some seq → LetsAll u past seq from
-        → OnTrue result (LetsAll u past seq at) }
-    ensures stops { (u : Under) (past : Behind) (attached seq : ℕ) → IsPrefix u past
-        → AreTied u.conn past engines.old attached calls.old → AreNumbersApart calls.old → now ≡ moment past
-        → slice_get (seqs_of calls.old) place ≡ Some seq → LetsAll u past seq from
-        → OnFalse result (LetsAll u past seq at → ⊥) }
-    ensures ties { OnTrue result ((u : Under) (past : Behind) (attached : ℕ) → IsPrefix u past
+    ensures passes { (u : JudgeContext) (past : Trace) (attached seq : ℕ) → IsLegalPrefix u past
+        → AreTied u.conn past engines.old attached calls.old → AreNumbersApart calls.old → now ≡ timestamp past
+        → slice_get (seqs_of calls.old) place ≡ Some seq → HasPassedFirst u past seq from
+        → OnTrue result (HasPassedFirst u past seq at) }
+    ensures stops { (u : JudgeContext) (past : Trace) (attached seq : ℕ) → IsLegalPrefix u past
+        → AreTied u.conn past engines.old attached calls.old → AreNumbersApart calls.old → now ≡ timestamp past
+        → slice_get (seqs_of calls.old) place ≡ Some seq → HasPassedFirst u past seq from
+        → OnFalse result (HasPassedFirst u past seq at → ⊥) }
+    ensures ties { OnTrue result ((u : JudgeContext) (past : Trace) (attached : ℕ) → IsLegalPrefix u past
         → AreTied u.conn past engines.old attached calls.old → AreNumbersApart calls.old
         → AreTied u.conn past engines.new attached calls.new) }
     ensures numbers { seqs_of calls.new ≡ seqs_of calls.old }
     ensures entries { map (λ e. e.entry) engines.new ≡ map (λ e. e.entry) engines.old }
     ensures of_table { All (λ s. IsCallOf table.now s.call) calls.new }
 {
-    ties_go_on();
-    one_answer();
+    ties_after_event();
+    answer_is_unique();
     for next in from..at {
         let outcome = work(calls, place, engines, next, table, now, 0);
         if !is_pass(outcome) {
@@ -158,19 +158,19 @@ pub(crate) fn ask(
     table: &Table,
     now: u64,
     ticket: u64,
-) -> Option<Asked>
+) -> Option<EntryOutcome>
     requires rising { (top : ℕ) × IsRising 0 top (seqs_of calls.old) }
     requires few { length engines.old ≤ 8 }
     requires of_table { All (λ s. IsCallOf table.now s.call) calls.old }
     requires reached { length reached.old.items ≡ length calls.old }
-    ensures asked { (u : Under) (past : Behind) (attached : ℕ)
-        → IsRowBehind u past engines.old attached calls.old reached.old.items now
-        → seqs_of calls.old ≡ map (λ call. call.seq) (standing past)
-        → IfSome result (λ a. IsAsked u past attached seq name.now a calls.old engines.new calls.new
+    ensures asked { (u : JudgeContext) (past : Trace) (attached : ℕ)
+        → IsRowOfTrace u past engines.old attached calls.old reached.old.items now
+        → seqs_of calls.old ≡ map (λ call. call.seq) (pending_calls past)
+        → IfSome result (λ a. IsEntryOutcome u past attached seq name.now a calls.old engines.new calls.new
         reached.new.items) }
-    ensures none { (u : Under) (past : Behind) (attached : ℕ)
-        → IsRowBehind u past engines.old attached calls.old reached.old.items now
-        → seqs_of calls.old ≡ map (λ call. call.seq) (standing past)
+    ensures none { (u : JudgeContext) (past : Trace) (attached : ℕ)
+        → IsRowOfTrace u past engines.old attached calls.old reached.old.items now
+        → seqs_of calls.old ≡ map (λ call. call.seq) (pending_calls past)
         → IfNone result ((e : Entry) → IsAt u past seq name.now e → ⊥) }
     ensures drawn { IfSome result (λ a. (window drawn : ℕ) → noted_in a.outcome ≡ Noted.Drawn window drawn
         → drawn ≡ ticket) }
@@ -180,15 +180,15 @@ pub(crate) fn ask(
     ensures places { length reached.new.items ≡ length reached.old.items }
     ensures capacity { deque_capacity reached.new ≡ deque_capacity reached.old }
 {
-    chain_goes_on();
-    ties_go_on();
+    chain_after_event();
+    ties_after_event();
     let place = place_of_call(calls, seq)?;
-    let at = place_named(engines, name)?;
+    let at = position_named(engines, name)?;
     let from = reached[place];
     if !reaches(calls, place, engines, from, at, table, now) {
         return None;
     }
     reached[place] = at;
     let outcome = work(calls, place, engines, at, table, now, ticket);
-    Some(Asked { place, at, outcome })
+    Some(EntryOutcome { place, at, outcome })
 }

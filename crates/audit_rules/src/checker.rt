@@ -6,24 +6,26 @@ ghost use Rattle.std.specs.Prelude.{IfNone, IfOk, IfSome, IsTrue, None, Some};
 ghost use Rattle.std.specs.Prelude.{length, slice_get};
 ghost use Rattle.mrpc_table.specs.Valid.{IsValid};
 ghost use Rattle.mrpc_table.specs.declared.table.Table.{Table as TheTable};
-ghost use Rattle.call_history.specs.Behind.{Behind, standing};
-ghost use Rattle.call_history.specs.Legal.{AwaitsLink, IsSettledUp};
-ghost use Rattle.call_history.specs.Rules.{IsNumbered, MayTake, RefusesDrawn, RefusesMalformed, EndsWithLink, May};
-ghost use Rattle.call_history.specs.Rules.{KeepsChain};
+ghost use Rattle.call_history.specs.Trace.{Trace, pending_calls};
+ghost use Rattle.call_history.specs.Legal.{HasLinkObligation, HasNoObligation};
+ghost use Rattle.call_history.specs.Rules.{IsNumbered, MayTake, IsRefusedIfPastCap, IsMalformedRefusedAtOnce, IsEndedWithLink, CanFollow};
+ghost use Rattle.call_history.specs.Rules.{IsChainPreserved};
 ghost use Rattle.call_history.specs.declared.happening.Cause.TheVariants as cause;
 ghost use Rattle.call_history.specs.declared.happening.Happening.TheVariants.{Away, Drawn, Moment};
 ghost use Rattle.call_history.specs.declared.happening.Happening.TheVariants.{Redacted, Refused, Sent, Took};
-ghost use Rattle.audit_rules.specs.First.{BreaksFirst, IsLeftOpen};
-ghost use Rattle.audit_rules.specs.Knowing.{IsCopyBy, IsFree, IsFreeBefore, IsKnowing};
-ghost use Rattle.audit_rules.specs.Knowing.{IsReadable, Knows, LeavesOpen, Owns, numbers_of, under};
-ghost use Rattle.audit_rules.specs.Sorts.{first_of, own_rule};
-ghost use Rattle.audit_rules.specs.declared.left.Left.TheVariants.{Nothing};
+ghost use Rattle.audit_rules.specs.BrokenRules.{IsFirstBrokenRule, HasObligation};
+ghost use Rattle.audit_rules.specs.CheckerState.{IsCopyBy, HasNoMalformed, IsUnblocked, IsKnowing};
+ghost use Rattle.audit_rules.specs.CheckerState.{IsReadable, IsCheckerAfter, IsObligationAfter, IsOwnRuleKept, pending_numbers, checker_context};
+ghost use Rattle.audit_rules.specs.EventKinds.{first_broken_rule, own_rule};
+ghost use Rattle.audit_rules.specs.declared.obligation.Obligation.TheVariants.{Nothing};
 
 use crate::ask::seq_at;
-use crate::left::Left;
+use crate::event_kinds::{is_copy_by, is_quiet, is_refusal_over_cap, malformed_in, transport_in};
+use crate::obligation::Obligation;
 use crate::rule::Rule;
-use crate::sorts::{is_copy_by, is_over, is_quiet, malformed_in, transport_in};
-use call_history::{Happening, Taken, TookCopy, forms_go_on, standing_goes_on, ties_go_on};
+use call_history::{
+    AcceptedCall, Happening, TookCopy, forms_after_event, pending_after_event, ties_after_event,
+};
 use engine_core::{CallRow, Engine, MAX_CALLS, MAX_ENGINES, Noted, Op, Standing, clock_all};
 use mrpc_table::{Call, Memory, Table};
 use std::alloc::Global;
@@ -44,7 +46,7 @@ pub struct Checker {
     pub(crate) taken: u32,
     pub(crate) moment: u64,
     pub(crate) failed: bool,
-    pub(crate) left: Left,
+    pub(crate) left: Obligation,
     // How many pending calls the audit has listed so far, and the position of the last one.
     pub(crate) told: usize,
     pub(crate) position: usize,
@@ -54,11 +56,11 @@ impl Checker {
     /// Makes a checker of a connection without events, under a limit of loads. It reserves room for all engines and
     /// calls, so that later checks allocate nothing.
     pub fn open(alloc: Global, conn: u32, limit: u64) -> Result<Checker, Memory>
-        ensures knows { IfOk result (λ c. (T : TheTable) → Knows T [] c) }
+        ensures knows { IfOk result (λ c. (T : TheTable) → IsCheckerAfter T [] c) }
         ensures conn { IfOk result (λ c. (T : TheTable)
-            → under T c ≡ record { conn = conn; table = T; limit = limit }) }
+            → checker_context T c ≡ record { conn = conn; table = T; limit = limit }) }
     {
-        ties_go_on();
+        ties_after_event();
         Ok(Checker {
             conn,
             limit,
@@ -70,7 +72,7 @@ impl Checker {
             taken: 0,
             moment: 0,
             failed: false,
-            left: Left::Nothing,
+            left: Obligation::Nothing,
             told: 0,
             position: MAX_ENGINES,
         })
@@ -82,13 +84,13 @@ impl Checker {
         requires valid { IsValid table.now }
         requires knowing { IsKnowing table.now self.old }
         requires readable { IsReadable table.now what }
-        ensures may { (past : Behind) → Knows table.now past self.old
-            → IfNone result (May (under table.now self.old) past what) }
-        ensures knows { (past : Behind) → Knows table.now past self.old
-            → IfNone result (Knows table.now (what ∷ past) self.new) }
-        ensures breaks { (past : Behind) → Knows table.now past self.old
-            → IfSome result (λ rule. BreaksFirst (under table.now self.old) past what rule) }
-        ensures same { (T : TheTable) → under T self.new ≡ under T self.old }
+        ensures may { (past : Trace) → IsCheckerAfter table.now past self.old
+            → IfNone result (CanFollow (checker_context table.now self.old) past what) }
+        ensures knows { (past : Trace) → IsCheckerAfter table.now past self.old
+            → IfNone result (IsCheckerAfter table.now (what ∷ past) self.new) }
+        ensures breaks { (past : Trace) → IsCheckerAfter table.now past self.old
+            → IfSome result (λ rule. IsFirstBrokenRule (checker_context table.now self.old) past what rule) }
+        ensures same { (T : TheTable) → checker_context T self.new ≡ checker_context T self.old }
     {
         if !self.is_numbered(table, &what) {
             return Some(Rule::A);
@@ -99,32 +101,32 @@ impl Checker {
         let drawn = self.refuses_drawn(&what);
         let linked = self.keeps_link(&what);
         let own = own_rule(&what);
-        let kept = self.meets(table, what);
-        first_of(own, kept, drawn, linked)
+        let kept = self.apply(table, what);
+        first_broken_rule(own, kept, drawn, linked)
     }
 
     // ---- rules for every event
 
     // The number of pending calls, including a malformed one that awaits its refusal.
-    fn standing(&self) -> usize
-        ensures { result ≡ length (numbers_of self.now) }
+    fn pending_count(&self) -> usize
+        ensures { result ≡ length (pending_numbers self.now) }
     {
         match self.left {
-            Left::Waits { .. } => self.calls.len() + 1,
-            Left::Nothing | Left::Over { .. } => self.calls.len(),
+            Obligation::RefuseMalformed { .. } => self.calls.len() + 1,
+            Obligation::Nothing | Obligation::RefuseOverCap { .. } => self.calls.len(),
         }
     }
 
     // The number of the first pending call.
-    pub(crate) fn first(&self) -> Option<u32>
-        ensures { result ≡ slice_get (numbers_of self.now) 0 }
+    pub(crate) fn first_pending(&self) -> Option<u32>
+        ensures { result ≡ slice_get (pending_numbers self.now) 0 }
     {
         if !self.calls.is_empty() {
             return Some(seq_at(&self.calls, 0));
         }
         match self.left {
-            Left::Waits { seq } => Some(seq),
-            Left::Nothing | Left::Over { .. } => None,
+            Obligation::RefuseMalformed { seq } => Some(seq),
+            Obligation::Nothing | Obligation::RefuseOverCap { .. } => None,
         }
     }
 
@@ -132,50 +134,52 @@ impl Checker {
     // pending. Other events have no number to check.
     fn is_numbered(&self, table: &Table, what: &Happening) -> bool
         requires { IsReadable table.now what.now }
-        ensures { (past : Behind) → Knows table.now past self.now
-            → IsTrue result ↔ IsNumbered (under table.now self.now) past what.now }
+        ensures { (past : Trace) → IsCheckerAfter table.now past self.now
+            → IsTrue result ↔ IsNumbered (checker_context table.now self.now) past what.now }
     {
         match what {
             Happening::Took(call) => self.may_take(table, call),
-            Happening::Away { .. } => self.standing() == MAX_CALLS,
+            Happening::Away { .. } => self.pending_count() == MAX_CALLS,
             _ => true,
         }
     }
 
-    fn may_take(&self, table: &Table, call: &Taken) -> bool
+    fn may_take(&self, table: &Table, call: &AcceptedCall) -> bool
         requires { IsCopyBy table.now call.now call.now.copy }
-        ensures { (past : Behind) → Knows table.now past self.now
-            → IsTrue result ↔ MayTake (under table.now self.now) past call.now }
+        ensures { (past : Trace) → IsCheckerAfter table.now past self.now
+            → IsTrue result ↔ MayTake (checker_context table.now self.now) past call.now }
     {
         call.seq as u64 == self.taken as u64 + 1
-            && self.standing() < MAX_CALLS
+            && self.pending_count() < MAX_CALLS
             && call.count <= self.limit
             && is_copy_by(table, call)
     }
 
     // Returns true if a malformed call is refused at once, and no other call is refused as malformed.
     fn refuses_malformed(&self, what: &Happening) -> bool
-        ensures { (past : Behind) → LeavesOpen past self.now.left → IsTrue result ↔ RefusesMalformed past what.now }
+        ensures { (past : Trace) → IsObligationAfter past self.now.left
+            → IsTrue result ↔ IsMalformedRefusedAtOnce past what.now }
     {
         let refused = malformed_in(what);
         match self.left {
-            Left::Waits { seq } => refused == Some(seq),
-            Left::Nothing | Left::Over { .. } => refused.is_none(),
+            Obligation::RefuseMalformed { seq } => refused == Some(seq),
+            Obligation::Nothing | Obligation::RefuseOverCap { .. } => refused.is_none(),
         }
     }
 
     // Returns true if a call whose ticket isn't below the cap is refused at once.
     fn refuses_drawn(&self, what: &Happening) -> bool
-        ensures { (T : TheTable) (past : Behind) → Knows T past self.now → IsTrue result ↔ RefusesDrawn past what.now }
+        ensures { (T : TheTable) (past : Trace) → IsCheckerAfter T past self.now
+            → IsTrue result ↔ IsRefusedIfPastCap past what.now }
     {
         match self.left {
-            Left::Over {
+            Obligation::RefuseOverCap {
                 seq,
                 at,
                 ticket,
                 cap,
             } => self.refuses_over(what, seq, at, ticket, cap),
-            Left::Nothing | Left::Waits { .. } => true,
+            Obligation::Nothing | Obligation::RefuseMalformed { .. } => true,
         }
     }
 
@@ -185,7 +189,7 @@ impl Checker {
             ↔ (what.now ≡ Refused seq (cause.Quota e.entry.name ticket cap))) }
     {
         match self.engines.get(at) {
-            Some(engine) => is_over(what, seq, engine.name(), ticket, cap),
+            Some(engine) => is_refusal_over_cap(what, seq, engine.name(), ticket, cap),
             None => false,
         }
     }
@@ -193,43 +197,45 @@ impl Checker {
     // Returns true if the event keeps the rule of a failed link. A refusal for the link has to be that of the first
     // call. After a failure, any other event has to be an operation or a timestamp, and no call pending.
     fn keeps_link(&self, what: &Happening) -> bool
-        ensures { (T : TheTable) (past : Behind) → Knows T past self.now → IsTrue result ↔ EndsWithLink past what.now }
+        ensures { (T : TheTable) (past : Trace) → IsCheckerAfter T past self.now
+            → IsTrue result ↔ IsEndedWithLink past what.now }
     {
         match transport_in(what) {
-            Some(seq) => self.first() == Some(seq),
-            None => !self.failed || (is_quiet(what) && self.first().is_none()),
+            Some(seq) => self.first_pending() == Some(seq),
+            None => !self.failed || (is_quiet(what) && self.first_pending().is_none()),
         }
     }
 
     // ---- rules for one kind of event
 
     // Applies an event, and returns true if it keeps the rule of its own kind.
-    fn meets(&mut self, table: &Table, what: Happening) -> bool
+    fn apply(&mut self, table: &Table, what: Happening) -> bool
         requires valid { IsValid table.now }
         requires knowing { IsKnowing table.now self.old }
         requires readable { IsReadable table.now what }
-        requires numbered { (past : Behind) × Knows table.now past self.old
-            × IsNumbered (under table.now self.old) past what }
-        requires free { IsFreeBefore what self.old.left }
-        ensures kept { (past : Behind) → Knows table.now past self.old
-            → OnTrue result (Owns (under table.now self.old) past what (own_rule what)) }
-        ensures broken { (past : Behind) → Knows table.now past self.old
-            → OnFalse result (Owns (under table.now self.old) past what (own_rule what) → ⊥) }
-        ensures knows { (past : Behind) → Knows table.now past self.old → May (under table.now self.old) past what
-            → OnTrue result (Knows table.now (what ∷ past) self.new) }
-        ensures same { (T : TheTable) → under T self.new ≡ under T self.old }
+        requires numbered { (past : Trace) × IsCheckerAfter table.now past self.old
+            × IsNumbered (checker_context table.now self.old) past what }
+        requires free { IsUnblocked what self.old.left }
+        ensures kept { (past : Trace) → IsCheckerAfter table.now past self.old
+            → OnTrue result (IsOwnRuleKept (checker_context table.now self.old) past what (own_rule what)) }
+        ensures broken { (past : Trace) → IsCheckerAfter table.now past self.old
+            → OnFalse result (IsOwnRuleKept (checker_context table.now self.old) past what (own_rule what) → ⊥) }
+        ensures knows { (past : Trace) → IsCheckerAfter table.now past self.old
+            → CanFollow (checker_context table.now self.old) past what
+            → OnTrue result (IsCheckerAfter table.now (what ∷ past) self.new) }
+        ensures same { (T : TheTable) → checker_context T self.new ≡ checker_context T self.old }
     {
         match what {
             Happening::Took(call) => {
-                self.take(call);
+                self.accept(call);
                 true
             }
             Happening::Away { .. } => {
-                self.turn_away();
+                self.reject();
                 true
             }
             Happening::Op(step) => self.operate(step),
-            Happening::Moment { ms } => self.show(ms),
+            Happening::Moment { ms } => self.advance_clock(ms),
             Happening::Charged { seq, name, level } => {
                 self.note(table, seq, name.as_slice(), Noted::Charged { level })
             }
@@ -249,17 +255,19 @@ impl Checker {
     }
 
     // Adds an accepted call.
-    fn take(&mut self, call: Taken)
-        requires may { (T : TheTable) × (past : Behind) × Knows T past self.old × MayTake (under T self.old) past call }
-        requires free { IsFree self.old.left }
-        ensures knows { (T : TheTable) (past : Behind) → Knows T past self.old → May (under T self.old) past (Took call)
-            → Knows T (Took call ∷ past) self.new }
-        ensures same { (T : TheTable) → under T self.new ≡ under T self.old }
+    fn accept(&mut self, call: AcceptedCall)
+        requires may { (T : TheTable) × (past : Trace) × IsCheckerAfter T past self.old
+            × MayTake (checker_context T self.old) past call }
+        requires free { HasNoMalformed self.old.left }
+        ensures knows { (T : TheTable) (past : Trace) → IsCheckerAfter T past self.old
+            → CanFollow (checker_context T self.old) past (Took call)
+            → IsCheckerAfter T (Took call ∷ past) self.new }
+        ensures same { (T : TheTable) → checker_context T self.new ≡ checker_context T self.old }
     {
-        ties_go_on();
-        standing_goes_on();
-        forms_go_on();
-        let Taken {
+        ties_after_event();
+        pending_after_event();
+        forms_after_event();
+        let AcceptedCall {
             seq,
             method,
             number,
@@ -279,30 +287,31 @@ impl Checker {
                 self.calls.push(Standing::new(call));
                 self.reached.push_back_reserved(0);
             }
-            TookCopy::Malformed { .. } => self.left = Left::Waits { seq },
+            TookCopy::Malformed { .. } => self.left = Obligation::RefuseMalformed { seq },
         }
     }
 
     // A submission was rejected: nothing changes.
-    fn turn_away(&self)
-        ensures { (T : TheTable) (past : Behind) (method number addr : ℕ) → Knows T past self.now
-            → May (under T self.now) past (Away method number addr)
-            → Knows T (Away method number addr ∷ past) self.now }
+    fn reject(&self)
+        ensures { (T : TheTable) (past : Trace) (method number addr : ℕ) → IsCheckerAfter T past self.now
+            → CanFollow (checker_context T self.now) past (Away method number addr)
+            → IsCheckerAfter T (Away method number addr ∷ past) self.now }
     {
-        ties_go_on();
+        ties_after_event();
     }
 
     // Advances the clock to a later timestamp.
-    fn show(&mut self, now: u64) -> bool
-        ensures rises { (T : TheTable) (past : Behind) → Knows T past self.old
-            → OnTrue result (KeepsChain past (Moment now)) }
-        ensures stays { (T : TheTable) (past : Behind) → Knows T past self.old
-            → OnFalse result (KeepsChain past (Moment now) → ⊥) }
-        ensures knows { (T : TheTable) (past : Behind) → Knows T past self.old → May (under T self.old) past (Moment now)
-            → OnTrue result (Knows T (Moment now ∷ past) self.new) }
-        ensures same { (T : TheTable) → under T self.new ≡ under T self.old }
+    fn advance_clock(&mut self, now: u64) -> bool
+        ensures rises { (T : TheTable) (past : Trace) → IsCheckerAfter T past self.old
+            → OnTrue result (IsChainPreserved past (Moment now)) }
+        ensures stays { (T : TheTable) (past : Trace) → IsCheckerAfter T past self.old
+            → OnFalse result (IsChainPreserved past (Moment now) → ⊥) }
+        ensures knows { (T : TheTable) (past : Trace) → IsCheckerAfter T past self.old
+            → CanFollow (checker_context T self.old) past (Moment now)
+            → OnTrue result (IsCheckerAfter T (Moment now ∷ past) self.new) }
+        ensures same { (T : TheTable) → checker_context T self.new ≡ checker_context T self.old }
     {
-        ties_go_on();
+        ties_after_event();
         if now <= self.moment {
             return false;
         }
@@ -314,32 +323,35 @@ impl Checker {
     // ---- the end
 
     /// The first rule with an obligation; `None` if there is none.
-    pub fn left_open(&self) -> Option<Rule>
-        ensures settled { (T : TheTable) (past : Behind) → Knows T past self.now → IfNone result (IsSettledUp past) }
-        ensures open { (T : TheTable) (past : Behind) → Knows T past self.now
-            → IfSome result (λ rule. IsLeftOpen past rule) }
+    pub fn first_obligation(&self) -> Option<Rule>
+        ensures settled { (T : TheTable) (past : Trace) → IsCheckerAfter T past self.now
+            → IfNone result (HasNoObligation past) }
+        ensures open { (T : TheTable) (past : Trace) → IsCheckerAfter T past self.now
+            → IfSome result (λ rule. HasObligation past rule) }
     {
         match self.left {
-            Left::Waits { .. } => Some(Rule::B),
-            Left::Over { .. } => Some(Rule::D),
-            Left::Nothing if self.awaits_link() => Some(Rule::G),
-            Left::Nothing => None,
+            Obligation::RefuseMalformed { .. } => Some(Rule::B),
+            Obligation::RefuseOverCap { .. } => Some(Rule::D),
+            Obligation::Nothing if self.awaits_link() => Some(Rule::G),
+            Obligation::Nothing => None,
         }
     }
 
     // Returns true if calls are pending on a failed link.
     fn awaits_link(&self) -> bool
-        ensures awaits { (T : TheTable) (past : Behind) → Knows T past self.now → OnTrue result (AwaitsLink past) }
-        ensures none { (T : TheTable) (past : Behind) → Knows T past self.now → OnFalse result (AwaitsLink past → ⊥) }
+        ensures awaits { (T : TheTable) (past : Trace) → IsCheckerAfter T past self.now
+            → OnTrue result (HasLinkObligation past) }
+        ensures none { (T : TheTable) (past : Trace) → IsCheckerAfter T past self.now
+            → OnFalse result (HasLinkObligation past → ⊥) }
     {
-        self.failed && self.first().is_some()
+        self.failed && self.first_pending().is_some()
     }
 }
 
 // The first rule that an event breaks; `None` if it breaks none. The flags say whether it keeps its own rule, refuses
 // what was drawn, and respects a failed link.
-pub(crate) fn first_of(own: Rule, kept: bool, drawn: bool, linked: bool) -> Option<Rule>
-    ensures { result ≡ first_of own kept drawn linked }
+pub(crate) fn first_broken_rule(own: Rule, kept: bool, drawn: bool, linked: bool) -> Option<Rule>
+    ensures { result ≡ first_broken_rule own kept drawn linked }
 {
     if !kept && own == Rule::C {
         Some(Rule::C)

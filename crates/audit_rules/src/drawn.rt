@@ -7,33 +7,33 @@ use std::marker::Model;
 
 // A draw in a window of a tenant.
 #[derive(Clone, Copy)]
-pub(crate) struct Draw {
+pub(crate) struct GhostDraw {
     pub tenant: u32,
     pub window: u64,
 }
 
 // The tenant and the window of each draw, latest first.
 #[derive(Drop)]
-pub(crate) struct Draws {
+pub(crate) struct DrawTrace {
     pub ghost list: { List (ℕ × ℕ) },
 }
 
-impl Model for Draws {
+impl Model for DrawTrace {
     ghost also_owns = { λ _. ftrue };
 }
 
-impl Draws {
+impl DrawTrace {
     // No draws.
-    pub(crate) fn new() -> Draws
+    pub(crate) fn new() -> DrawTrace
         ensures { result.list ≡ [] }
     {
-        Draws {}
+        DrawTrace {}
     }
 
     // One more draw.
-    pub(crate) fn with(_before: &Draws, _draw: &Draw) -> Draws
+    pub(crate) fn with(_before: &DrawTrace, _draw: &GhostDraw) -> DrawTrace
         ensures { result.list ≡ (_draw.now.tenant, _draw.now.window) ∷ _before.now.list }
     {
-        Draws {}
+        DrawTrace {}
     }
 }

@@ -12,41 +12,44 @@ ghost use Rattle.engine_core.specs.Answers.{note, ticket_in};
 ghost use Rattle.engine_core.specs.Chains.{Entry};
 ghost use Rattle.engine_core.specs.Engines.{EngineParts};
 ghost use Rattle.engine_core.specs.Turns.{noted_in, refusal};
-ghost use Rattle.call_history.specs.Behind.{Behind, chain, has_failed, policy_of};
-ghost use Rattle.call_history.specs.Events.{note_behind};
-ghost use Rattle.call_history.specs.Rules.{May};
-ghost use Rattle.call_history.specs.Rules.{IsAt, IsCalledFor, IsCleared, IsSentNext};
-ghost use Rattle.call_history.specs.Rules.{IsAnswered, IsDenied, Meets, cap_of};
+ghost use Rattle.call_history.specs.Trace.{Trace, chain, has_failed, policy_in_trace};
+ghost use Rattle.call_history.specs.Transitions.{with_note};
+ghost use Rattle.call_history.specs.Rules.{CanFollow};
+ghost use Rattle.call_history.specs.Rules.{IsAt, IsNoteDue, IsRedactionDue, IsSentNext};
+ghost use Rattle.call_history.specs.Rules.{IsAnswered, IsDenied, IsPendingAnswer, cap_of};
 ghost use Rattle.call_history.specs.declared.happening.Cause.{Cause as TheCause};
 ghost use Rattle.call_history.specs.declared.happening.Cause.TheVariants as cause;
 ghost use Rattle.call_history.specs.declared.happening.Happening.{Happening as TheHappening};
 ghost use Rattle.call_history.specs.declared.happening.Happening.TheVariants.{Drawn};
 ghost use Rattle.call_history.specs.declared.happening.Happening.TheVariants.{Redacted, Refused, Sent};
 ghost use Rattle.engine_core.specs.Marks.{seqs_of};
-ghost use Rattle.audit_rules.specs.Asking.{IsAsked};
-ghost use Rattle.audit_rules.specs.Knowing.{HasRoom, IsFree, IsFreeFor, IsKnowing};
-ghost use Rattle.audit_rules.specs.Knowing.{Knows, LeavesOpen, under};
-ghost use Rattle.audit_rules.specs.Sorts.{IsNoLinkCause};
-ghost use Rattle.audit_rules.specs.declared.left.Left.TheVariants.{Nothing};
+ghost use Rattle.audit_rules.specs.Asking.{IsEntryOutcome};
+ghost use Rattle.audit_rules.specs.CheckerState.{HasRoom, HasNoMalformed, IsUnblockedCause, IsKnowing};
+ghost use Rattle.audit_rules.specs.CheckerState.{IsCheckerAfter, IsObligationAfter, checker_context};
+ghost use Rattle.audit_rules.specs.EventKinds.{IsNoLinkCause};
+ghost use Rattle.audit_rules.specs.declared.obligation.Obligation.TheVariants.{Nothing};
 
-use crate::ask::{Asked, ask, reaches};
+use crate::ask::{EntryOutcome, ask, reaches};
 use crate::checker::Checker;
-use crate::left::Left;
-use crate::sorts::{cap_of, is_frame_of, is_named_rule, noted_in};
-use call_history::{Cause, chain_goes_on, forms_go_on, standing_goes_on, ties_go_on};
-use engine_core::{Noted, Outcome, Why, denied_by_a_rule, one_answer};
+use crate::event_kinds::{cap_of, is_frame_of, is_named_rule, noted_in};
+use crate::obligation::Obligation;
+use call_history::{
+    Cause, chain_after_event, forms_after_event, pending_after_event, ties_after_event,
+};
+use engine_core::{Noted, Outcome, Why, answer_is_unique, denied_by_a_rule};
 use mrpc_table::{Name, Table};
 
 impl Checker {
     // Finds the answer of the entry of a name to a call, if every earlier entry lets the call pass.
-    fn ask(&mut self, table: &Table, seq: u32, name: &Name, ticket: u64) -> Option<Asked>
+    fn ask(&mut self, table: &Table, seq: u32, name: &Name, ticket: u64) -> Option<EntryOutcome>
         requires knowing { IsKnowing table.now self.old }
-        requires free { IsFree self.old.left }
-        ensures asked { (past : Behind) → Knows table.now past self.old
-            → IfSome result (λ a. IsAsked (under table.now self.old) past self.old.attached seq name.now a self.old.calls
+        requires free { HasNoMalformed self.old.left }
+        ensures asked { (past : Trace) → IsCheckerAfter table.now past self.old
+            → IfSome result (λ a. IsEntryOutcome (checker_context table.now self.old) past self.old.attached seq
+            name.now a self.old.calls
             self.new.engines.items self.new.calls self.new.reached.items) }
-        ensures none { (past : Behind) → Knows table.now past self.old
-            → IfNone result ((e : Entry) → IsAt (under table.now self.old) past seq name.now e → ⊥) }
+        ensures none { (past : Trace) → IsCheckerAfter table.now past self.old
+            → IfNone result ((e : Entry) → IsAt (checker_context table.now self.old) past seq name.now e → ⊥) }
         ensures drawn { IfSome result (λ a. (window drawn : ℕ) → noted_in a.outcome ≡ Noted.Drawn window drawn
             → drawn ≡ ticket) }
         ensures numbers { seqs_of self.new.calls ≡ seqs_of self.old.calls }
@@ -66,14 +69,21 @@ impl Checker {
     }
 
     // Like `ask`, by the bytes of the name.
-    fn ask_named(&mut self, table: &Table, seq: u32, name: &[u8], ticket: u64) -> Option<Asked>
+    fn ask_named(
+        &mut self,
+        table: &Table,
+        seq: u32,
+        name: &[u8],
+        ticket: u64,
+    ) -> Option<EntryOutcome>
         requires knowing { IsKnowing table.now self.old }
-        requires free { IsFree self.old.left }
-        ensures asked { (past : Behind) → Knows table.now past self.old
-            → IfSome result (λ a. IsAsked (under table.now self.old) past self.old.attached seq name.now a self.old.calls
+        requires free { HasNoMalformed self.old.left }
+        ensures asked { (past : Trace) → IsCheckerAfter table.now past self.old
+            → IfSome result (λ a. IsEntryOutcome (checker_context table.now self.old) past self.old.attached seq
+            name.now a self.old.calls
             self.new.engines.items self.new.calls self.new.reached.items) }
-        ensures none { (past : Behind) → Knows table.now past self.old
-            → IfNone result ((e : Entry) → IsAt (under table.now self.old) past seq name.now e → ⊥) }
+        ensures none { (past : Trace) → IsCheckerAfter table.now past self.old
+            → IfNone result ((e : Entry) → IsAt (checker_context table.now self.old) past seq name.now e → ⊥) }
         ensures drawn { IfSome result (λ a. (window drawn : ℕ) → noted_in a.outcome ≡ Noted.Drawn window drawn
             → drawn ≡ ticket) }
         ensures numbers { seqs_of self.new.calls ≡ seqs_of self.old.calls }
@@ -104,20 +114,20 @@ impl Checker {
     // Checks a note on a call other than a ticket.
     pub(crate) fn note(&mut self, table: &Table, seq: u32, name: &[u8], noted: Noted) -> bool
         requires knowing { IsKnowing table.now self.old }
-        requires free { IsFree self.old.left }
+        requires free { HasNoMalformed self.old.left }
         requires noted { noted ≢ Noted.Nothing }
         requires no_ticket { ticket_in (note noted) ≡ None }
-        ensures due { (past : Behind) → Knows table.now past self.old
-            → OnTrue result (IsCalledFor (under table.now self.old) past seq name.now noted) }
-        ensures not_due { (past : Behind) → Knows table.now past self.old
-            → OnFalse result (IsCalledFor (under table.now self.old) past seq name.now noted → ⊥) }
-        ensures knows { (past : Behind) (what : TheHappening) → Knows table.now past self.old
-            → note_behind name.now seq noted past ≡ what ∷ past → May (under table.now self.old) past what
-            → OnTrue result (Knows table.now (what ∷ past) self.new) }
-        ensures same { (T : TheTable) → under T self.new ≡ under T self.old }
+        ensures due { (past : Trace) → IsCheckerAfter table.now past self.old
+            → OnTrue result (IsNoteDue (checker_context table.now self.old) past seq name.now noted) }
+        ensures not_due { (past : Trace) → IsCheckerAfter table.now past self.old
+            → OnFalse result (IsNoteDue (checker_context table.now self.old) past seq name.now noted → ⊥) }
+        ensures knows { (past : Trace) (what : TheHappening) → IsCheckerAfter table.now past self.old
+            → with_note name.now seq noted past ≡ what ∷ past → CanFollow (checker_context table.now self.old) past what
+            → OnTrue result (IsCheckerAfter table.now (what ∷ past) self.new) }
+        ensures same { (T : TheTable) → checker_context T self.new ≡ checker_context T self.old }
     {
-        one_answer();
-        chain_goes_on();
+        answer_is_unique();
+        chain_after_event();
         let Some(asked) = self.ask_named(table, seq, name, 0) else {
             return false;
         };
@@ -132,7 +142,7 @@ impl Checker {
     }
 
     // Returns true if the entry has noted nothing of a later call. If so, it records this call as the latest.
-    fn is_next(&mut self, asked: &Asked, seq: u32) -> bool
+    fn is_next(&mut self, asked: &EntryOutcome, seq: u32) -> bool
         requires { asked.now.at < length self.old.latest.items }
         ensures next { OnTrue result (slice_index self.old.latest.items asked.now.at < seq) }
         ensures not_next { OnFalse result (seq ≤ slice_index self.old.latest.items asked.now.at) }
@@ -157,18 +167,20 @@ impl Checker {
         ticket: u64,
     ) -> bool
         requires knowing { IsKnowing table.now self.old }
-        requires free { IsFree self.old.left }
-        ensures due { (past : Behind) → Knows table.now past self.old
-            → OnTrue result (IsCalledFor (under table.now self.old) past seq name.now (Noted.Drawn window ticket)) }
-        ensures not_due { (past : Behind) → Knows table.now past self.old
-            → OnFalse result (IsCalledFor (under table.now self.old) past seq name.now (Noted.Drawn window ticket) → ⊥) }
-        ensures knows { (past : Behind) → Knows table.now past self.old
-            → May (under table.now self.old) past (Drawn seq name.now window ticket)
-            → OnTrue result (Knows table.now (Drawn seq name.now window ticket ∷ past) self.new) }
-        ensures same { (T : TheTable) → under T self.new ≡ under T self.old }
+        requires free { HasNoMalformed self.old.left }
+        ensures due { (past : Trace) → IsCheckerAfter table.now past self.old
+            → OnTrue result (IsNoteDue (checker_context table.now self.old) past seq name.now
+            (Noted.Drawn window ticket)) }
+        ensures not_due { (past : Trace) → IsCheckerAfter table.now past self.old
+            → OnFalse result (IsNoteDue (checker_context table.now self.old) past seq name.now
+            (Noted.Drawn window ticket) → ⊥) }
+        ensures knows { (past : Trace) → IsCheckerAfter table.now past self.old
+            → CanFollow (checker_context table.now self.old) past (Drawn seq name.now window ticket)
+            → OnTrue result (IsCheckerAfter table.now (Drawn seq name.now window ticket ∷ past) self.new) }
+        ensures same { (T : TheTable) → checker_context T self.new ≡ checker_context T self.old }
     {
-        one_answer();
-        chain_goes_on();
+        answer_is_unique();
+        chain_after_event();
         let Some(asked) = self.ask_named(table, seq, name, ticket) else {
             return false;
         };
@@ -178,22 +190,23 @@ impl Checker {
         if !self.is_next(&asked, seq) {
             return false;
         }
-        self.settle(&asked, seq, ticket);
+        self.record_ticket(&asked, seq, ticket);
         true
     }
 
     // Records a drawn ticket: the call passes the entry if the ticket is below the cap, and awaits its refusal
     // otherwise.
-    fn settle(&mut self, asked: &Asked, seq: u32, ticket: u64)
+    fn record_ticket(&mut self, asked: &EntryOutcome, seq: u32, ticket: u64)
         requires engine { asked.now.at < length self.old.engines.items }
         requires few { length self.old.engines.items ≤ 8 }
         requires place { asked.now.place < length self.old.reached.items }
         ensures rest { self.new ≡ record self.old { left = self.new.left; reached = self.new.reached } }
-        ensures free { IsFree self.old.left → IsFree self.new.left }
-        ensures left { (past : Behind) (window : ℕ) → self.old.left ≡ Nothing
-            → IfSome (slice_get self.old.engines.items asked.now.at) (λ e. policy_of e.entry.name past ≡ Some e.entry.policy
+        ensures free { HasNoMalformed self.old.left → HasNoMalformed self.new.left }
+        ensures left { (past : Trace) (window : ℕ) → self.old.left ≡ Nothing
+            → IfSome (slice_get self.old.engines.items asked.now.at) (λ e. policy_in_trace e.entry.name past
+            ≡ Some e.entry.policy
             → slice_get (chain past).entries asked.now.at ≡ Some e.entry
-            → LeavesOpen (Drawn seq e.entry.name window ticket ∷ past) self.new.left) }
+            → IsObligationAfter (Drawn seq e.entry.name window ticket ∷ past) self.new.left) }
         ensures capacity { deque_capacity self.new.reached ≡ deque_capacity self.old.reached }
         ensures reached { (self.new.reached.items ≡ self.old.reached.items)
             ⊎ ((self.new.reached.items ≡ set self.old.reached.items asked.now.place (asked.now.at + 1))
@@ -210,11 +223,11 @@ impl Checker {
     fn awaits_refusal(&mut self, at: usize, seq: u32, ticket: u64) -> bool
         requires { at < length self.old.engines.items }
         ensures rest { self.new ≡ record self.old { left = self.new.left } }
-        ensures free { IsFree self.old.left → IsFree self.new.left }
-        ensures left { (past : Behind) (window : ℕ) → self.old.left ≡ Nothing
-            → IfSome (slice_get self.old.engines.items at) (λ e. policy_of e.entry.name past ≡ Some e.entry.policy
+        ensures free { HasNoMalformed self.old.left → HasNoMalformed self.new.left }
+        ensures left { (past : Trace) (window : ℕ) → self.old.left ≡ Nothing
+            → IfSome (slice_get self.old.engines.items at) (λ e. policy_in_trace e.entry.name past ≡ Some e.entry.policy
             → slice_get (chain past).entries at ≡ Some e.entry
-            → LeavesOpen (Drawn seq e.entry.name window ticket ∷ past) self.new.left) }
+            → IsObligationAfter (Drawn seq e.entry.name window ticket ∷ past) self.new.left) }
         ensures below { OnFalse result ((e : EngineParts) (cap : ℕ) → slice_get self.old.engines.items at ≡ Some e
             → cap_of e.entry.policy ≡ Some cap → ticket < cap) }
     {
@@ -224,7 +237,7 @@ impl Checker {
         if ticket < cap {
             return false;
         }
-        self.left = Left::Over {
+        self.left = Obligation::RefuseOverCap {
             seq,
             at,
             ticket,
@@ -238,19 +251,19 @@ impl Checker {
     #[inline(never)]
     pub(crate) fn clear(&mut self, table: &Table, seq: u32, name: &Name, version: u32) -> bool
         requires knowing { IsKnowing table.now self.old }
-        requires free { IsFree self.old.left }
-        ensures due { (past : Behind) → Knows table.now past self.old
-            → OnTrue result (IsCleared (under table.now self.old) past seq name.now version) }
-        ensures not_due { (past : Behind) → Knows table.now past self.old
-            → OnFalse result (IsCleared (under table.now self.old) past seq name.now version → ⊥) }
-        ensures knows { (past : Behind) → Knows table.now past self.old
-            → May (under table.now self.old) past (Redacted seq name.now version)
-            → OnTrue result (Knows table.now (Redacted seq name.now version ∷ past) self.new) }
-        ensures same { (T : TheTable) → under T self.new ≡ under T self.old }
+        requires free { HasNoMalformed self.old.left }
+        ensures due { (past : Trace) → IsCheckerAfter table.now past self.old
+            → OnTrue result (IsRedactionDue (checker_context table.now self.old) past seq name.now version) }
+        ensures not_due { (past : Trace) → IsCheckerAfter table.now past self.old
+            → OnFalse result (IsRedactionDue (checker_context table.now self.old) past seq name.now version → ⊥) }
+        ensures knows { (past : Trace) → IsCheckerAfter table.now past self.old
+            → CanFollow (checker_context table.now self.old) past (Redacted seq name.now version)
+            → OnTrue result (IsCheckerAfter table.now (Redacted seq name.now version ∷ past) self.new) }
+        ensures same { (T : TheTable) → checker_context T self.new ≡ checker_context T self.old }
     {
-        one_answer();
-        chain_goes_on();
-        forms_go_on();
+        answer_is_unique();
+        chain_after_event();
+        forms_after_event();
         let Some(asked) = self.ask(table, seq, name, 0) else {
             return false;
         };
@@ -268,19 +281,19 @@ impl Checker {
     pub(crate) fn send(&mut self, table: &Table, seq: u32, bytes: u64) -> bool
         requires valid { IsValid table.now }
         requires knowing { IsKnowing table.now self.old }
-        requires free { IsFree self.old.left }
-        ensures sends { (past : Behind) → Knows table.now past self.old
-            → OnTrue result (IsSentNext (under table.now self.old) past seq bytes) }
-        ensures sends_not { (past : Behind) → Knows table.now past self.old
-            → OnFalse result (IsSentNext (under table.now self.old) past seq bytes → ⊥) }
-        ensures knows { (past : Behind) → Knows table.now past self.old
-            → May (under table.now self.old) past (Sent seq bytes)
-            → OnTrue result (Knows table.now (Sent seq bytes ∷ past) self.new) }
-        ensures same { (T : TheTable) → under T self.new ≡ under T self.old }
+        requires free { HasNoMalformed self.old.left }
+        ensures sends { (past : Trace) → IsCheckerAfter table.now past self.old
+            → OnTrue result (IsSentNext (checker_context table.now self.old) past seq bytes) }
+        ensures sends_not { (past : Trace) → IsCheckerAfter table.now past self.old
+            → OnFalse result (IsSentNext (checker_context table.now self.old) past seq bytes → ⊥) }
+        ensures knows { (past : Trace) → IsCheckerAfter table.now past self.old
+            → CanFollow (checker_context table.now self.old) past (Sent seq bytes)
+            → OnTrue result (IsCheckerAfter table.now (Sent seq bytes ∷ past) self.new) }
+        ensures same { (T : TheTable) → checker_context T self.new ≡ checker_context T self.old }
     {
-        chain_goes_on();
-        ties_go_on();
-        if self.first() != Some(seq) {
+        chain_after_event();
+        ties_after_event();
+        if self.first_pending() != Some(seq) {
             return false;
         }
         let from = self.reached[0];
@@ -299,7 +312,7 @@ impl Checker {
         if !is_frame_of(table, self.calls.at(0).call(), bytes) {
             return false;
         }
-        self.leave(0);
+        self.remove_call(0);
         true
     }
 
@@ -307,19 +320,19 @@ impl Checker {
     #[inline(never)]
     pub(crate) fn refuse(&mut self, table: &Table, seq: u32, cause: Cause) -> bool
         requires knowing { IsKnowing table.now self.old }
-        requires free { IsFreeFor cause self.old.left }
-        ensures answered { (past : Behind) → Knows table.now past self.old
-            → OnTrue result (IsAnswered (under table.now self.old) past seq cause) }
-        ensures not_answered { (past : Behind) → Knows table.now past self.old
-            → OnFalse result (IsAnswered (under table.now self.old) past seq cause → ⊥) }
-        ensures knows { (past : Behind) → Knows table.now past self.old
-            → May (under table.now self.old) past (Refused seq cause)
-            → OnTrue result (Knows table.now (Refused seq cause ∷ past) self.new) }
-        ensures same { (T : TheTable) → under T self.new ≡ under T self.old }
+        requires free { IsUnblockedCause cause self.old.left }
+        ensures answered { (past : Trace) → IsCheckerAfter table.now past self.old
+            → OnTrue result (IsAnswered (checker_context table.now self.old) past seq cause) }
+        ensures not_answered { (past : Trace) → IsCheckerAfter table.now past self.old
+            → OnFalse result (IsAnswered (checker_context table.now self.old) past seq cause → ⊥) }
+        ensures knows { (past : Trace) → IsCheckerAfter table.now past self.old
+            → CanFollow (checker_context table.now self.old) past (Refused seq cause)
+            → OnTrue result (IsCheckerAfter table.now (Refused seq cause ∷ past) self.new) }
+        ensures same { (T : TheTable) → checker_context T self.new ≡ checker_context T self.old }
     {
         match cause {
             Cause::Malformed => {
-                self.forget();
+                self.remove_malformed();
                 true
             }
             Cause::Access {
@@ -334,79 +347,81 @@ impl Checker {
                 self.answers(table, seq, &name, Why::Over { ticket, cap })
             }
             Cause::Transport => {
-                self.lose();
+                self.refuse_for_link();
                 true
             }
         }
     }
 
     // The malformed call that awaited its refusal is refused.
-    fn forget(&mut self)
-        ensures knows { (T : TheTable) (past : Behind) (seq : ℕ) → Knows T past self.old
-            → May (under T self.old) past (Refused seq cause.Malformed)
-            → Knows T (Refused seq cause.Malformed ∷ past) self.new }
-        ensures same { (T : TheTable) → under T self.new ≡ under T self.old }
+    fn remove_malformed(&mut self)
+        ensures knows { (T : TheTable) (past : Trace) (seq : ℕ) → IsCheckerAfter T past self.old
+            → CanFollow (checker_context T self.old) past (Refused seq cause.Malformed)
+            → IsCheckerAfter T (Refused seq cause.Malformed ∷ past) self.new }
+        ensures same { (T : TheTable) → checker_context T self.new ≡ checker_context T self.old }
     {
-        ties_go_on();
-        standing_goes_on();
-        self.left = Left::Nothing;
+        ties_after_event();
+        pending_after_event();
+        self.left = Obligation::Nothing;
     }
 
     // The link has failed, and the first pending call is refused for it.
-    fn lose(&mut self)
+    fn refuse_for_link(&mut self)
         requires places { length self.old.reached.items ≡ length self.old.calls }
-        ensures knows { (T : TheTable) (past : Behind) (seq : ℕ) → Knows T past self.old → IsFree self.old.left
-            → May (under T self.old) past (Refused seq cause.Transport)
-            → Knows T (Refused seq cause.Transport ∷ past) self.new }
-        ensures same { (T : TheTable) → under T self.new ≡ under T self.old }
+        ensures knows { (T : TheTable) (past : Trace) (seq : ℕ) → IsCheckerAfter T past self.old
+            → HasNoMalformed self.old.left
+            → CanFollow (checker_context T self.old) past (Refused seq cause.Transport)
+            → IsCheckerAfter T (Refused seq cause.Transport ∷ past) self.new }
+        ensures same { (T : TheTable) → checker_context T self.new ≡ checker_context T self.old }
     {
         if self.calls.is_empty() {
             return;
         }
-        self.leave(0);
+        self.remove_call(0);
         self.failed = true;
     }
 
     // Returns true if a refusal is the answer of the entry of a name.
     fn answers(&mut self, table: &Table, seq: u32, name: &Name, why: Why) -> bool
         requires knowing { IsKnowing table.now self.old }
-        requires free { IsFree self.old.left }
-        ensures answered { (past : Behind) → Knows table.now past self.old
-            → OnTrue result (Meets (under table.now self.old) past seq name.now (refusal why)) }
-        ensures not_answered { (past : Behind) → Knows table.now past self.old
-            → OnFalse result (Meets (under table.now self.old) past seq name.now (refusal why) → ⊥) }
-        ensures knows { (past : Behind) (cause : TheCause) → Knows table.now past self.old → IsNoLinkCause cause
-            → May (under table.now self.old) past (Refused seq cause)
-            → OnTrue result (Knows table.now (Refused seq cause ∷ past) self.new) }
-        ensures same { (T : TheTable) → under T self.new ≡ under T self.old }
+        requires free { HasNoMalformed self.old.left }
+        ensures answered { (past : Trace) → IsCheckerAfter table.now past self.old
+            → OnTrue result (IsPendingAnswer (checker_context table.now self.old) past seq name.now (refusal why)) }
+        ensures not_answered { (past : Trace) → IsCheckerAfter table.now past self.old
+            → OnFalse result (IsPendingAnswer (checker_context table.now self.old) past seq name.now (refusal why)
+            → ⊥) }
+        ensures knows { (past : Trace) (cause : TheCause) → IsCheckerAfter table.now past self.old → IsNoLinkCause cause
+            → CanFollow (checker_context table.now self.old) past (Refused seq cause)
+            → OnTrue result (IsCheckerAfter table.now (Refused seq cause ∷ past) self.new) }
+        ensures same { (T : TheTable) → checker_context T self.new ≡ checker_context T self.old }
     {
-        one_answer();
-        chain_goes_on();
+        answer_is_unique();
+        chain_after_event();
         let Some(asked) = self.ask(table, seq, name, 0) else {
             return false;
         };
         if asked.outcome != Outcome::Refused(Noted::Nothing, why) {
             return false;
         }
-        self.leave(asked.place);
+        self.remove_call(asked.place);
         true
     }
 
     // Returns true if the entry of a name denies a call by the rule of a name.
     fn deny(&mut self, table: &Table, seq: u32, name: &Name, version: u32, rule: &Name) -> bool
         requires knowing { IsKnowing table.now self.old }
-        requires free { IsFree self.old.left }
-        ensures denied { (past : Behind) → Knows table.now past self.old
-            → OnTrue result (IsDenied (under table.now self.old) past seq name.now version rule.now) }
-        ensures not_denied { (past : Behind) → Knows table.now past self.old
-            → OnFalse result (IsDenied (under table.now self.old) past seq name.now version rule.now → ⊥) }
-        ensures knows { (past : Behind) (cause : TheCause) → Knows table.now past self.old → IsNoLinkCause cause
-            → May (under table.now self.old) past (Refused seq cause)
-            → OnTrue result (Knows table.now (Refused seq cause ∷ past) self.new) }
-        ensures same { (T : TheTable) → under T self.new ≡ under T self.old }
+        requires free { HasNoMalformed self.old.left }
+        ensures denied { (past : Trace) → IsCheckerAfter table.now past self.old
+            → OnTrue result (IsDenied (checker_context table.now self.old) past seq name.now version rule.now) }
+        ensures not_denied { (past : Trace) → IsCheckerAfter table.now past self.old
+            → OnFalse result (IsDenied (checker_context table.now self.old) past seq name.now version rule.now → ⊥) }
+        ensures knows { (past : Trace) (cause : TheCause) → IsCheckerAfter table.now past self.old → IsNoLinkCause cause
+            → CanFollow (checker_context table.now self.old) past (Refused seq cause)
+            → OnTrue result (IsCheckerAfter table.now (Refused seq cause ∷ past) self.new) }
+        ensures same { (T : TheTable) → checker_context T self.new ≡ checker_context T self.old }
     {
-        one_answer();
-        chain_goes_on();
+        answer_is_unique();
+        chain_after_event();
         denied_by_a_rule();
         let Some(asked) = self.ask(table, seq, name, 0) else {
             return false;
@@ -418,28 +433,30 @@ impl Checker {
         if !is_named_rule(engine, asked.outcome, rule) {
             return false;
         }
-        self.leave(asked.place);
+        self.remove_call(asked.place);
         true
     }
 
     // Removes the call at an index.
-    fn leave(&mut self, place: usize)
+    fn remove_call(&mut self, place: usize)
         requires call { place < length self.old.calls }
         requires place { place < length self.old.reached.items }
-        ensures sent { (T : TheTable) (past : Behind) (seq bytes : ℕ) → Knows T past self.old → IsFree self.old.left
-            → slice_get (seqs_of self.old.calls) place ≡ Some seq → May (under T self.old) past (Sent seq bytes)
-            → Knows T (Sent seq bytes ∷ past) self.new }
-        ensures refused { (T : TheTable) (past : Behind) (seq : ℕ) (why : TheCause) → Knows T past self.old
-            → IsFree self.old.left → slice_get (seqs_of self.old.calls) place ≡ Some seq
-            → May (under T self.old) past (Refused seq why) → Knows T (Refused seq why ∷ past)
+        ensures sent { (T : TheTable) (past : Trace) (seq bytes : ℕ) → IsCheckerAfter T past self.old
+            → HasNoMalformed self.old.left
+            → slice_get (seqs_of self.old.calls) place ≡ Some seq
+            → CanFollow (checker_context T self.old) past (Sent seq bytes)
+            → IsCheckerAfter T (Sent seq bytes ∷ past) self.new }
+        ensures refused { (T : TheTable) (past : Trace) (seq : ℕ) (why : TheCause) → IsCheckerAfter T past self.old
+            → HasNoMalformed self.old.left → slice_get (seqs_of self.old.calls) place ≡ Some seq
+            → CanFollow (checker_context T self.old) past (Refused seq why) → IsCheckerAfter T (Refused seq why ∷ past)
             (record self.new { failed = has_failed (Refused seq why ∷ past) }) }
         ensures failed { self.new.failed ≡ self.old.failed }
-        ensures same { (T : TheTable) → under T self.new ≡ under T self.old }
+        ensures same { (T : TheTable) → checker_context T self.new ≡ checker_context T self.old }
     {
-        ties_go_on();
-        standing_goes_on();
+        ties_after_event();
+        pending_after_event();
         self.calls.drop_at(place);
         let _ = self.reached.remove(place);
-        self.left = Left::Nothing;
+        self.left = Obligation::Nothing;
     }
 }

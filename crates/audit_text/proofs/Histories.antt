@@ -12,13 +12,13 @@ use Rattle.mrpc_table.specs.Text.{spaced}
 use Rattle.mrpc_table.specs.Valid.{IsValid}
 use Rattle.mrpc_table.specs.declared.table.Table.{Table}
 use Rattle.call_history.specs.Legal.{History}
-use Rattle.call_history.specs.declared.happening.Happened.{Happened}
+use Rattle.call_history.specs.declared.happening.ConnectionEvent.{ConnectionEvent}
 use Rattle.policy_declarations.specs.Declarations.{Declared}
 use Rattle.audit_text.specs.Lines.{audit, audit_line, happening_words}
 use Rattle.audit_text.specs.Writable.{IsWritable}
-use Rattle.audit_text.specs.Faults.{HasNoLine, IsFirstBad}
+use Rattle.audit_text.specs.Faults.{HasNoLine, IsFirstInvalidLine}
 use Rattle.audit_text.specs.LineWords.{happening_in}
-use Rattle.audit_text.specs.Told.{IsLine, bytes_of}
+use Rattle.audit_text.specs.LineBytes.{IsWritableLine, bytes_of_line}
 use Rattle.audit_text.specs.declared.line.AuditLine.{AuditLine}
 use Rattle.audit_text.specs.declared.line.AuditLine.TheVariants as lines
 use Rattle.audit_text.proofs.WholeLines.{CutHappening, OneHappening}
@@ -58,10 +58,10 @@ uncut text front behind cut is none =
 
 -- ---- histories
 
-line-long : (T : Table) (x : Happened) → 0 < length (audit_line T x)
+line-long : (T : Table) (x : ConnectionEvent) → 0 < length (audit_line T x)
 line-long T x = omega (arith, length-append (spaced (happening_words T x.conn x.what)) (10 ∷ []))
 
-line-some : (T : Table) (x : Happened) (rest : List ℕ) → audit_line T x ++ rest ≢ []
+line-some : (T : Table) (x : ConnectionEvent) (rest : List ℕ) → audit_line T x ++ rest ≢ []
 line-some T x rest e = omega (arith, ap length e, length-append (audit_line T x) rest, line-long T x)
 
 -- a text whose remainder after some events is no event's line isn't the audit of a history
@@ -96,18 +96,18 @@ one-end one T valid declared (b ∷ before) (x ∷ other) rest left told told_to
     (All-tail (IsWritable T declared) x other told_too) none none_too same.1)
 
 pub one-bad : OneHappening → (T : Table) → IsValid T → (declared : Declared) (text : List ℕ) (line other : ℕ)
-    → IsFirstBad T declared text line → IsFirstBad T declared text other → line ≡ other
+    → IsFirstInvalidLine T declared text line → IsFirstInvalidLine T declared text other → line ≡ other
 one-bad one T valid declared text line other a b =
     let long = one-end one T valid declared a.before b.before a.rest b.rest a.told b.told a.none_next b.none_next (sym a.text_is ∙ b.text_is) in
     a.number ∙ ap (λ n. n + 1) long ∙ sym b.number
 
 pub not-both : OneHappening → (T : Table) → IsValid T → (declared : Declared) (text : List ℕ) (h : History) (line : ℕ)
-    → All (IsWritable T declared) h → text ≡ audit T h → IsFirstBad T declared text line → ⊥
+    → All (IsWritable T declared) h → text ≡ audit T h → IsFirstInvalidLine T declared text line → ⊥
 not-both one T valid declared text h line all is bad =
-    no-history one T valid declared bad.before h bad.rest bad.told all bad.some_left bad.none_next (sym bad.text_is ∙ is)
+    no-history one T valid declared bad.before h bad.rest bad.told all bad.not_empty bad.none_next (sym bad.text_is ∙ is)
 
 -- one more event
-pub audit-more : (T : Table) (h : History) (x : Happened) (text rest behind : List ℕ) → text ≡ audit T h ++ rest
+pub audit-more : (T : Table) (h : History) (x : ConnectionEvent) (text rest behind : List ℕ) → text ≡ audit T h ++ rest
     → rest ≡ audit_line T x ++ behind → text ≡ audit T (h ++ x ∷ []) ++ behind
 audit-more T h x text rest behind is front =
     is ∙ ap (λ l. audit T h ++ l) front ∙ sym (append_assoc (audit T h) (audit_line T x) behind)
@@ -117,18 +117,18 @@ audit-more T h x text rest behind is front =
 
 pub front-none : CutHappening → (T : Table) → IsValid T → (declared : Declared) (text line : List ℕ)
     → ((front behind : List ℕ) → text ≡ front ++ 10 ∷ behind → All (λ c. c ≢ 10) front → line ≡ front ++ 10 ∷ [])
-    → (r : Option AuditLine) → ((x : AuditLine) → IsLine T declared x → line ≡ bytes_of T x → r ≡ Some x) → happening_in r ≡ None → HasNoLine T declared text
+    → (r : Option AuditLine) → ((x : AuditLine) → IsWritableLine T declared x → line ≡ bytes_of_line T x → r ≡ Some x) → happening_in r ≡ None → HasNoLine T declared text
 front-none cut T valid declared text line ends r only none x behind holds e =
     let words = happening_words T x.conn x.what in
     let first : line ≡ audit_line T x = ends (spaced words) behind (e ∙ append_assoc (spaced words) (10 ∷ []) behind) (cut T declared x valid holds).one_line in
     not-some x (sym (ap happening_in (only (lines.Happened x) holds first)) ∙ none)
 
-pub front-some : (T : Table) (declared : Declared) (line : List ℕ) (r : Option AuditLine) (x : Happened)
-    → IfSome r (λ y. line ≡ bytes_of T y) → IfSome r (λ y. IsLine T declared y) → happening_in r ≡ Some x
+pub front-some : (T : Table) (declared : Declared) (line : List ℕ) (r : Option AuditLine) (x : ConnectionEvent)
+    → IfSome r (λ y. line ≡ bytes_of_line T y) → IfSome r (λ y. IsWritableLine T declared y) → happening_in r ≡ Some x
     → (line ≡ audit_line T x) × IsWritable T declared x
 front-some T declared line None x told holds e = absurd cc
 front-some T declared line (Some (lines.Happened y)) x told holds e =
-    let same : y ≡ x = cc in let P : Happened → Type 0 = λ z. (line ≡ audit_line T z) × IsWritable T declared z in subst P same (told, holds)
+    let same : y ≡ x = cc in let P : ConnectionEvent → Type 0 = λ z. (line ≡ audit_line T z) × IsWritable T declared z in subst P same (told, holds)
 front-some T declared line (Some (lines.Stands conn seq position name holding)) x told holds e = absurd cc
 
 pub nothing-left : (l : List ℕ) → length l ≡ 0 → l ≡ []

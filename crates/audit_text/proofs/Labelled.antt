@@ -6,8 +6,8 @@ use Rattle.std.specs.List.{position_or_len}
 use Rattle.std.proofs.lemmas.List.Folds.{find_at}
 use Rattle.std.proofs.lemmas.Option.{slice_get_past}
 use Rattle.std.proofs.lemmas.Bool.Decides.{nat_tests}
-use Rattle.policy_declarations.specs.Declarations.{Declared, policy_place}
-use Rattle.policy_declarations.specs.declared.item.NamedPolicy.{NamedPolicy}
+use Rattle.policy_declarations.specs.Declarations.{Declared, policy_index}
+use Rattle.policy_declarations.specs.declared.declaration.NamedPolicy.{NamedPolicy}
 use Rattle.audit_text.specs.Labels.{policy_under}
 
 by_test : {X : Type 0} (b : Bool) (n : ℕ) (xs : List X) → (b ≡ false → length xs ≤ n)
@@ -24,7 +24,7 @@ found-at p xs = by_test (nat_lt (position_or_len p xs) (length xs)) (position_or
 
 -- the policy under a label is the one at the index of its name
 pub under-place : (label : List ℕ) (d : Declared) (place : Option ℕ) (there : Option NamedPolicy)
-    → policy_place d label ≡ place → option_and_then (slice_get d.policies) place ≡ there
+    → policy_index d label ≡ place → option_and_then (slice_get d.policies) place ≡ there
     → policy_under label d ≡ option_map (λ p. p.policy) there
 under-place label d place there is at =
     ap (option_map (λ p. p.policy)) (sym (found-at (λ p. bytes_eq p.name label) d.policies) ∙ ap (option_and_then (slice_get d.policies)) is ∙ at)

@@ -4,7 +4,7 @@ use Rattle.std.specs.Fmt.{digits}
 use Rattle.std.specs.Prelude.{Some, None, ℕ, List, [], ◌∷◌, ◌++◌}
 use Rattle.hex.specs.Hex.{encode_with}
 use Rattle.mrpc_table.specs.Node.{Node, no_fields, field, one, number}
-use Rattle.mrpc_table.specs.declared.call.Sort.TheVariants.{Request}
+use Rattle.mrpc_table.specs.declared.call.CallKind.TheVariants.{Request}
 use Rattle.mrpc_table.specs.declared.table.Field.{Field}
 use Rattle.mrpc_table.specs.declared.table.Kind.TheVariants.{Uint64}
 use Rattle.mrpc_table.specs.declared.table.Label.TheVariants.{Plain}
@@ -17,7 +17,7 @@ use Rattle.engine_core.specs.declared.policy.Policy.{Policy}
 use Rattle.engine_core.specs.declared.policy.Policy.TheVariants.{Access, Rate, Quota, Redact}
 use Rattle.call_history.specs.Legal.{History}
 use Rattle.call_history.specs.declared.happening.Cause.TheVariants as cause
-use Rattle.call_history.specs.declared.happening.Happened.{Happened}
+use Rattle.call_history.specs.declared.happening.ConnectionEvent.{ConnectionEvent}
 use Rattle.call_history.specs.declared.happening.Happening.{Happening}
 use Rattle.call_history.specs.declared.happening.Happening.TheVariants.{Took, Away, Op, Moment, Charged, Drawn, Counted, Redacted, Sent, Refused}
 use Rattle.call_history.specs.declared.happening.TookCopy.{TookCopy}
@@ -43,17 +43,17 @@ abbrev with_number : ℕ → Node
 with_number v = field 1 (one (number v)) no_fields
 
 -- an event on connection 1
-abbrev happens : Happening → Happened
+abbrev happens : Happening → ConnectionEvent
 happens what = record { conn = 1; what = what }
 
 -- a call, by its method and the number that it answers
-abbrev call : ℕ → ℕ → ℕ → ℕ → ℕ → ℕ → TookCopy → Happened
+abbrev call : ℕ → ℕ → ℕ → ℕ → ℕ → ℕ → TookCopy → ConnectionEvent
 call seq method answered addr after count copy = happens (Took (record { seq = seq; method = method; number = answered; addr = addr; after = after; count = count; copy = copy }))
 
-abbrev request : ℕ → ℕ → Node → Happened
+abbrev request : ℕ → ℕ → Node → ConnectionEvent
 request seq after tree = call seq 0 0 2 after 1 (Copy tree)
 
-abbrev seven : ℕ → Happened
+abbrev seven : ℕ → ConnectionEvent
 seven seq = request seq 1 (with_number 7)
 
 abbrev opening : Policy

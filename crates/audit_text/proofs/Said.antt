@@ -15,9 +15,9 @@ use Rattle.std.proofs.lemmas.Str.Parse.{IsNumeralModel, numerals_by_value}
 use Rattle.mrpc_table.specs.Lines.{is_decimal, number_of}
 use Rattle.mrpc_table.specs.Names.{is_name_form}
 use Rattle.mrpc_table.specs.declared.memory.Memory.{Memory}
-use Rattle.audit_text.specs.Lines.{Words}
+use Rattle.audit_text.specs.Lines.{WordList}
 use Rattle.audit_text.specs.Writable.{HasNameForm}
-use Rattle.audit_text.specs.Reading.{◌>>=◌, Reads, end_said, last_said, name_said, number_from, number_said}
+use Rattle.audit_text.specs.Reading.{◌>>=◌, IsExactReading, read_end, read_last_number, read_name, number_from, read_number}
 use Rattle.audit_text.proofs.WordsOfLines.{below-none, below-some, not-some, some-pair}
 
 -- ---- steps that can fail
@@ -38,10 +38,10 @@ by-word w v a b x e = go (bytes_eq w v) refl e
     go false is e = inr e
 
 -- a function that returns a value exactly for the value's words reads them
-pub reads-by : {A : Type 0} (Holds : A → Type 0) (words_for : A → Words) (said : Words → Option A)
-    → ((ws : Words) (x : A) → said ws ≡ Some x → Holds x × (ws ≡ words_for x))
+pub reads-by : {A : Type 0} (Holds : A → Type 0) (words_for : A → WordList) (said : WordList → Option A)
+    → ((ws : WordList) (x : A) → said ws ≡ Some x → Holds x × (ws ≡ words_for x))
     → ((x : A) → Holds x → said (words_for x) ≡ Some x)
-    → (ws : Words) (r : Result (Option A) Memory) → IfOk r (λ x. x ≡ said ws) → Reads Holds words_for ws r
+    → (ws : WordList) (r : Result (Option A) Memory) → IfOk r (λ x. x ≡ said ws) → IsExactReading Holds words_for ws r
 reads-by Holds words_for said sound complete ws (Ok (Some x)) h = sound ws x (sym h)
 reads-by Holds words_for said sound complete ws (Ok None) h = λ x holds e. not-some x (sym (complete x holds) ∙ ap said (sym e) ∙ sym h)
 reads-by Holds words_for said sound complete ws (Err e) h = tt
@@ -107,7 +107,7 @@ number_of-decimal n small =
               subst (λ (m : ℕ). length (decimal m) ≡ 1) (sym zero_n) (ap length (decimal_digit 0 (omega arith)))
         ]
 
-from-is : (bound : ℕ) (found : Option ℕ) (words : Words) (p : ℕ × Words) → number_from bound found words ≡ Some p → (p.0 < bound) × (found ≡ Some p.0) × (words ≡ p.1)
+from-is : (bound : ℕ) (found : Option ℕ) (words : WordList) (p : ℕ × WordList) → number_from bound found words ≡ Some p → (p.0 < bound) × (found ≡ Some p.0) × (words ≡ p.1)
 from-is bound None words p e = absurd cc
 from-is bound (Some n) words p e =
     elim (cases_lt n bound) [
@@ -117,37 +117,37 @@ from-is bound (Some n) words p e =
       | inr more ↦ absurd (not-some p (sym e ∙ below-none bound n words more))
     ]
 
-pub number-said : (bound : ℕ) (ws : Words) (p : ℕ × Words) → bound ≤ 2 ^ 64 → number_said bound ws ≡ Some p → (p.0 < bound) × (ws ≡ decimal p.0 ∷ p.1)
-unfolding number_said
+pub number-said : (bound : ℕ) (ws : WordList) (p : ℕ × WordList) → bound ≤ 2 ^ 64 → read_number bound ws ≡ Some p → (p.0 < bound) × (ws ≡ decimal p.0 ∷ p.1)
+unfolding read_number
 number-said bound [] p le e = absurd cc
 number-said bound (w ∷ ws) p le e =
     let h = from-is bound (number_of w) ws p e in
     let word : w ≡ decimal p.0 = number-is w p.0 h.1 (omega (arith, le, h.0)) in
     (h.0, ap (λ v. v ∷ ws) word ∙ ap (λ rest. decimal p.0 ∷ rest) h.2)
 
-pub number-read : (bound n : ℕ) (ws : Words) → bound ≤ 2 ^ 64 → n < bound → number_said bound (decimal n ∷ ws) ≡ Some (n, ws)
-unfolding number_said
+pub number-read : (bound n : ℕ) (ws : WordList) → bound ≤ 2 ^ 64 → n < bound → read_number bound (decimal n ∷ ws) ≡ Some (n, ws)
+unfolding read_number
 number-read bound n ws le less = ap (λ found. number_from bound found ws) (number_of-decimal n (omega (arith, le, less))) ∙ below-some bound n ws less
 
-pub end-said : (ws : Words) (u : Unit {0}) → end_said ws ≡ Some u → ws ≡ []
+pub end-said : (ws : WordList) (u : Unit {0}) → read_end ws ≡ Some u → ws ≡ []
 end-said [] u e = refl
 end-said (w ∷ ws) u e = absurd cc
 
-pub last-said : (bound : ℕ) (ws : Words) (n : ℕ) → bound ≤ 2 ^ 64 → last_said bound ws ≡ Some n → (n < bound) × (ws ≡ decimal n ∷ [])
-unfolding last_said
+pub last-said : (bound : ℕ) (ws : WordList) (n : ℕ) → bound ≤ 2 ^ 64 → read_last_number bound ws ≡ Some n → (n < bound) × (ws ≡ decimal n ∷ [])
+unfolding read_last_number
 last-said bound ws n le e =
-    let a = chained _ (number_said bound ws) n e in
-    let b = chained _ (end_said a.0.1) n a.2 in
+    let a = chained _ (read_number bound ws) n e in
+    let b = chained _ (read_end a.0.1) n a.2 in
     let h = number-said bound ws a.0 le a.1 in
     let value : a.0.0 ≡ n = unsome a.0.0 n b.2 in
     (omega (arith, h.0, value), h.1 ∙ ap (λ rest. decimal a.0.0 ∷ rest) (end-said a.0.1 b.0 b.1) ∙ ap (λ k. decimal k ∷ []) value)
 
-pub last-read : (bound n : ℕ) → bound ≤ 2 ^ 64 → n < bound → last_said bound (decimal n ∷ []) ≡ Some n
-unfolding last_said
+pub last-read : (bound n : ℕ) → bound ≤ 2 ^ 64 → n < bound → read_last_number bound (decimal n ∷ []) ≡ Some n
+unfolding read_last_number
 last-read bound n le less = rw (number-read bound n [] le less) refl
 
-pub name-said : (ws : Words) (p : List ℕ × Words) → name_said ws ≡ Some p → HasNameForm p.0 × (ws ≡ p.0 ∷ p.1)
-unfolding name_said
+pub name-said : (ws : WordList) (p : List ℕ × WordList) → read_name ws ≡ Some p → HasNameForm p.0 × (ws ≡ p.0 ∷ p.1)
+unfolding read_name
 name-said [] p e = absurd cc
 name-said (w ∷ ws) p e = go (is_name_form w) refl e
   where
@@ -155,6 +155,6 @@ name-said (w ∷ ws) p e = go (is_name_form w) refl e
     go true is e = let same = some-pair w p.0 ws p.1 e in (sym (ap is_name_form same.0) ∙ is, ap (λ v. v ∷ ws) same.0 ∙ ap (λ rest. p.0 ∷ rest) same.1)
     go false is e = absurd cc
 
-pub name-read : (name : List ℕ) (ws : Words) → HasNameForm name → name_said (name ∷ ws) ≡ Some (name, ws)
-unfolding name_said
+pub name-read : (name : List ℕ) (ws : WordList) → HasNameForm name → read_name (name ∷ ws) ≡ Some (name, ws)
+unfolding read_name
 name-read name ws form = rw form refl

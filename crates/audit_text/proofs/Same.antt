@@ -6,17 +6,17 @@ use Rattle.std.specs.Prelude.{slice_get, option_map, unwrap_or}
 use Rattle.std.specs.Str.{bytes_eq}
 use Rattle.std.proofs.lemmas.Bool.Decides.{nat_tests}
 use Rattle.std.proofs.lemmas.List.Elements.{All-head, All-tail}
-use Rattle.mrpc_table.specs.Calls.{message_at, message_of_method, sort_of}
+use Rattle.mrpc_table.specs.Calls.{message_at, message_of_method, call_kind_of}
 use Rattle.mrpc_table.specs.Node.{Node}
 use Rattle.mrpc_table.specs.Normal.{IsNormal}
 use Rattle.mrpc_table.specs.Valid.{IsValid, IsMethod}
-use Rattle.mrpc_table.specs.declared.call.Sort.{Sort}
-use Rattle.mrpc_table.specs.declared.call.Sort.TheVariants.{Request, Reply}
+use Rattle.mrpc_table.specs.declared.call.CallKind.{CallKind}
+use Rattle.mrpc_table.specs.declared.call.CallKind.TheVariants.{Request, Reply}
 use Rattle.mrpc_table.specs.declared.table.Method.{Method}
 use Rattle.mrpc_table.specs.declared.table.Table.{Table}
 use Rattle.wire_base.specs.Encoding.{encoding}
 use Rattle.wire_decode.specs.Means.{Means}
-use Rattle.graph_form.specs.Words.{reason_word}
+use Rattle.graph_form.specs.Words.{graph_reason_word}
 use Rattle.graph_form.specs.declared.reason.Reason.{Reason}
 use Rattle.graph_form.specs.declared.reason.Reason.TheVariants.{Address, Presence, Case, Length, Utf8, Narrow, Depth, Loads, NoMethod}
 use Rattle.engine_core.specs.declared.op.Op.{Op as Step}
@@ -24,16 +24,16 @@ use Rattle.engine_core.specs.declared.op.Op.TheVariants.{Attach, Detach, Upgrade
 use Rattle.engine_core.specs.declared.policy.Policy.{Policy}
 use Rattle.call_history.specs.declared.happening.Cause.{Cause}
 use Rattle.call_history.specs.declared.happening.Cause.TheVariants as cause
-use Rattle.call_history.specs.declared.happening.Happened.{Happened}
+use Rattle.call_history.specs.declared.happening.ConnectionEvent.{ConnectionEvent}
 use Rattle.call_history.specs.declared.happening.Happening.{Happening}
 use Rattle.call_history.specs.declared.happening.Happening.TheVariants.{Took, Away, Op, Moment, Charged, Drawn, Counted, Redacted, Sent, Refused}
-use Rattle.call_history.specs.declared.happening.Taken.{Taken}
+use Rattle.call_history.specs.declared.happening.AcceptedCall.{AcceptedCall}
 use Rattle.call_history.specs.declared.happening.TookCopy.{TookCopy}
 use Rattle.call_history.specs.declared.happening.TookCopy.TheVariants.{Copy, Malformed}
 use Rattle.policy_declarations.specs.Declarations.{Declared}
 use Rattle.audit_text.specs.Labels.{policy_under}
-use Rattle.audit_text.specs.Lines.{Words, hex_word, copy_words, step_words, cause_words, happening_words}
-use Rattle.audit_text.specs.Writable.{IsDeclared, IsStep, IsCopyTaken, IsAcceptance, IsCause, CanBeTold, IsWritable}
+use Rattle.audit_text.specs.Lines.{WordList, hex_word, copy_words, step_words, cause_words, happening_words}
+use Rattle.audit_text.specs.Writable.{IsDeclared, IsWritableOp, IsWritableCopy, IsWritableCall, IsWritableCause, CanBeWritten, IsWritable}
 use Rattle.audit_text.proofs.Bytes.{bytes-each}
 use Rattle.audit_text.proofs.Digits.{digits-tell}
 use Rattle.audit_text.proofs.EncodedBytes.{encoding-bytes}
@@ -46,15 +46,15 @@ use Rattle.audit_text.proofs.Words.{decimal-same}
 abbrev pub mark_of : List ℕ → ℕ
 mark_of w = get_or w 0 0 * 65536 + get_or w 1 0 * 256 + get_or w 2 0
 
-abbrev pub mark : Words → ℕ
+abbrev pub mark : WordList → ℕ
 mark [] = 0
 mark (w ∷ ws) = mark_of w
 
 pub false-true : false ≡ true → ⊥
 false-true h = cc
 
-same-mark : (a b : Words) → a ≡ b → nat_eq (mark a) (mark b) ≡ true
-same-mark a b e = subst (λ (b : Words). nat_eq (mark a) (mark b) ≡ true) e (self (mark a))
+same-mark : (a b : WordList) → a ≡ b → nat_eq (mark a) (mark b) ≡ true
+same-mark a b e = subst (λ (b : WordList). nat_eq (mark a) (mark b) ≡ true) e (self (mark a))
   where
     self : (n : ℕ) → nat_eq n n ≡ true
     self n = grind (arith, nat_tests)
@@ -78,18 +78,18 @@ tree-same one means T valid msg known t u h k few less e =
     let other : Means T msg (encoding T msg t) u = subst (λ (bytes : List ℕ). Means T msg bytes u) (sym same) (means T msg u valid known k less) in
     one T msg (encoding T msg t) t u (means T msg t valid known h few) other
 
-method-message : (T : Table) (sort : Sort) (m : Method) → IsMethod T m → message_of_method sort m < length T.messages
+method-message : (T : Table) (sort : CallKind) (m : Method) → IsMethod T m → message_of_method sort m < length T.messages
 method-message T Request m h = h.input
 method-message T Reply m h = h.output
 
-message-at : (T : Table) (sort : Sort) (ms : List Method) (i : ℕ) → All (IsMethod T) ms → i < length ms
+message-at : (T : Table) (sort : CallKind) (ms : List Method) (i : ℕ) → All (IsMethod T) ms → i < length ms
     → unwrap_or (option_map (message_of_method sort) (slice_get ms i)) 0 < length T.messages
 message-at T sort [] i all less = absurd (omega (arith, less))
 message-at T sort (m ∷ ms) zero all less = method-message T sort m (All-head (IsMethod T) m ms all)
 message-at T sort (m ∷ ms) (suc i) all less = message-at T sort ms i (All-tail (IsMethod T) m ms all) (omega (arith, less))
 
 pub known-message : (T : Table) → IsValid T → (method number : ℕ) → method < length T.methods → message_at T method number < length T.messages
-known-message T valid method number less = message-at T (sort_of number) T.methods method valid.methods less
+known-message T valid method number less = message-at T (call_kind_of number) T.methods method valid.methods less
 
 reason_of : List ℕ → Reason
 reason_of w =
@@ -102,7 +102,7 @@ reason_of w =
     if bytes_eq w (codes "Depth") then Depth else
     if bytes_eq w (codes "Loads") then Loads else NoMethod
 
-reason-told : (r : Reason) → reason_of (reason_word r) ≡ r
+reason-told : (r : Reason) → reason_of (graph_reason_word r) ≡ r
 unfolding reason_of
 reason-told Address = refl
 reason-told Presence = refl
@@ -114,7 +114,7 @@ reason-told Depth = refl
 reason-told Loads = refl
 reason-told NoMethod = refl
 
-reason-same : (r s : Reason) → reason_word r ≡ reason_word s → r ≡ s
+reason-same : (r s : Reason) → graph_reason_word r ≡ graph_reason_word s → r ≡ s
 reason-same r s e = sym (reason-told r) ∙ ap reason_of e ∙ reason-told s
 
 -- the copy of a call with this message, or why it has none
@@ -122,7 +122,7 @@ IsTakenAt : Table → ℕ → TookCopy → Type 0
 IsTakenAt T msg (Copy tree) = (msg < length T.messages) × IsNormal T msg tree × (length (encoding T msg tree) < 2 ^ 64)
 IsTakenAt T msg (Malformed reason place value) = (place < 2 ^ 64) × (value < 2 ^ 64)
 
-taken-at : (T : Table) → IsValid T → (call : Taken) (copy : TookCopy) → IsCopyTaken T call copy → IsTakenAt T (message_at T call.method call.number) copy
+taken-at : (T : Table) → IsValid T → (call : AcceptedCall) (copy : TookCopy) → IsWritableCopy T call copy → IsTakenAt T (message_at T call.method call.number) copy
 unfolding IsTakenAt
 taken-at T valid call (Copy tree) h = (known-message T valid call.method call.number h.method, h.normal, h.short)
 taken-at T valid call (Malformed reason place value) h = h
@@ -135,7 +135,7 @@ copy-same one means T valid msg (Copy t) (Copy u) h k m e =
     let hex : hex_word (encoding T msg t) ≡ hex_word (encoding T msg u) = cc in
     ap Copy (tree-same one means T valid msg h.0 t u h.1 k.1 h.2 k.2 hex)
 copy-same one means T valid msg (Malformed r p v) (Malformed s q w) h k m e =
-    let words : reason_word r ≡ reason_word s = cc in
+    let words : graph_reason_word r ≡ graph_reason_word s = cc in
     let places : decimal p ≡ decimal q = cc in
     let values : decimal v ≡ decimal w = cc in
     let reasons = reason-same r s words in
@@ -150,7 +150,7 @@ policy-same : (declared : Declared) (a b : List ℕ) (p q : Policy) → a ≡ b 
 policy-same declared a b p q e h k =
     let both : Some p ≡ Some q = sym h.under ∙ ap (λ l. policy_under l declared) e ∙ k.under in cc
 
-step-same : (declared : Declared) (a b : Step) → IsStep declared a → IsStep declared b
+step-same : (declared : Declared) (a b : Step) → IsWritableOp declared a → IsWritableOp declared b
     → nat_eq (mark (step_words a)) (mark (step_words b)) ≡ true → step_words a ≡ step_words b → a ≡ b
 step-same declared (Attach at name label policy) (Attach place other known rule) h k m e =
     let at_words : decimal at ≡ decimal place = cc in
@@ -167,7 +167,7 @@ step-same declared _ _ h k m e = absurd (false-true m)
 
 -- ---- refusals
 
-cause-same : (a b : Cause) → IsCause a → IsCause b → nat_eq (mark (cause_words a)) (mark (cause_words b)) ≡ true → cause_words a ≡ cause_words b → a ≡ b
+cause-same : (a b : Cause) → IsWritableCause a → IsWritableCause b → nat_eq (mark (cause_words a)) (mark (cause_words b)) ≡ true → cause_words a ≡ cause_words b → a ≡ b
 cause-same cause.Malformed cause.Malformed h k m e = refl
 cause-same (cause.Access name version rule) (cause.Access other later by) h k m e =
     let words : decimal version ≡ decimal later = cc in
@@ -191,19 +191,19 @@ cause-same _ _ h k m e = absurd (false-true m)
 
 -- ---- accepted calls
 
-made : ℕ → ℕ → ℕ → ℕ → ℕ → ℕ → TookCopy → Taken
+made : ℕ → ℕ → ℕ → ℕ → ℕ → ℕ → TookCopy → AcceptedCall
 made seq method number addr after count copy = record { seq = seq; method = method; number = number; addr = addr; after = after; count = count; copy = copy }
 
-made-again : (a : Taken) → made a.seq a.method a.number a.addr a.after a.count a.copy ≡ a
+made-again : (a : AcceptedCall) → made a.seq a.method a.number a.addr a.after a.count a.copy ≡ a
 unfolding made
 made-again a = refl
 
-taken-same : (a b : Taken) → a.seq ≡ b.seq → a.method ≡ b.method → a.number ≡ b.number → a.addr ≡ b.addr
+taken-same : (a b : AcceptedCall) → a.seq ≡ b.seq → a.method ≡ b.method → a.number ≡ b.number → a.addr ≡ b.addr
     → a.after ≡ b.after → a.count ≡ b.count → a.copy ≡ b.copy → a ≡ b
 taken-same a b seq method number addr after count copy = cc (made-again a, made-again b)
 
-call-same : OneMeaning → EncodingMeans → (T : Table) → IsValid T → (c d : ℕ) (a b : Taken) → IsAcceptance T a
-    → IsAcceptance T b → happening_words T c (Took a) ≡ happening_words T d (Took b) → a ≡ b
+call-same : OneMeaning → EncodingMeans → (T : Table) → IsValid T → (c d : ℕ) (a b : AcceptedCall) → IsWritableCall T a
+    → IsWritableCall T b → happening_words T c (Took a) ≡ happening_words T d (Took b) → a ≡ b
 call-same one means T valid c d a b h k e =
     let seq_words : decimal a.seq ≡ decimal b.seq = cc in
     let method_words : decimal a.method ≡ decimal b.method = cc in
@@ -227,7 +227,7 @@ call-same one means T valid c d a b h k e =
 -- ---- events
 
 what-same : OneMeaning → EncodingMeans → (T : Table) → IsValid T → (declared : Declared) (c d : ℕ) (x y : Happening)
-    → CanBeTold T declared x → CanBeTold T declared y
+    → CanBeWritten T declared x → CanBeWritten T declared y
     → nat_eq (mark (happening_words T c x)) (mark (happening_words T d y)) ≡ true
     → happening_words T c x ≡ happening_words T d y → x ≡ y
 what-same one means T valid declared c d (Took a) (Took b) h k m e = ap Took (call-same one means T valid c d a b h k e)
@@ -278,7 +278,7 @@ what-same one means T valid declared c d (Refused seq a) (Refused call b) h k m 
     let causes = cause-same a b h.1 k.1 (same-mark _ _ words) words in cc
 what-same one means T valid declared c d _ _ h k m e = absurd (false-true m)
 
-second : Words → List ℕ
+second : WordList → List ℕ
 second [] = []
 second (w ∷ []) = []
 second (w ∷ v ∷ ws) = v
@@ -297,17 +297,17 @@ second-word T conn (Redacted seq name version) = refl
 second-word T conn (Sent seq bytes) = refl
 second-word T conn (Refused seq why) = refl
 
-happened : ℕ → Happening → Happened
+happened : ℕ → Happening → ConnectionEvent
 happened conn what = record { conn = conn; what = what }
 
-happened-again : (x : Happened) → happened x.conn x.what ≡ x
+happened-again : (x : ConnectionEvent) → happened x.conn x.what ≡ x
 unfolding happened
 happened-again x = refl
 
-happened-same : (x y : Happened) → x.conn ≡ y.conn → x.what ≡ y.what → x ≡ y
+happened-same : (x y : ConnectionEvent) → x.conn ≡ y.conn → x.what ≡ y.what → x ≡ y
 happened-same x y conn what = cc (happened-again x, happened-again y)
 
-pub words-same : OneMeaning → EncodingMeans → (T : Table) → IsValid T → (declared : Declared) (x y : Happened)
+pub words-same : OneMeaning → EncodingMeans → (T : Table) → IsValid T → (declared : Declared) (x y : ConnectionEvent)
     → IsWritable T declared x → IsWritable T declared y
     → happening_words T x.conn x.what ≡ happening_words T y.conn y.what → x ≡ y
 words-same one means T valid declared x y h k e =

@@ -12,9 +12,9 @@ use Rattle.std.proofs.lemmas.List.Elements.{All-from_recursion}
 use Rattle.std.proofs.lemmas.List.Folds.{list_all_more}
 use Rattle.std.proofs.lemmas.List.Splits.{slice_split_at, slice_split_none}
 use Rattle.mrpc_table.specs.Lines.{words_of, is_decimal, number_of}
-use Rattle.audit_text.specs.Lines.{Words}
+use Rattle.audit_text.specs.Lines.{WordList}
 use Rattle.audit_text.specs.Numbers.{IsNumberBefore}
-use Rattle.audit_text.specs.Reading.{number_from, number_said}
+use Rattle.audit_text.specs.Reading.{number_from, read_number}
 use Rattle.audit_text.proofs.WordsOfLines.{below-some}
 
 both : (a b : Bool) → (a && b) ≡ true → (a ≡ true) × (b ≡ true)
@@ -83,12 +83,12 @@ last_word : {text : List ℕ} {n : ℕ} → (w : IsNumberBefore text n []) → w
 last_word w = ap words_of (w.parts ∙ append-nil w.digits) ∙ slice_split_none (λ c. c == 32) w.digits (no_spaces w.digits w.are_digits)
 
 -- digits that spell a number, as the first of some words
-said : (digits : List ℕ) (n : ℕ) (words : Words) → number_of digits ≡ Some n → n < 2 ^ 64 → number_said (2 ^ 64) (digits ∷ words) ≡ Some (n, words)
-unfolding number_said
+said : (digits : List ℕ) (n : ℕ) (words : WordList) → number_of digits ≡ Some n → n < 2 ^ 64 → read_number (2 ^ 64) (digits ∷ words) ≡ Some (n, words)
+unfolding read_number
 said digits n words spells small = ap (λ (found : Option ℕ). number_from (2 ^ 64) found words) spells ∙ below-some (2 ^ 64) n words small
 
-pub number_before : (text rest : List ℕ) (n : ℕ) → IsNumberBefore text n (32 ∷ rest) → number_said (2 ^ 64) (words_of text) ≡ Some (n, words_of rest)
-number_before text rest n w = ap (λ (words : Words). number_said (2 ^ 64) words) (word_before w) ∙ said w.digits n (words_of rest) w.spells w.small
+pub number_before : (text rest : List ℕ) (n : ℕ) → IsNumberBefore text n (32 ∷ rest) → read_number (2 ^ 64) (words_of text) ≡ Some (n, words_of rest)
+number_before text rest n w = ap (λ (words : WordList). read_number (2 ^ 64) words) (word_before w) ∙ said w.digits n (words_of rest) w.spells w.small
 
-pub last_number : (text : List ℕ) (n : ℕ) → IsNumberBefore text n [] → number_said (2 ^ 64) (words_of text) ≡ Some (n, [])
-last_number text n w = ap (λ (words : Words). number_said (2 ^ 64) words) (last_word w) ∙ said w.digits n [] w.spells w.small
+pub last_number : (text : List ℕ) (n : ℕ) → IsNumberBefore text n [] → read_number (2 ^ 64) (words_of text) ≡ Some (n, [])
+last_number text n w = ap (λ (words : WordList). read_number (2 ^ 64) words) (last_word w) ∙ said w.digits n [] w.spells w.small

@@ -11,21 +11,21 @@ use Rattle.mrpc_table.specs.declared.memory.Memory.{Memory}
 use Rattle.mrpc_table.specs.declared.table.Table.{Table}
 use Rattle.wire_base.specs.Encoding.{encoding}
 use Rattle.audit_text.specs.Copies.{HasShortEncoding}
-use Rattle.audit_text.specs.Lines.{Words, hex_word}
-use Rattle.audit_text.specs.Reading.{Reads}
+use Rattle.audit_text.specs.Lines.{WordList, hex_word}
+use Rattle.audit_text.specs.Reading.{IsExactReading}
 use Rattle.audit_text.proofs.Bytes.{bytes-each}
 use Rattle.audit_text.proofs.Digits.{digits-tell}
 use Rattle.audit_text.proofs.EncodedBytes.{encoding-bytes}
 use Rattle.audit_text.proofs.Telling.{hex-word}
 use Rattle.audit_text.proofs.Words.{cut-none}
 
-abbrev pub ReadsTree : Table → ℕ → Words → Result (Option Node) Memory → Type 0
-ReadsTree T msg words r = Reads (HasShortEncoding T msg) (λ t. hex_word (encoding T msg t) ∷ []) words r
+abbrev pub ReadsTree : Table → ℕ → WordList → Result (Option Node) Memory → Type 0
+ReadsTree T msg words r = IsExactReading (HasShortEncoding T msg) (λ t. hex_word (encoding T msg t) ∷ []) words r
 
 hex-cut : (T : Table) → IsValid T → (msg : ℕ) (t : Node) → HasShortEncoding T msg t → words_of (hex_word (encoding T msg t)) ≡ hex_word (encoding T msg t) ∷ []
 hex-cut T valid msg t h = cut-none 32 (hex_word (encoding T msg t)) (hex-word (encoding T msg t) (encoding-bytes T msg t valid h.normal h.short))
 
-first-same : (x y : List ℕ) → ◌≡◌ {A = Words} (x ∷ []) (y ∷ []) → x ≡ y
+first-same : (x y : List ℕ) → ◌≡◌ {A = WordList} (x ∷ []) (y ∷ []) → x ≡ y
 first-same x y e = cc
 
 -- a space is no digit, so a remainder that spells an encoding is one word
@@ -40,7 +40,7 @@ read-alone T valid msg text (Err fault) h = tt
 -- ---- the bytes of a word
 
 abbrev pub ReadsBytes : Table → ℕ → List ℕ → Result (Option Node) Memory → Type 0
-ReadsBytes T msg bytes r = Reads (HasShortEncoding T msg) (λ t. encoding T msg t ∷ []) (bytes ∷ []) r
+ReadsBytes T msg bytes r = IsExactReading (HasShortEncoding T msg) (λ t. encoding T msg t ∷ []) (bytes ∷ []) r
 
 -- a word is read as the bytes of its digits are
 pub by-bytes : (T : Table) → IsValid T → (msg : ℕ) (word bytes : List ℕ) (r : Result (Option Node) Memory) → IsBytes bytes → word ≡ hex_word bytes

@@ -7,12 +7,12 @@ use Rattle.std.proofs.lemmas.Slice.Eq.{bytes_eq-Decides}
 use Rattle.mrpc_table.specs.Names.{is_name_form}
 use Rattle.mrpc_table.specs.declared.table.Table.{Table}
 use Rattle.policy_declarations.specs.Declarations.{Declared}
-use Rattle.audit_text.specs.Lines.{Words, held_words, transport}
-use Rattle.audit_text.specs.Writable.{IsHolding, IsQueueName, IsStanding}
+use Rattle.audit_text.specs.Lines.{WordList, held_words, transport}
+use Rattle.audit_text.specs.Writable.{IsWritableHolding, IsQueueName, IsWritablePendingCall}
 use Rattle.audit_text.specs.declared.holding.Holding.{Holding}
-use Rattle.audit_text.specs.LineWords.{holding_said, is_queue_name, line_words, stands_said}
-use Rattle.audit_text.specs.Reading.{◌>>=◌, first_said, last_said, number_said}
-use Rattle.audit_text.specs.Told.{IsLine}
+use Rattle.audit_text.specs.LineWords.{read_holding, is_queue_name, line_words, read_stands}
+use Rattle.audit_text.specs.Reading.{◌>>=◌, read_word, read_last_number, read_number}
+use Rattle.audit_text.specs.LineBytes.{IsWritableLine}
 use Rattle.audit_text.specs.declared.line.AuditLine.{AuditLine}
 use Rattle.audit_text.specs.declared.line.AuditLine.TheVariants as lines
 use Rattle.audit_text.proofs.Causes.{first-said}
@@ -40,21 +40,21 @@ queue-read word (inr is) = right-true (is_name_form word) (bytes_eq word transpo
 
 -- ---- held calls
 
-abbrev held_from : Words → Option (Option Holding)
-held_from ws = number_said (2 ^ 64) ws >>= (λ level. last_said (2 ^ 64) level.1 >>= (λ cost. Some (Some (record { level = level.0; cost = cost }))))
+abbrev held_from : WordList → Option (Option Holding)
+held_from ws = read_number (2 ^ 64) ws >>= (λ level. read_last_number (2 ^ 64) level.1 >>= (λ cost. Some (Some (record { level = level.0; cost = cost }))))
 
-holding-is : (ws : Words) (holding : Option Holding) → holding_said ws ≡ Some holding → IsHolding holding × (ws ≡ held_words holding)
-unfolding holding_said
-holding-is [] holding e = let P : Option Holding → Type 0 = λ h. IsHolding h × (◌≡◌ {A = Words} [] (held_words h)) in subst P (unsome None holding e) (tt, refl)
+holding-is : (ws : WordList) (holding : Option Holding) → read_holding ws ≡ Some holding → IsWritableHolding holding × (ws ≡ held_words holding)
+unfolding read_holding
+holding-is [] holding e = let P : Option Holding → Type 0 = λ h. IsWritableHolding h × (◌≡◌ {A = WordList} [] (held_words h)) in subst P (unsome None holding e) (tt, refl)
 holding-is (w ∷ ws) holding e = go (bytes_eq w (codes "held")) refl e
   where
-    go : (b : Bool) → bytes_eq w (codes "held") ≡ b → cond b (held_from ws) None ≡ Some holding → IsHolding holding × (w ∷ ws ≡ held_words holding)
+    go : (b : Bool) → bytes_eq w (codes "held") ≡ b → cond b (held_from ws) None ≡ Some holding → IsWritableHolding holding × (w ∷ ws ≡ held_words holding)
     go true is e =
-        let a = chained _ (number_said (2 ^ 64) ws) holding e in
-        let b = chained _ (last_said (2 ^ 64) a.0.1) holding a.2 in
+        let a = chained _ (read_number (2 ^ 64) ws) holding e in
+        let b = chained _ (read_last_number (2 ^ 64) a.0.1) holding a.2 in
         let h = number-said (2 ^ 64) ws a.0 (omega arith) a.1 in
         let k = last-said (2 ^ 64) a.0.1 b.0 (omega arith) b.1 in
-        let P : Option Holding → Type 0 = λ x. IsHolding x × (w ∷ ws ≡ held_words x) in
+        let P : Option Holding → Type 0 = λ x. IsWritableHolding x × (w ∷ ws ≡ held_words x) in
         subst P (unsome (Some (record { level = a.0.0; cost = b.0 })) holding b.2) (
           (h.0, k.0),
           ap (λ v. v ∷ ws) ((bytes_eq-Decides w (codes "held")).0 is) ∙ ap (λ r. codes "held" ∷ r)
@@ -62,36 +62,36 @@ holding-is (w ∷ ws) holding e = go (bytes_eq w (codes "held")) refl e
         )
     go false is e = absurd cc
 
-holding-read : (holding : Option Holding) → IsHolding holding → holding_said (held_words holding) ≡ Some holding
-unfolding holding_said
+holding-read : (holding : Option Holding) → IsWritableHolding holding → read_holding (held_words holding) ≡ Some holding
+unfolding read_holding
 holding-read None h = refl
 holding-read (Some at) h = rw (number-read (2 ^ 64) at.level (decimal at.cost ∷ []) (omega arith) h.0, last-read (2 ^ 64) at.cost (omega arith) h.1) refl
 
 -- ---- lines
 
-abbrev pub SaysLine : Table → Declared → Words → AuditLine → Type 0
-SaysLine T declared ws x = IsLine T declared x × (ws ≡ line_words T x)
+abbrev pub SaysLine : Table → Declared → WordList → AuditLine → Type 0
+SaysLine T declared ws x = IsWritableLine T declared x × (ws ≡ line_words T x)
 
-pub stands-said : (T : Table) (declared : Declared) (conn : ℕ) (ws : Words) (x : AuditLine) → conn < 2 ^ 32
-    → stands_said conn ws ≡ Some x → SaysLine T declared (codes "stands" ∷ decimal conn ∷ ws) x
-unfolding stands_said
+pub stands-said : (T : Table) (declared : Declared) (conn : ℕ) (ws : WordList) (x : AuditLine) → conn < 2 ^ 32
+    → read_stands conn ws ≡ Some x → SaysLine T declared (codes "stands" ∷ decimal conn ∷ ws) x
+unfolding read_stands
 stands-said T declared conn ws x less e =
-    let a = chained _ (number_said (2 ^ 32) ws) x e in
-    let b = chained _ (number_said (2 ^ 32) a.0.1) x a.2 in
-    let c = chained _ (first_said b.0.1) x b.2 in
+    let a = chained _ (read_number (2 ^ 32) ws) x e in
+    let b = chained _ (read_number (2 ^ 32) a.0.1) x a.2 in
+    let c = chained _ (read_word b.0.1) x b.2 in
     let h = number-said (2 ^ 32) ws a.0 (omega arith) a.1 in
     let k = number-said (2 ^ 32) a.0.1 b.0 (omega arith) b.1 in
     let l = first-said b.0.1 c.0 c.1 in
-    let front : (rest : Words) → c.0.1 ≡ rest → codes "stands" ∷ decimal conn ∷ ws ≡ codes "stands" ∷ decimal conn ∷ decimal a.0.0 ∷ decimal b.0.0 ∷ c.0.0 ∷ rest =
+    let front : (rest : WordList) → c.0.1 ≡ rest → codes "stands" ∷ decimal conn ∷ ws ≡ codes "stands" ∷ decimal conn ∷ decimal a.0.0 ∷ decimal b.0.0 ∷ c.0.0 ∷ rest =
     λ rest is. ap (λ r. codes "stands" ∷ decimal conn ∷ r) (h.1 ∙ ap (λ r. decimal a.0.0 ∷ r) (k.1 ∙ ap (λ r. decimal b.0.0 ∷ r) (l ∙ ap (λ r. c.0.0 ∷ r) is))) in
     go conn less a.0.0 h.0 b.0.0 k.0 c.0.0 c.0.1 front (is_queue_name c.0.0) refl c.2
   where
-    go : (conn : ℕ) → conn < 2 ^ 32 → (seq : ℕ) → seq < 2 ^ 32 → (position : ℕ) → position < 2 ^ 32 → (name : List ℕ) (rest : Words)
-        → ((r : Words) → rest ≡ r → codes "stands" ∷ decimal conn ∷ ws ≡ codes "stands" ∷ decimal conn ∷ decimal seq ∷ decimal position ∷ name ∷ r)
+    go : (conn : ℕ) → conn < 2 ^ 32 → (seq : ℕ) → seq < 2 ^ 32 → (position : ℕ) → position < 2 ^ 32 → (name : List ℕ) (rest : WordList)
+        → ((r : WordList) → rest ≡ r → codes "stands" ∷ decimal conn ∷ ws ≡ codes "stands" ∷ decimal conn ∷ decimal seq ∷ decimal position ∷ name ∷ r)
         → (b : Bool) → is_queue_name name ≡ b
-        → cond b (holding_said rest >>= (λ holding. Some (lines.Stands conn seq position name holding))) None ≡ Some x → SaysLine T declared (codes "stands" ∷ decimal conn ∷ ws) x
+        → cond b (read_holding rest >>= (λ holding. Some (lines.Stands conn seq position name holding))) None ≡ Some x → SaysLine T declared (codes "stands" ∷ decimal conn ∷ ws) x
     go conn small seq less position under name rest front true is e =
-        let d = chained _ (holding_said rest) x e in
+        let d = chained _ (read_holding rest) x e in
         let m = holding-is rest d.0 d.1 in
         let P : AuditLine → Type 0 = λ y. SaysLine T declared (codes "stands" ∷ decimal conn ∷ ws) y in
         subst P (unsome (lines.Stands conn seq position name d.0) x d.2) (
@@ -107,10 +107,10 @@ stands-said T declared conn ws x less e =
     go conn small seq less position under name rest front false is e = absurd cc
 
 pub stands-read : (conn seq position : ℕ) (name : List ℕ) (holding : Option Holding)
-    → IsStanding conn seq position name holding
-    → stands_said conn (decimal seq ∷ decimal position ∷ name ∷ held_words holding)
+    → IsWritablePendingCall conn seq position name holding
+    → read_stands conn (decimal seq ∷ decimal position ∷ name ∷ held_words holding)
     ≡ Some (lines.Stands conn seq position name holding)
-unfolding stands_said
+unfolding read_stands
 stands-read conn seq position name holding h =
     rw (
       number-read (2 ^ 32) seq (decimal position ∷ name ∷ held_words holding) (omega arith) h.seq,

@@ -6,7 +6,7 @@ use Rattle.hex.specs.Hex.{encode_lower, encode_with, lower_digits}
 use Rattle.mrpc_table.specs.Calls.{message_at}
 use Rattle.mrpc_table.specs.Valid.{IsValid}
 use Rattle.mrpc_table.specs.declared.table.Table.{Table}
-use Rattle.graph_form.specs.Words.{reason_word}
+use Rattle.graph_form.specs.Words.{graph_reason_word}
 use Rattle.graph_form.specs.declared.reason.Reason.{Reason}
 use Rattle.graph_form.specs.declared.reason.Reason.TheVariants.{Address, Presence, Case, Length, Utf8, Narrow, Depth, Loads, NoMethod}
 use Rattle.engine_core.specs.declared.op.Op.{Op as Step}
@@ -15,19 +15,19 @@ use Rattle.call_history.specs.declared.happening.Cause.{Cause}
 use Rattle.call_history.specs.declared.happening.Cause.TheVariants as cause
 use Rattle.call_history.specs.declared.happening.Happening.{Happening}
 use Rattle.call_history.specs.declared.happening.Happening.TheVariants.{Took, Away, Op, Moment, Charged, Drawn, Counted, Redacted, Sent, Refused}
-use Rattle.call_history.specs.declared.happening.Taken.{Taken}
+use Rattle.call_history.specs.declared.happening.AcceptedCall.{AcceptedCall}
 use Rattle.call_history.specs.declared.happening.TookCopy.{TookCopy}
 use Rattle.call_history.specs.declared.happening.TookCopy.TheVariants.{Copy, Malformed}
 use Rattle.policy_declarations.specs.Declarations.{Declared}
 use Rattle.audit_text.specs.Lines.{hex_word, copy_words, step_words, cause_words, happening_words}
-use Rattle.audit_text.specs.Writable.{IsStep, IsCopyTaken, IsCause, CanBeTold}
+use Rattle.audit_text.specs.Writable.{IsWritableOp, IsWritableCopy, IsWritableCause, CanBeWritten}
 use Rattle.audit_text.proofs.Bytes.{AreBytes}
 use Rattle.audit_text.proofs.EncodedBytes.{encoding-bytes}
 use Rattle.audit_text.proofs.Words.{IsWord, AreWords, decimal-word, name-word, literal, lt-from, both-left, both-right}
 
 -- ---- the words of each event are words
 
-reason-words : (r : Reason) → IsWord (reason_word r)
+reason-words : (r : Reason) → IsWord (graph_reason_word r)
 reason-words Address = literal (codes "Address") refl
 reason-words Presence = literal (codes "Presence") refl
 reason-words Case = literal (codes "Case") refl
@@ -67,23 +67,23 @@ word16 n h = decimal-word n (low16 n h)
 pub word32 : (n : ℕ) → n < 2 ^ 32 → IsWord (decimal n)
 word32 n h = decimal-word n (low32 n h)
 
-copy-are_words : (T : Table) → IsValid T → (call : Taken) (copy : TookCopy) → IsCopyTaken T call copy → AreWords (copy_words T (message_at T call.method call.number) copy)
+copy-are_words : (T : Table) → IsValid T → (call : AcceptedCall) (copy : TookCopy) → IsWritableCopy T call copy → AreWords (copy_words T (message_at T call.method call.number) copy)
 copy-are_words T valid call (Copy tree) h = (literal (codes "copy") refl, (hex-word _ (encoding-bytes T _ tree valid h.normal h.short), tt))
 copy-are_words T valid call (Malformed reason place value) h = (literal (codes "malformed") refl, (reason-words reason, (decimal-word place h.0, (decimal-word value h.1, tt))))
 
-step-are_words : (declared : Declared) (step : Step) → IsStep declared step → AreWords (step_words step)
+step-are_words : (declared : Declared) (step : Step) → IsWritableOp declared step → AreWords (step_words step)
 step-are_words declared (Attach at name label policy) h = (literal (codes "attach") refl, (word32 at h.0, (name-word name h.1, (name-word label h.2.form, tt))))
 step-are_words declared (Detach name) h = (literal (codes "detach") refl, (name-word name h, tt))
 step-are_words declared (Upgrade name label policy) h = (literal (codes "upgrade") refl, (name-word name h.0, (name-word label h.1.form, tt)))
 
-cause-are_words : (why : Cause) → IsCause why → AreWords (cause_words why)
+cause-are_words : (why : Cause) → IsWritableCause why → AreWords (cause_words why)
 cause-are_words cause.Malformed h = (literal (codes "malformed") refl, tt)
 cause-are_words (cause.Access name version rule) h = (literal (codes "access") refl, (name-word name h.0, (word32 version h.1, (name-word rule h.2, tt))))
 cause-are_words (cause.Rate name left cost) h = (literal (codes "rate") refl, (name-word name h.0, (decimal-word left h.1, (decimal-word cost h.2, tt))))
 cause-are_words (cause.Quota name ticket cap) h = (literal (codes "quota") refl, (name-word name h.0, (decimal-word ticket h.1, (decimal-word cap h.2, tt))))
 cause-are_words cause.Transport h = (literal (codes "transport") refl, tt)
 
-pub are-words : (T : Table) → IsValid T → (declared : Declared) (conn : ℕ) (x : Happening) → conn < 2 ^ 32 → CanBeTold T declared x → AreWords (happening_words T conn x)
+pub are-words : (T : Table) → IsValid T → (declared : Declared) (conn : ℕ) (x : Happening) → conn < 2 ^ 32 → CanBeWritten T declared x → AreWords (happening_words T conn x)
 are-words T valid declared conn (Took call) small h = (
   literal (codes "took") refl,
   (

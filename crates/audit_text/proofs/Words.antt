@@ -13,7 +13,7 @@ use Rattle.std.proofs.lemmas.List.Splits.{join_with_byte-slice_split}
 use Rattle.std.proofs.lemmas.Str.Parse.{IsNumeralModel, numerals_by_value}
 use Rattle.mrpc_table.specs.Names.{is_name_start, is_name_byte, is_name_form}
 use Rattle.mrpc_table.specs.Text.{line, spaced}
-use Rattle.audit_text.specs.Lines.{IsCutInto}
+use Rattle.audit_text.specs.Lines.{IsSplitInto}
 
 -- ---- tests of each element
 
@@ -113,7 +113,7 @@ above-each bound (c ∷ w) h (suc k) d less = above-each bound w h.1 k d (omega 
 above-all : (bound : ℕ) (w : List ℕ) → AreAbove bound w → All (λ c. c ≢ bound) w
 above-all bound w h = above-each bound w h
 
-pub cut-into : (ws : List (List ℕ)) → 0 < length ws → AreWords ws → IsCutInto ws
+pub cut-into : (ws : List (List ℕ)) → 0 < length ws → AreWords ws → IsSplitInto ws
 cut-into ws some h = record { cut = spaced-cut ws some h; one_line = above-all 10 (spaced ws) (spaced-above ws h) }
 
 pub lt-from : {m n : ℕ} → nat_lt m n ≡ true → m < n

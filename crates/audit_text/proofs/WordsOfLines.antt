@@ -3,22 +3,22 @@ use Rattle.std.proofs.Common.{◌≡◌, ℕ, ◌≤◌, ◌<◌, ◌==◌, List
 use Rattle.std.proofs.lemmas.Bool.{cases_lt, lt-ltb, le-ltb}
 use Rattle.std.proofs.lemmas.List.Splits.{length-slice_split}
 use Rattle.mrpc_table.specs.Lines.{words_of, number_of}
-use Rattle.audit_text.specs.Lines.{Words}
-use Rattle.audit_text.specs.Reading.{below, end_said, number_from, number_said}
+use Rattle.audit_text.specs.Lines.{WordList}
+use Rattle.audit_text.specs.Reading.{below, read_end, number_from, read_number}
 
-none-left : (words : Words) → 0 < length words → end_said words ≡ None
+none-left : (words : WordList) → 0 < length words → read_end words ≡ None
 none-left [] some = absurd (omega (arith, some))
 none-left (w ∷ ws) some = refl
 
-pub words-left : (text : List ℕ) → end_said (words_of text) ≡ None
+pub words-left : (text : List ℕ) → read_end (words_of text) ≡ None
 words-left text = none-left (words_of text) (omega (arith, length-slice_split (λ c. c == 32) text))
 
 -- ---- numbers
 
-pub below-some : (bound n : ℕ) (words : Words) → n < bound → below bound n words ≡ Some (n, words)
+pub below-some : (bound n : ℕ) (words : WordList) → n < bound → below bound n words ≡ Some (n, words)
 below-some bound n words less = rw (lt-ltb n bound less) refl
 
-pub below-none : (bound n : ℕ) (words : Words) → bound ≤ n → below bound n words ≡ None
+pub below-none : (bound n : ℕ) (words : WordList) → bound ≤ n → below bound n words ≡ None
 below-none bound n words more = rw (le-ltb n bound more) refl
 
 pub some-pair : {A B : Type 0} (a b : A) (x y : B) → ◌≡◌ {A = Option (A × B)} (Some (a, x)) (Some (b, y)) → (a ≡ b) × (x ≡ y)
@@ -28,7 +28,7 @@ some-pair {A} {B} a b x y e =
 pub not-some : {A : Type 0} (x : A) → Some x ≡ None → ⊥
 not-some x e = cc
 
-narrow : (low high n : ℕ) (found : Option ℕ) (words rest : Words) → number_from high found words ≡ Some (n, rest) → number_from low found words ≡ below low n rest
+narrow : (low high n : ℕ) (found : Option ℕ) (words rest : WordList) → number_from high found words ≡ Some (n, rest) → number_from low found words ≡ below low n rest
 narrow low high n None words rest e = absurd cc
 narrow low high n (Some m) words rest e =
     elim (cases_lt m high) [
@@ -38,7 +38,7 @@ narrow low high n (Some m) words rest e =
       | inr more ↦ absurd (not-some (n, rest) (sym e ∙ below-none high m words more))
     ]
 
-narrow-lost : (low high : ℕ) (found : Option ℕ) (words : Words) → low ≤ high → number_from high found words ≡ None → number_from low found words ≡ None
+narrow-lost : (low high : ℕ) (found : Option ℕ) (words : WordList) → low ≤ high → number_from high found words ≡ None → number_from low found words ≡ None
 narrow-lost low high None words le e = refl
 narrow-lost low high (Some m) words le e =
     elim (cases_lt m high) [
@@ -47,12 +47,12 @@ narrow-lost low high (Some m) words le e =
     ]
 
 -- a 64-bit number that is, or isn't, below a smaller bound
-pub narrow-some : (low high n : ℕ) (words rest : Words) → number_said high words ≡ Some (n, rest) → number_said low words ≡ below low n rest
-unfolding number_said
+pub narrow-some : (low high n : ℕ) (words rest : WordList) → read_number high words ≡ Some (n, rest) → read_number low words ≡ below low n rest
+unfolding read_number
 narrow-some low high n [] rest e = absurd cc
 narrow-some low high n (w ∷ ws) rest e = narrow low high n (number_of w) ws rest e
 
-pub narrow-none : (low high : ℕ) (words : Words) → low ≤ high → number_said high words ≡ None → number_said low words ≡ None
-unfolding number_said
+pub narrow-none : (low high : ℕ) (words : WordList) → low ≤ high → read_number high words ≡ None → read_number low words ≡ None
+unfolding read_number
 narrow-none low high [] le e = refl
 narrow-none low high (w ∷ ws) le e = narrow-lost low high (number_of w) ws le e

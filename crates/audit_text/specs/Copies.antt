@@ -9,11 +9,11 @@ use Rattle.mrpc_table.specs.declared.table.Table.{Table}
 use Rattle.wire_base.specs.Encoding.{encoding}
 use Rattle.graph_form.specs.declared.reason.Reason.{Reason}
 use Rattle.graph_form.specs.declared.reason.Reason.TheVariants.{Address, Presence, Case, Length, Utf8, Narrow, Depth, Loads, NoMethod}
-use Rattle.call_history.specs.declared.happening.Taken.{Taken}
+use Rattle.call_history.specs.declared.happening.AcceptedCall.{AcceptedCall}
 use Rattle.call_history.specs.declared.happening.TookCopy.{TookCopy}
 use Rattle.call_history.specs.declared.happening.TookCopy.TheVariants.{Malformed}
-use Rattle.audit_text.specs.Lines.{Words, copy_words}
-use Rattle.audit_text.specs.Reading.{◌>>=◌, first_said, last_said, number_said}
+use Rattle.audit_text.specs.Lines.{WordList, copy_words}
+use Rattle.audit_text.specs.Reading.{◌>>=◌, read_word, read_last_number, read_number}
 use Rattle.audit_text.specs.declared.copy.CallNumbers.{CallNumbers}
 
 -- a normal tree of a message, whose encoding has fewer than 2^64 bytes
@@ -22,8 +22,8 @@ pub record HasShortEncoding (T : Table) (msg : ℕ) (tree : Node) : Type 0 where
   pub short : length (encoding T msg tree) < 2 ^ 64
 
 -- the words of an accepted call, after its connection
-abbrev pub taken_words : Table → Taken → Words
-taken_words T call =
+abbrev pub accepted_words : Table → AcceptedCall → WordList
+accepted_words T call =
     decimal call.seq ∷ decimal call.method ∷ decimal call.number ∷ decimal call.addr ∷ decimal call.after
     ∷ decimal call.count ∷ copy_words T (message_at T call.method call.number) call.copy
 
@@ -31,18 +31,18 @@ abbrev pub made_head : ℕ → ℕ → ℕ → ℕ → ℕ → ℕ → CallNumbe
 made_head seq method number addr after count =
     record { seq = seq; method = method; number = number; addr = addr; after = after; count = count }
 
-unfoldable pub head_said : Words → Option (CallNumbers × Words)
-head_said words = do
-  seq ← number_said (2 ^ 32) words
-  method ← number_said (2 ^ 16) seq.1
-  number ← number_said (2 ^ 32) method.1
-  addr ← number_said (2 ^ 64) number.1
-  after ← number_said (2 ^ 64) addr.1
-  count ← number_said (2 ^ 64) after.1
+unfoldable pub read_call_numbers : WordList → Option (CallNumbers × WordList)
+read_call_numbers words = do
+  seq ← read_number (2 ^ 32) words
+  method ← read_number (2 ^ 16) seq.1
+  number ← read_number (2 ^ 32) method.1
+  addr ← read_number (2 ^ 64) number.1
+  after ← read_number (2 ^ 64) addr.1
+  count ← read_number (2 ^ 64) after.1
   Some (made_head seq.0 method.0 number.0 addr.0 after.0 count.0, count.1)
 
-abbrev pub reason_said : List ℕ → Option Reason
-reason_said word =
+abbrev pub read_reason : List ℕ → Option Reason
+read_reason word =
     if bytes_eq word (codes "Address") then Some Address
     else if bytes_eq word (codes "Presence") then Some Presence
     else if bytes_eq word (codes "Case") then Some Case
@@ -54,10 +54,10 @@ reason_said word =
     else if bytes_eq word (codes "NoMethod") then Some NoMethod
     else None
 
-unfoldable pub malformed_said : Words → Option TookCopy
-malformed_said words = do
-  word ← first_said words
-  reason ← reason_said word.0
-  place ← number_said (2 ^ 64) word.1
-  value ← last_said (2 ^ 64) place.1
+unfoldable pub read_malformed : WordList → Option TookCopy
+read_malformed words = do
+  word ← read_word words
+  reason ← read_reason word.0
+  place ← read_number (2 ^ 64) word.1
+  value ← read_last_number (2 ^ 64) place.1
   Some (Malformed reason place.0 value)

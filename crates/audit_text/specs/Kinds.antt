@@ -1,11 +1,11 @@
 -- The code's own: the first words of lines.
 use Rattle.std.specs.Prelude.{ℕ, List, codes, Option, Some, None, if◌then◌else◌}
 use Rattle.std.specs.Str.{bytes_eq}
-use Rattle.audit_text.specs.declared.what.Kind.{Kind}
-use Rattle.audit_text.specs.declared.what.Kind.TheVariants.{Took, Away, Op, Moment, Charged, Drawn, Counted, Redacted, Sent, Refused}
+use Rattle.audit_text.specs.declared.event_words.LineKind.{LineKind}
+use Rattle.audit_text.specs.declared.event_words.LineKind.TheVariants.{Took, Away, Op, Moment, Charged, Drawn, Counted, Redacted, Sent, Refused}
 
-abbrev pub kind_said : List ℕ → Option Kind
-kind_said word =
+abbrev pub read_kind : List ℕ → Option LineKind
+read_kind word =
     if bytes_eq word (codes "charged") then Some Charged
     else if bytes_eq word (codes "drawn") then Some Drawn
     else if bytes_eq word (codes "counted") then Some Counted

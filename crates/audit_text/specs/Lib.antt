@@ -1,7 +1,7 @@
-pub mod Briefs
+pub mod HappeningRefs
 pub mod Copies
 pub mod Faults
-pub mod Fronts
+pub mod Prefixes
 pub mod Hexadecimal
 pub mod Kinds
 pub mod Labels
@@ -10,6 +10,6 @@ pub mod Lines
 pub mod Numbers
 pub mod Pieces
 pub mod Reading
-pub mod Said
-pub mod Told
+pub mod EventReading
+pub mod LineBytes
 pub mod Writable

@@ -7,20 +7,20 @@ ghost use Rattle.mrpc_table.specs.Node.{Node};
 ghost use Rattle.mrpc_table.specs.Normal.{IsNormal};
 ghost use Rattle.mrpc_table.specs.Valid.{IsValid};
 ghost use Rattle.wire_base.specs.Encoding.{encoding};
-ghost use Rattle.call_history.specs.declared.happening.Taken.{Taken};
+ghost use Rattle.call_history.specs.declared.happening.AcceptedCall.{AcceptedCall};
 ghost use Rattle.audit_text.specs.Lines.{copy_words, hex_word};
-ghost use Rattle.audit_text.specs.Writable.{IsAcceptance, IsCopyTaken};
-ghost use Rattle.audit_text.specs.Copies.{head_said, malformed_said, reason_said, taken_words, HasShortEncoding};
-ghost use Rattle.audit_text.specs.Reading.{words_in, Reads};
+ghost use Rattle.audit_text.specs.Writable.{IsWritableCall, IsWritableCopy};
+ghost use Rattle.audit_text.specs.Copies.{read_call_numbers, read_malformed, read_reason, accepted_words, HasShortEncoding};
+ghost use Rattle.audit_text.specs.Reading.{words_in, IsExactReading};
 
 use crate::hexadecimal::read_bytes;
-use crate::word::{Rest, is_word, last64, next, number16, number32, number64};
-use call_history::{Taken, TookCopy};
+use crate::word::{Remainder, is_word, last64, next, number16, number32, number64};
+use call_history::{AcceptedCall, TookCopy};
 use graph_form::Reason;
 use mrpc_table::{Memory, Table, Tree};
 use std::alloc::Global;
 use wire_decode::{DecodeFault, decode, meaning_of_encoding};
-use wire_encode::{Output, encode_into};
+use wire_encode::{BackwardBuffer, encode_into};
 
 // Copies of up to this many bytes are read into an array on the stack. Longer ones need an allocation.
 const ROOM: usize = 128;
@@ -37,9 +37,9 @@ pub(crate) struct CallNumbers {
 }
 
 // Reads `SEQ METHOD NUMBER ADDR AFTER COUNT`, and returns the remainder too.
-#[tactic(auto, unfolding(crate::specs::Copies::head_said))]
-fn numbers(rest: Rest<'_>) -> Option<(CallNumbers, Rest<'_>)>
-    ensures { option_map (λ p. (p.0, words_in p.1)) result ≡ head_said (words_in rest.entry) }
+#[tactic(auto, unfolding(crate::specs::Copies::read_call_numbers))]
+fn numbers(rest: Remainder<'_>) -> Option<(CallNumbers, Remainder<'_>)>
+    ensures { option_map (λ p. (p.0, words_in p.1)) result ≡ read_call_numbers (words_in rest.entry) }
 {
     let (seq, rest) = number32(rest)?;
     let (method, rest) = number16(rest)?;
@@ -60,7 +60,7 @@ fn numbers(rest: Rest<'_>) -> Option<(CallNumbers, Rest<'_>)>
 
 // Returns the reason that a word names.
 fn reason_of(word: &[u8]) -> Option<Reason>
-    ensures { result ≡ reason_said word.now }
+    ensures { result ≡ read_reason word.now }
 {
     if is_word(word, b"Address") {
         Some(Reason::Address)
@@ -86,9 +86,9 @@ fn reason_of(word: &[u8]) -> Option<Reason>
 }
 
 // `REASON PLACE VALUE`
-#[tactic(auto, unfolding(crate::specs::Copies::malformed_said))]
-fn malformed(rest: Rest<'_>) -> Option<TookCopy>
-    ensures { result ≡ malformed_said (words_in rest.entry) }
+#[tactic(auto, unfolding(crate::specs::Copies::read_malformed))]
+fn malformed(rest: Remainder<'_>) -> Option<TookCopy>
+    ensures { result ≡ read_malformed (words_in rest.entry) }
 {
     let (word, rest) = next(rest)?;
     let reason = reason_of(word)?;
@@ -103,16 +103,17 @@ fn malformed(rest: Rest<'_>) -> Option<TookCopy>
 
 // Returns the message whose encoding these bytes are. Encodes it again, into `out`, to reject bytes that decode to a
 // message but aren't its encoding.
-fn meant(
+fn message_of_encoding(
     alloc: Global,
-    out: &mut Output,
+    out: &mut BackwardBuffer,
     bytes: &[u8],
     table: &Table,
     message: u32,
 ) -> Result<Option<Tree>, Memory>
     requires valid { IsValid table.now }
     requires known { message < length table.now.messages }
-    ensures { Reads (HasShortEncoding table.now message) (λ t. encoding table.now message t ∷ []) (bytes.now ∷ []) result }
+    ensures { IsExactReading (HasShortEncoding table.now message) (λ t. encoding table.now message t ∷ [])
+        (bytes.now ∷ []) result }
 {
     let Some(tree) = decoded(alloc, bytes, table, message)? else {
         return Ok(None);
@@ -142,7 +143,7 @@ fn decoded(alloc: Global, bytes: &[u8], table: &Table, message: u32) -> Result<O
 
 // Returns true if bytes are the encoding of a message.
 fn is_encoding(
-    out: &mut Output,
+    out: &mut BackwardBuffer,
     bytes: &[u8],
     tree: &Tree,
     table: &Table,
@@ -158,9 +159,9 @@ fn is_encoding(
 }
 
 // Returns the message whose encoding a word spells in hexadecimal digits. `row` has room for its bytes.
-fn spelled(
+fn message_in_row(
     alloc: Global,
-    out: &mut Output,
+    out: &mut BackwardBuffer,
     row: &mut [u8],
     word: &[u8],
     table: &Table,
@@ -169,67 +170,67 @@ fn spelled(
     requires valid { IsValid table.now }
     requires known { message < length table.now.messages }
     requires room { length word.now ≤ 2 * length row.old }
-    ensures { Reads (HasShortEncoding table.now message) (λ t. hex_word (encoding table.now message t) ∷ [])
+    ensures { IsExactReading (HasShortEncoding table.now message) (λ t. hex_word (encoding table.now message t) ∷ [])
         (word.now ∷ []) result }
 {
     match read_bytes(row, word) {
-        Some(count) => meant(alloc, out, &row[..count], table, message),
+        Some(count) => message_of_encoding(alloc, out, &row[..count], table, message),
         None => Ok(None),
     }
 }
 
 // Returns the message whose encoding a word spells in hexadecimal digits.
-fn copied(
+fn message_of_word(
     alloc: Global,
-    out: &mut Output,
+    out: &mut BackwardBuffer,
     word: &[u8],
     table: &Table,
     message: u32,
 ) -> Result<Option<Tree>, Memory>
     requires valid { IsValid table.now }
     requires known { message < length table.now.messages }
-    ensures { Reads (HasShortEncoding table.now message) (λ t. hex_word (encoding table.now message t) ∷ [])
+    ensures { IsExactReading (HasShortEncoding table.now message) (λ t. hex_word (encoding table.now message t) ∷ [])
         (word.now ∷ []) result }
 {
     if word.len() > 2 * ROOM {
         let mut longer = vec![in alloc; 0u8; word.len() / 2 + 1]?;
-        return spelled(alloc, out, &mut longer, word, table, message);
+        return message_in_row(alloc, out, &mut longer, word, table, message);
     }
     let mut row = [0; ROOM];
-    spelled(alloc, out, &mut row, word, table, message)
+    message_in_row(alloc, out, &mut row, word, table, message)
 }
 
 // Reads a copy as the last word. (The whole remainder may be passed as one word, since a space is no digit.)
 fn copy_at(
     alloc: Global,
-    out: &mut Output,
-    rest: Rest<'_>,
+    out: &mut BackwardBuffer,
+    rest: Remainder<'_>,
     table: &Table,
     message: u32,
 ) -> Result<Option<Tree>, Memory>
     requires valid { IsValid table.now }
     requires known { message < length table.now.messages }
-    ensures { Reads (HasShortEncoding table.now message) (λ t. hex_word (encoding table.now message t) ∷ [])
+    ensures { IsExactReading (HasShortEncoding table.now message) (λ t. hex_word (encoding table.now message t) ∷ [])
         (words_in rest.entry) result }
 {
     match rest {
         None => Ok(None),
-        Some(text) => copied(alloc, out, text, table, message),
+        Some(text) => message_of_word(alloc, out, text, table, message),
     }
 }
 
 // Reads the copy of an accepted call, or why it has none. A copy needs a method of the table.
 fn copy(
     alloc: Global,
-    out: &mut Output,
-    rest: Rest<'_>,
+    out: &mut BackwardBuffer,
+    rest: Remainder<'_>,
     table: &Table,
     method: u16,
     number: u32,
 ) -> Result<Option<TookCopy>, Memory>
     requires { IsValid table.now }
-    ensures { (call : Taken) → call.method ≡ method → call.number ≡ number
-        → Reads (IsCopyTaken table.now call) (copy_words table.now (message_at table.now method number))
+    ensures { (call : AcceptedCall) → call.method ≡ method → call.number ≡ number
+        → IsExactReading (IsWritableCopy table.now call) (copy_words table.now (message_at table.now method number))
         (words_in rest.entry) result }
 {
     let Some((word, rest)) = next(rest) else {
@@ -249,21 +250,21 @@ fn copy(
 }
 
 // Reads an accepted call.
-pub(crate) fn taken(
+pub(crate) fn accepted_call(
     alloc: Global,
-    out: &mut Output,
-    rest: Rest<'_>,
+    out: &mut BackwardBuffer,
+    rest: Remainder<'_>,
     table: &Table,
-) -> Result<Option<Taken>, Memory>
+) -> Result<Option<AcceptedCall>, Memory>
     requires { IsValid table.now }
-    ensures { Reads (IsAcceptance table.now) (taken_words table.now) (words_in rest.entry) result }
+    ensures { IsExactReading (IsWritableCall table.now) (accepted_words table.now) (words_in rest.entry) result }
 {
     let Some((head, rest)) = numbers(rest) else {
         return Ok(None);
     };
     match copy(alloc, out, rest, table, head.method, head.number)? {
         None => Ok(None),
-        Some(copy) => Ok(Some(Taken {
+        Some(copy) => Ok(Some(AcceptedCall {
             seq: head.seq,
             method: head.method,
             number: head.number,

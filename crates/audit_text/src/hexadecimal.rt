@@ -38,7 +38,7 @@ fn value_of(digit: u8) -> Option<u8>
 
 // Reads the first two digits of a word as a byte. Returns the byte and the remainder.
 #[inline(always)]
-fn front_byte(word: &[u8]) -> Option<(u8, &[u8])>
+fn prefix_byte(word: &[u8]) -> Option<(u8, &[u8])>
     ensures { MatchOption result ((byte : ℕ) (rest : List ℕ) → byte < 256 → word.now ≡ with_digits byte rest → ⊥)
         (λ p. (p.0 < 256) × (word.now ≡ with_digits p.0 p.1.now)) }
 {
@@ -59,7 +59,7 @@ fn read_digits(row: &mut [u8], word: &[u8]) -> Option<usize>
 {
     let mut left = word;
     let mut count = 0;
-    while let Some((byte, behind)) = front_byte(left) {
+    while let Some((byte, behind)) = prefix_byte(left) {
         row[count] = byte;
         count += 1;
         left = behind;

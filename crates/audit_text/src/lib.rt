@@ -2,10 +2,10 @@
 //! crate writes and reads it.
 //!
 //! `specs/Lines.antt` defines the line of an event, and `specs/Writable.antt` which events have a line, given the
-//! declared policies. `specs/Told.antt` defines all lines, and `specs/Faults.antt` the first line of a text that isn't
+//! declared policies. `specs/LineBytes.antt` defines all lines, and `specs/Faults.antt` the first line of a text that isn't
 //! an event's.
 //!
-//! [`append_record`] and the other `append_*` calls write lines. [`read_brief`] reads the most frequent lines directly
+//! [`append_record`] and the other `append_*` calls write lines. [`read_happening_ref`] reads the most frequent lines directly
 //! from the prefix of a text, without finding their end first. [`read_line`] splits a line into words and reads them
 //! one after another. It decodes the bytes of a copy and encodes the message again; the line is an acceptance only if
 //! that yields the same bytes. Reading and writing take linear time, apart from the look-up of a policy by its label
@@ -17,29 +17,29 @@
 #![tactic(auto)]
 
 mod copy;
-mod front;
+mod event_words;
 mod hexadecimal;
 mod holding;
 mod laws;
 mod line;
+mod operation;
+mod prefix;
 mod reading;
 mod record;
 mod row;
 mod short_line;
-mod step;
-mod what;
 mod word;
 mod writing;
 
 pub use holding::Holding;
 pub use laws::{
-    a_line_is_cut_into_its_words, a_stands_line_tells_one_call, a_text_has_one_bad_line,
-    a_text_has_one_history,
+    first_invalid_line_is_unique, history_of_text_is_unique, line_splits_into_words,
+    stands_line_determines_call,
 };
 pub use line::{AuditLine, read_line};
 pub use reading::{AuditFault, read_audit};
 pub use record::append_record;
-pub use short_line::{Brief, BriefLine, read_brief};
+pub use short_line::{HappenedRef, HappeningRef, read_happening_ref};
 pub use writing::{
     append_audit_line, append_hex_word, append_stands_line, append_took_line, audit_line,
 };

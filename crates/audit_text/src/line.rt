@@ -3,31 +3,31 @@
 ghost use Rattle.std.specs.Prelude.{◌≡◌, ◌++◌, ◌∷◌, ℕ, List, [], Some, IfOk, IfSome, MatchOption};
 ghost use Rattle.mrpc_table.specs.Lines.{words_of};
 ghost use Rattle.mrpc_table.specs.Valid.{IsValid};
-ghost use Rattle.audit_text.specs.Writable.{CanBeTold};
-ghost use Rattle.audit_text.specs.LineWords.{kind_of, line_words, stands_said, holding_said, is_queue_name, tail_words};
-ghost use Rattle.audit_text.specs.Reading.{words_in, Reads};
+ghost use Rattle.audit_text.specs.Writable.{CanBeWritten};
+ghost use Rattle.audit_text.specs.LineWords.{line_kind_of, line_words, read_stands, read_holding, is_queue_name, tail_words};
+ghost use Rattle.audit_text.specs.Reading.{words_in, IsExactReading};
 ghost use Rattle.audit_text.specs.declared.line.AuditLine.{AuditLine};
-ghost use Rattle.audit_text.specs.Told.{bytes_of, IsLine};
+ghost use Rattle.audit_text.specs.LineBytes.{bytes_of_line, IsWritableLine};
 
-use crate::copy::taken;
-use crate::holding::Holding;
-use crate::laws::{
-    a_line_is_cut_into_its_words, a_stands_line_tells_one_call, a_text_has_one_history,
+use crate::copy::accepted_call;
+use crate::event_words::{
+    LineKind, away, charged, counted, drawn, moment, redacted, refused, sent,
 };
-use crate::step::step;
-use crate::what::{Kind, away, charged, counted, drawn, moment, redacted, refused, sent};
-use crate::word::{Rest, end, is_word, last64, next, number32, number64};
-use call_history::{Happened, Happening};
+use crate::holding::Holding;
+use crate::laws::{history_of_text_is_unique, line_splits_into_words, stands_line_determines_call};
+use crate::operation::operation;
+use crate::word::{Remainder, end, is_word, last64, next, number32, number64};
+use call_history::{ConnectionEvent, Happening};
 use mrpc_table::{Memory, Name, Table, is_name_form};
 use policy_declarations::Declarations;
 use std::alloc::Global;
-use wire_encode::Output;
+use wire_encode::BackwardBuffer;
 
 /// A line of an audit text.
 #[derive(Drop)]
 pub enum AuditLine {
     /// An event and its connection.
-    Happened(Happened),
+    Happened(ConnectionEvent),
     /// A pending call in the queue of an engine, or in the transport queue, whose name is `-`.
     Stands {
         /// The connection.
@@ -51,9 +51,9 @@ fn is_queue_name(word: &[u8]) -> bool
 }
 
 // Reads `held LEVEL COST`, or nothing.
-#[tactic(auto, unfolding(crate::specs::LineWords::holding_said))]
-fn holding(rest: Rest<'_>) -> Option<Option<Holding>>
-    ensures { result ≡ holding_said (words_in rest.entry) }
+#[tactic(auto, unfolding(crate::specs::LineWords::read_holding))]
+fn holding(rest: Remainder<'_>) -> Option<Option<Holding>>
+    ensures { result ≡ read_holding (words_in rest.entry) }
 {
     let Some((word, rest)) = next(rest) else {
         return Some(None);
@@ -67,9 +67,9 @@ fn holding(rest: Rest<'_>) -> Option<Option<Holding>>
 }
 
 // Reads `SEQ POSITION NAME`, and whether the call is held.
-#[tactic(auto, unfolding(crate::specs::LineWords::stands_said))]
-fn stands(alloc: Global, conn: u32, rest: Rest<'_>) -> Result<Option<AuditLine>, Memory>
-    ensures { IfOk result (λ x. x ≡ stands_said conn (words_in rest.entry)) }
+#[tactic(auto, unfolding(crate::specs::LineWords::read_stands))]
+fn stands(alloc: Global, conn: u32, rest: Remainder<'_>) -> Result<Option<AuditLine>, Memory>
+    ensures { IfOk result (λ x. x ≡ read_stands conn (words_in rest.entry)) }
 {
     let Some((seq, rest)) = number32(rest) else {
         return Ok(None);
@@ -97,48 +97,49 @@ fn stands(alloc: Global, conn: u32, rest: Rest<'_>) -> Result<Option<AuditLine>,
 }
 
 // Reads an event of a kind from the words after the connection.
-fn what(
+fn event_of_kind(
     alloc: Global,
-    encoding: &mut Output,
-    kind: Kind,
-    rest: Rest<'_>,
+    encoding: &mut BackwardBuffer,
+    kind: LineKind,
+    rest: Remainder<'_>,
     table: &Table,
     declared: &Declarations,
 ) -> Result<Option<Happening>, Memory>
     requires { IsValid table.now }
-    ensures { Reads (λ x. CanBeTold table.now declared.now x × (kind_of x ≡ kind)) (tail_words table.now)
+    ensures { IsExactReading (λ x. CanBeWritten table.now declared.now x
+        × (line_kind_of x ≡ kind)) (tail_words table.now)
         (words_in rest.entry) result }
 {
     match kind {
-        Kind::Took => match taken(alloc, encoding, rest, table)? {
+        LineKind::Took => match accepted_call(alloc, encoding, rest, table)? {
             None => Ok(None),
             Some(call) => Ok(Some(Happening::Took(call))),
         },
-        Kind::Op => match step(alloc, rest, declared)? {
+        LineKind::Op => match operation(alloc, rest, declared)? {
             None => Ok(None),
             Some(step) => Ok(Some(Happening::Op(step))),
         },
-        Kind::Away => Ok(away(rest)),
-        Kind::Moment => Ok(moment(rest)),
-        Kind::Sent => Ok(sent(rest)),
-        Kind::Charged => charged(alloc, rest),
-        Kind::Drawn => drawn(alloc, rest),
-        Kind::Counted => counted(alloc, rest),
-        Kind::Redacted => redacted(alloc, rest),
-        Kind::Refused => refused(alloc, rest),
+        LineKind::Away => Ok(away(rest)),
+        LineKind::Moment => Ok(moment(rest)),
+        LineKind::Sent => Ok(sent(rest)),
+        LineKind::Charged => charged(alloc, rest),
+        LineKind::Drawn => drawn(alloc, rest),
+        LineKind::Counted => counted(alloc, rest),
+        LineKind::Redacted => redacted(alloc, rest),
+        LineKind::Refused => refused(alloc, rest),
     }
 }
 
 // Reads a line from its words.
 fn line_of(
     alloc: Global,
-    encoding: &mut Output,
+    encoding: &mut BackwardBuffer,
     text: &[u8],
     table: &Table,
     declared: &Declarations,
 ) -> Result<Option<AuditLine>, Memory>
     requires { IsValid table.now }
-    ensures { Reads (IsLine table.now declared.now) (line_words table.now) (words_of text.now) result }
+    ensures { IsExactReading (IsWritableLine table.now declared.now) (line_words table.now) (words_of text.now) result }
 {
     let Some((word, rest)) = next(Some(text)) else {
         return Ok(None);
@@ -149,12 +150,12 @@ fn line_of(
     if is_word(word, b"stands") {
         return stands(alloc, conn, rest);
     }
-    let Some(kind) = Kind::of_word(word) else {
+    let Some(kind) = LineKind::of_word(word) else {
         return Ok(None);
     };
-    match what(alloc, encoding, kind, rest, table, declared)? {
+    match event_of_kind(alloc, encoding, kind, rest, table, declared)? {
         None => Ok(None),
-        Some(what) => Ok(Some(AuditLine::Happened(Happened { conn, what }))),
+        Some(what) => Ok(Some(AuditLine::Happened(ConnectionEvent { conn, what }))),
     }
 }
 
@@ -179,20 +180,20 @@ pub(crate) fn before_feed(line: &[u8]) -> Option<&[u8]>
 /// Copies are encoded into `encoding`, which is overwritten, so that many lines share one allocation.
 pub fn read_line(
     alloc: Global,
-    encoding: &mut Output,
+    encoding: &mut BackwardBuffer,
     line: &[u8],
     table: &Table,
     declared: &Declarations,
 ) -> Result<Option<AuditLine>, Memory>
     requires { IsValid table.now }
-    ensures told { IfOk result (λ r. IfSome r (λ x. line.now ≡ bytes_of table.now x)) }
-    ensures writable { IfOk result (λ r. IfSome r (λ x. IsLine table.now declared.now x)) }
-    ensures only { (x : AuditLine) → IsLine table.now declared.now x → line.now ≡ bytes_of table.now x
+    ensures told { IfOk result (λ r. IfSome r (λ x. line.now ≡ bytes_of_line table.now x)) }
+    ensures writable { IfOk result (λ r. IfSome r (λ x. IsWritableLine table.now declared.now x)) }
+    ensures only { (x : AuditLine) → IsWritableLine table.now declared.now x → line.now ≡ bytes_of_line table.now x
         → IfOk result (λ r. r ≡ Some x) }
 {
-    a_line_is_cut_into_its_words();
-    a_stands_line_tells_one_call();
-    a_text_has_one_history();
+    line_splits_into_words();
+    stands_line_determines_call();
+    history_of_text_is_unique();
     let Some(text) = before_feed(line) else {
         return Ok(None);
     };

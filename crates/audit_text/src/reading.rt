@@ -5,18 +5,20 @@ ghost use Rattle.mrpc_table.specs.Valid.{IsValid};
 ghost use Rattle.call_history.specs.Legal.{History};
 ghost use Rattle.audit_text.specs.Lines.{audit, audit_line};
 ghost use Rattle.audit_text.specs.Writable.{IsWritable};
-ghost use Rattle.audit_text.specs.Faults.{FaultsAs, HasNoLine, IsFirstBad};
+ghost use Rattle.audit_text.specs.Faults.{IfBad, HasNoLine, IsFirstInvalidLine};
 ghost use Rattle.audit_text.specs.LineWords.{happening_in};
 ghost use Rattle.audit_text.specs.declared.reading.AuditFault.TheVariants.{Memory as NoMemory};
 
-use crate::laws::{a_line_is_cut_into_its_words, a_text_has_one_bad_line, a_text_has_one_history};
+use crate::laws::{
+    first_invalid_line_is_unique, history_of_text_is_unique, line_splits_into_words,
+};
 use crate::line::{AuditLine, read_line};
-use call_history::Happened;
-use mrpc_table::{Memory, Sequence, Table, cut};
+use call_history::ConnectionEvent;
+use mrpc_table::{Memory, Sequence, Table, split_once};
 use policy_declarations::Declarations;
 use std::alloc::Global;
 use thiserror::Error;
-use wire_encode::Output;
+use wire_encode::BackwardBuffer;
 
 /// Why a text can't be read as a history.
 #[derive(Clone, Copy, Debug, PartialEq, Eq, Error)]
@@ -44,7 +46,7 @@ fn line_end(text: &[u8]) -> usize
     ensures within { result ≤ length text.now }
     ensures some { text.now ≢ [] → 0 < result }
 {
-    match cut(text, b'\n') {
+    match split_once(text, b'\n') {
         Some((line, _)) => line.len() + 1,
         None => text.len(),
     }
@@ -62,7 +64,7 @@ fn first_line(text: &[u8]) -> (&[u8], &[u8])
 }
 
 // Returns the event of a line, if it has one.
-fn happening_in(line: Option<AuditLine>) -> Option<Happened>
+fn happening_in(line: Option<AuditLine>) -> Option<ConnectionEvent>
     ensures { result ≡ happening_in line }
 {
     match line {
@@ -73,13 +75,13 @@ fn happening_in(line: Option<AuditLine>) -> Option<Happened>
 }
 
 // Reads the event whose line is a prefix of a text. Returns it with the remainder; `None` if there is no such event.
-fn front_happening<'a>(
+fn prefix_happening<'a>(
     alloc: Global,
-    encoding: &mut Output,
+    encoding: &mut BackwardBuffer,
     text: &'a [u8],
     table: &Table,
     declared: &Declarations,
-) -> Result<Option<(Happened, &'a [u8])>, Memory>
+) -> Result<Option<(ConnectionEvent, &'a [u8])>, Memory>
     requires valid { IsValid table.now }
     requires some { text.now ≢ [] }
     ensures told { IfOk result (λ r. MatchOption r
@@ -87,7 +89,7 @@ fn front_happening<'a>(
         (λ p. (text.now ≡ audit_line table.now p.0 ++ p.1.now) × IsWritable table.now declared.now p.0)) }
     ensures smaller { IfOk result (λ r. IfSome r (λ p. length p.1.now < length text.now)) }
 {
-    a_line_is_cut_into_its_words();
+    line_splits_into_words();
     let (line, behind) = first_line(text);
     match happening_in(read_line(alloc, encoding, line, table, declared)?) {
         None => Ok(None),
@@ -106,23 +108,29 @@ pub fn read_audit(
     text: &[u8],
     table: &Table,
     declared: &Declarations,
-) -> Result<Sequence<Happened>, AuditFault>
+) -> Result<Sequence<ConnectionEvent>, AuditFault>
     requires { IsValid table.now }
     ensures told { IfOk result (λ h. text.now ≡ audit table.now h) }
     ensures writable { IfOk result (λ h. All (IsWritable table.now declared.now) h) }
-    ensures bad { IfErr result (FaultsAs (IsFirstBad table.now declared.now text.now)) }
+    ensures bad { IfErr result (IfBad (IsFirstInvalidLine table.now declared.now text.now)) }
     ensures only { (h : History) → All (IsWritable table.now declared.now) h → text.now ≡ audit table.now h
         → MatchResult result (λ k. k ≡ h) (λ fault. fault ≡ AuditFault.Memory) }
-    ensures only_bad { (line : ℕ) → IsFirstBad table.now declared.now text.now line
+    ensures only_bad { (line : ℕ) → IsFirstInvalidLine table.now declared.now text.now line
         → MatchResult result (λ _. ⊥) (λ fault. (fault ≡ AuditFault.Bad line) ⊎ (fault ≡ AuditFault.Memory)) }
 {
-    a_text_has_one_history();
-    a_text_has_one_bad_line();
+    history_of_text_is_unique();
+    first_invalid_line_is_unique();
     let mut history = Sequence::new(alloc);
-    let mut encoding = Output::new(alloc)?;
+    let mut encoding = BackwardBuffer::new(alloc)?;
     let mut rest = text;
     while !rest.is_empty() {
-        let Some((happened, behind)) = front_happening(alloc, &mut encoding, rest, table, declared)?
+        let Some((happened, behind)) = prefix_happening(
+            alloc,
+            &mut encoding,
+            rest,
+            table,
+            declared,
+        )?
         else {
             return Err(AuditFault::Bad {
                 line: history.len() as u64 + 1,

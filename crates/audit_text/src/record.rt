@@ -4,26 +4,26 @@ ghost use Rattle.std.specs.Prelude.{◌≡◌, ◌<◌, ◌∷◌, ◌++◌, cod
 ghost use Rattle.std.specs.Fmt.{decimal};
 ghost use Rattle.mrpc_table.specs.Text.{line};
 ghost use Rattle.mrpc_table.specs.Valid.{IsValid};
-ghost use Rattle.audit_text.specs.Lines.{audit_line, cause_words, FitsTable};
-ghost use Rattle.call_history.specs.Records.{cause_told_by, name_in, rule_in, step_at, told_by, HasRule, IsNamed, IsRuleOf};
-ghost use Rattle.call_history.specs.Events.{rule_of};
+ghost use Rattle.audit_text.specs.Lines.{audit_line, cause_words, IsEventOfTable};
+ghost use Rattle.call_history.specs.Records.{cause_of_record, name_in_op, rule_name_in_op, op_at, event_of_record, HasRule, HasValidReferences, IsRuleOf};
+ghost use Rattle.call_history.specs.Transitions.{rule_name_at};
 ghost use Rattle.call_history.specs.declared.happening.Happening.{Happening};
-ghost use Rattle.call_history.specs.declared.record.Record.TheVariants.{Refused};
+ghost use Rattle.call_history.specs.declared.record.HistoryRecord.TheVariants.{Refused};
 
 use crate::writing::{
-    append_away, append_cause, append_note, append_numbers, append_sent, append_step, append_took,
-    begin,
+    append_away, append_cause, append_note, append_numbers, append_prefix, append_sent,
+    append_step, append_took,
 };
-use call_history::{History, Record, Refusal};
+use call_history::{History, HistoryRecord, RecordedCause};
 use engine_core::{Op, Policy};
 use mrpc_table::{Bytes, Memory, Table};
-use wire_encode::Output;
+use wire_encode::BackwardBuffer;
 
 /// Appends the audit line of the event at an index, from 0, of a connection's history, with its line feed. It copies no
 /// names, and encodes a copy into `encoding`, whose capacity is reused. The only error is `Memory`.
 pub fn append_record(
     out: &mut Bytes,
-    encoding: &mut Output,
+    encoding: &mut BackwardBuffer,
     conn: u32,
     history: &History,
     place: usize,
@@ -31,42 +31,43 @@ pub fn append_record(
 ) -> Result<(), Memory>
     requires valid { IsValid table.now }
     requires there { place < length history.now.happenings }
-    requires fits { (what : Happening) → slice_get history.now.happenings place ≡ Some what → FitsTable table.now what }
+    requires fits { (what : Happening) → slice_get history.now.happenings place ≡ Some what
+        → IsEventOfTable table.now what }
     ensures { (what : Happening) → slice_get history.now.happenings place ≡ Some what
         → OnOk result (out.new ≡ out.old ++ audit_line table.now (record { conn = conn; what = what })) }
 {
-    append_kept(out, encoding, conn, history, history.at(place), table)
+    append_history_record(out, encoding, conn, history, history.at(place), table)
 }
 
 // Appends the line of a record.
-fn append_kept(
+fn append_history_record(
     out: &mut Bytes,
-    encoding: &mut Output,
+    encoding: &mut BackwardBuffer,
     conn: u32,
     history: &History,
-    kept: &Record,
+    kept: &HistoryRecord,
     table: &Table,
 ) -> Result<(), Memory>
     requires valid { IsValid table.now }
-    requires named { IsNamed history.now.steps kept.now }
-    requires fits { FitsTable table.now (told_by history.now.steps kept.now) }
+    requires named { HasValidReferences history.now.steps kept.now }
+    requires fits { IsEventOfTable table.now (event_of_record history.now.steps kept.now) }
     ensures { OnOk result (out.new ≡ out.old
-        ++ audit_line table.now (record { conn = conn; what = told_by history.now.steps kept.now })) }
+        ++ audit_line table.now (record { conn = conn; what = event_of_record history.now.steps kept.now })) }
 {
     match kept {
-        Record::Took(call) => append_took(out, encoding, conn, call, table),
-        Record::Away {
+        HistoryRecord::Took(call) => append_took(out, encoding, conn, call, table),
+        HistoryRecord::Away {
             method,
             number,
             addr,
         } => append_away(out, conn, *method, *number, *addr),
-        Record::Op { step } => append_step(out, conn, history.step(*step)),
-        Record::Moment { ms } => append_numbers(out, b"moment", &[u64::from(conn), *ms]),
-        Record::Charged { seq, step, level } => {
+        HistoryRecord::Op { step } => append_step(out, conn, history.step(*step)),
+        HistoryRecord::Moment { ms } => append_numbers(out, b"moment", &[u64::from(conn), *ms]),
+        HistoryRecord::Charged { seq, step, level } => {
             let name = name_at(history, *step);
             append_note(out, b"charged", conn, *seq, name, &[*level])
         }
-        Record::Drawn {
+        HistoryRecord::Drawn {
             seq,
             step,
             window,
@@ -75,34 +76,36 @@ fn append_kept(
             let name = name_at(history, *step);
             append_note(out, b"drawn", conn, *seq, name, &[*window, *ticket])
         }
-        Record::Counted { seq, step } => {
+        HistoryRecord::Counted { seq, step } => {
             append_note(out, b"counted", conn, *seq, name_at(history, *step), &[])
         }
-        Record::Redacted { seq, step, version } => {
+        HistoryRecord::Redacted { seq, step, version } => {
             let name = name_at(history, *step);
             append_note(out, b"redacted", conn, *seq, name, &[u64::from(*version)])
         }
-        Record::Sent { seq, bytes } => append_sent(out, conn, *seq, *bytes),
-        Record::Refused { seq, by } => append_kept_refusal(out, conn, history, *seq, *by),
+        HistoryRecord::Sent { seq, bytes } => append_sent(out, conn, *seq, *bytes),
+        HistoryRecord::Refused { seq, by } => append_recorded_refusal(
+            out, conn, history, *seq, *by,
+        ),
     }
 }
 
 // Appends the line of a refusal.
-fn append_kept_refusal(
+fn append_recorded_refusal(
     out: &mut Bytes,
     conn: u32,
     history: &History,
     seq: u32,
-    by: Refusal,
+    by: RecordedCause,
 ) -> Result<(), Memory>
-    requires { IsNamed history.now.steps (Refused seq by) }
+    requires { HasValidReferences history.now.steps (Refused seq by) }
     ensures { OnOk result (out.new ≡ out.old
-        ++ line (codes "refused" ∷ decimal conn ∷ decimal seq ∷ cause_words (cause_told_by history.now.steps by))) }
+        ++ line (codes "refused" ∷ decimal conn ∷ decimal seq ∷ cause_words (cause_of_record history.now.steps by))) }
 {
-    begin(out, b"refused", &[u64::from(conn), u64::from(seq)])?;
+    append_prefix(out, b"refused", &[u64::from(conn), u64::from(seq)])?;
     match by {
-        Refusal::Malformed => out.append(b" malformed")?,
-        Refusal::Access {
+        RecordedCause::Malformed => out.append(b" malformed")?,
+        RecordedCause::Access {
             step,
             version,
             rule,
@@ -115,13 +118,13 @@ fn append_kept_refusal(
             )?;
             out.append_spaced(rule_at(history, step, rule))?;
         }
-        Refusal::Rate { step, level, cost } => {
+        RecordedCause::Rate { step, level, cost } => {
             append_cause(out, b" rate", name_at(history, step), &[level, cost])?
         }
-        Refusal::Quota { step, ticket, cap } => {
+        RecordedCause::Quota { step, ticket, cap } => {
             append_cause(out, b" quota", name_at(history, step), &[ticket, cap])?
         }
-        Refusal::Transport => out.append(b" transport")?,
+        RecordedCause::Transport => out.append(b" transport")?,
     }
     out.push(b'\n')
 }
@@ -129,7 +132,7 @@ fn append_kept_refusal(
 // The entry's name in an operation.
 fn name_at(history: &History, step: usize) -> &[u8]
     requires { step < length history.now.steps }
-    ensures { result.now ≡ name_in (step_at history.now.steps step) }
+    ensures { result.now ≡ name_in_op (op_at history.now.steps step) }
 {
     match history.step(step) {
         Op::Attach { name, .. } => name.as_slice(),
@@ -141,8 +144,8 @@ fn name_at(history: &History, step: usize) -> &[u8]
 // The name of a rule of the policy that an operation installs.
 fn rule_at(history: &History, step: usize, rule: u32) -> &[u8]
     requires there { step < length history.now.steps }
-    requires rule { HasRule (step_at history.now.steps step) rule }
-    ensures { result.now ≡ rule_in (step_at history.now.steps step) rule }
+    requires rule { HasRule (op_at history.now.steps step) rule }
+    ensures { result.now ≡ rule_name_in_op (op_at history.now.steps step) rule }
 {
     match history.step(step) {
         Op::Attach { policy, .. } => rule_name(policy, rule),
@@ -154,7 +157,7 @@ fn rule_at(history: &History, step: usize, rule: u32) -> &[u8]
 // The name of a rule of an access policy.
 fn rule_name(policy: &Policy, rule: u32) -> &[u8]
     requires { IsRuleOf policy.now rule }
-    ensures { result.now ≡ rule_of policy.now rule }
+    ensures { result.now ≡ rule_name_at policy.now rule }
 {
     match policy {
         Policy::Access(access) => access.rule_name(rule).as_slice(),

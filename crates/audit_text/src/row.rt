@@ -2,16 +2,16 @@
 
 ghost use Rattle.std.specs.Prelude.{◌≡◌, ◌≤◌, ◌∷◌, ◌++◌, [], IfSome, drop, length, map};
 ghost use Rattle.std.specs.Fmt.{decimal};
-ghost use Rattle.mrpc_table.specs.Lines.{behind_spaces};
+ghost use Rattle.mrpc_table.specs.Lines.{after_spaces};
 ghost use Rattle.mrpc_table.specs.Text.{line};
 ghost use Rattle.audit_text.specs.Pieces.{note_line};
-ghost use Rattle.wire_encode.specs.Written.{StandBefore};
+ghost use Rattle.wire_encode.specs.Written.{AreWrittenBefore};
 
 // Writes a byte before `end`. Returns its index; `None` if there is no room.
 #[inline(always)]
 pub(crate) fn put_byte(row: &mut [u8], end: usize, byte: u8) -> Option<usize>
     requires { end ≤ length row.old }
-    ensures { IfSome result (λ start. StandBefore row.old row.new end start (byte ∷ [])) }
+    ensures { IfSome result (λ start. AreWrittenBefore row.old row.new end start (byte ∷ [])) }
 {
     if end == 0 {
         return None;
@@ -24,7 +24,7 @@ pub(crate) fn put_byte(row: &mut [u8], end: usize, byte: u8) -> Option<usize>
 #[inline(always)]
 pub(crate) fn put_bytes(row: &mut [u8], end: usize, bytes: &[u8]) -> Option<usize>
     requires { end ≤ length row.old }
-    ensures { IfSome result (λ start. StandBefore row.old row.new end start bytes.now) }
+    ensures { IfSome result (λ start. AreWrittenBefore row.old row.new end start bytes.now) }
 {
     if bytes.len() > end {
         return None;
@@ -37,7 +37,7 @@ pub(crate) fn put_bytes(row: &mut [u8], end: usize, bytes: &[u8]) -> Option<usiz
 // Like `put_byte`, for a space and the digits of a decimal number.
 pub(crate) fn put_number(row: &mut [u8], end: usize, number: u64) -> Option<usize>
     requires { end ≤ length row.old }
-    ensures { IfSome result (λ start. StandBefore row.old row.new end start (32 ∷ decimal number)) }
+    ensures { IfSome result (λ start. AreWrittenBefore row.old row.new end start (32 ∷ decimal number)) }
 {
     let mut start = end;
     let mut left = number;
@@ -53,7 +53,8 @@ pub(crate) fn put_number(row: &mut [u8], end: usize, number: u64) -> Option<usiz
 #[inline(always)]
 pub(crate) fn put_numbers(row: &mut [u8], end: usize, numbers: &[u64]) -> Option<usize>
     requires { end ≤ length row.old }
-    ensures { IfSome result (λ start. StandBefore row.old row.new end start (behind_spaces (map decimal numbers.now))) }
+    ensures { IfSome result (λ start. AreWrittenBefore row.old row.new end start
+        (after_spaces (map decimal numbers.now))) }
 {
     let mut start = end;
     for place in (0..numbers.len()).rev() {
@@ -64,9 +65,10 @@ pub(crate) fn put_numbers(row: &mut [u8], end: usize, numbers: &[u64]) -> Option
 
 // Like `put_numbers`, with a prefix before the numbers.
 #[inline(always)]
-pub(crate) fn put_front(row: &mut [u8], end: usize, front: &[u8], numbers: &[u64]) -> Option<usize>
+pub(crate) fn put_prefix(row: &mut [u8], end: usize, front: &[u8], numbers: &[u64]) -> Option<usize>
     requires { end ≤ length row.old }
-    ensures { IfSome result (λ start. StandBefore row.old row.new end start (front.now ++ behind_spaces (map decimal numbers.now))) }
+    ensures { IfSome result (λ start. AreWrittenBefore row.old row.new end start
+        (front.now ++ after_spaces (map decimal numbers.now))) }
 {
     let start = put_numbers(row, end, numbers)?;
     put_bytes(row, start, front)
@@ -74,11 +76,12 @@ pub(crate) fn put_front(row: &mut [u8], end: usize, front: &[u8], numbers: &[u64
 
 // Fills the end of a row with the line of a word and numbers. Returns its index; `None` if there is no room.
 pub(crate) fn put_line(row: &mut [u8], word: &[u8], numbers: &[u64]) -> Option<usize>
-    ensures { IfSome result (λ start. StandBefore row.old row.new (length row.old) start (line (word.now ∷ map decimal numbers.now))) }
+    ensures { IfSome result (λ start. AreWrittenBefore row.old row.new (length row.old) start
+        (line (word.now ∷ map decimal numbers.now))) }
 {
     let end = row.len();
     let feed = put_byte(row, end, b'\n')?;
-    put_front(row, feed, word, numbers)
+    put_prefix(row, feed, word, numbers)
 }
 
 // Like `put_line`, for the line of an entry's note on a call.
@@ -90,12 +93,13 @@ pub(crate) fn put_note(
     name: &[u8],
     numbers: &[u64],
 ) -> Option<usize>
-    ensures { IfSome result (λ start. StandBefore row.old row.new (length row.old) start (note_line word.now conn seq name.now numbers.now)) }
+    ensures { IfSome result (λ start. AreWrittenBefore row.old row.new (length row.old) start
+        (note_line word.now conn seq name.now numbers.now)) }
 {
     let end = row.len();
     let feed = put_byte(row, end, b'\n')?;
     let told = put_numbers(row, feed, numbers)?;
     let named = put_bytes(row, told, name)?;
     let space = put_byte(row, named, b' ')?;
-    put_front(row, space, word, &[u64::from(conn), u64::from(seq)])
+    put_prefix(row, space, word, &[u64::from(conn), u64::from(seq)])
 }

@@ -6,12 +6,12 @@ ghost use Rattle.std.specs.List.{list_all};
 ghost use Rattle.std.specs.Str.{bytes_eq};
 ghost use Rattle.mrpc_table.specs.Lines.{is_decimal, words_of};
 ghost use Rattle.audit_text.specs.Numbers.{IsNumberBefore};
-ghost use Rattle.audit_text.specs.Reading.{end_said, first_said, last_said, name_said, number_said, words_in};
+ghost use Rattle.audit_text.specs.Reading.{read_end, read_word, read_last_number, read_name, read_number, words_in};
 
-use mrpc_table::{Decimal, cut, is_name_form, number_of};
+use mrpc_table::{Decimal, is_name_form, number_of, split_once};
 
 // The remainder of a line after some of its words: the text after a space, or `None` at the end of the line.
-pub(crate) type Rest<'a> = Option<&'a [u8]>;
+pub(crate) type Remainder<'a> = Option<&'a [u8]>;
 
 // Returns true if a word is the expected one. (Words of lines are short, and most differ in length or in the first
 // byte, so a loop over bytes is faster than `is_word` of `mrpc_table`, which serves longer ones.)
@@ -33,19 +33,19 @@ pub(crate) fn is_word(word: &[u8], expected: &[u8]) -> bool
 }
 
 // Returns the first word, and the remainder after it.
-pub(crate) fn next(rest: Rest<'_>) -> Option<(&[u8], Rest<'_>)>
-    ensures { option_map (λ p. (p.0.now, words_in p.1)) result ≡ first_said (words_in rest.entry) }
+pub(crate) fn next(rest: Remainder<'_>) -> Option<(&[u8], Remainder<'_>)>
+    ensures { option_map (λ p. (p.0.now, words_in p.1)) result ≡ read_word (words_in rest.entry) }
 {
     let text = rest?;
-    match cut(text, b' ') {
+    match split_once(text, b' ') {
         Some((word, behind)) => Some((word, Some(behind))),
         None => Some((text, None)),
     }
 }
 
 // Succeeds if nothing remains.
-pub(crate) fn end(rest: Rest<'_>) -> Option<()>
-    ensures { result ≡ end_said (words_in rest.entry) }
+pub(crate) fn end(rest: Remainder<'_>) -> Option<()>
+    ensures { result ≡ read_end (words_in rest.entry) }
 {
     match rest {
         None => Some(()),
@@ -73,7 +73,7 @@ fn is_number(digits: &[u8]) -> bool
 
 // Reads up to 19 leading digits of a text as a number. Returns it with the remainder; `None` if they aren't a number.
 #[inline(always)]
-pub(crate) fn front_number(text: &[u8]) -> Option<(u64, &[u8])>
+pub(crate) fn prefix_number(text: &[u8]) -> Option<(u64, &[u8])>
     ensures { IfSome result (λ r. IsNumberBefore text.now r.0 r.1.now) }
 {
     let most = text.len().min(FEW_DIGITS);
@@ -91,7 +91,7 @@ pub(crate) fn front_number(text: &[u8]) -> Option<(u64, &[u8])>
 
 // Returns the remainder of a text after its first byte, if that is the expected one.
 #[inline(always)]
-pub(crate) fn behind_byte(text: &[u8], byte: u8) -> Option<&[u8]>
+pub(crate) fn after_byte(text: &[u8], byte: u8) -> Option<&[u8]>
     ensures { IfSome result (λ r. text.now ≡ byte ∷ r.now) }
 {
     match text {
@@ -102,22 +102,22 @@ pub(crate) fn behind_byte(text: &[u8], byte: u8) -> Option<&[u8]>
 
 // Reads a number of up to 19 digits as the first word. Returns it with the remainder; `None` for any other word.
 #[inline(always)]
-fn short_number(text: &[u8]) -> Option<(u64, Rest<'_>)>
-    ensures { IfSome result (λ p. number_said (2 ^ 64) (words_of text.now) ≡ Some (p.0, words_in p.1)) }
+fn short_number(text: &[u8]) -> Option<(u64, Remainder<'_>)>
+    ensures { IfSome result (λ p. read_number (2 ^ 64) (words_of text.now) ≡ Some (p.0, words_in p.1)) }
 {
-    let (number, behind) = front_number(text)?;
+    let (number, behind) = prefix_number(text)?;
     if behind.is_empty() {
         return Some((number, None));
     }
-    let others = behind_byte(behind, b' ')?;
+    let others = after_byte(behind, b' ')?;
     Some((number, Some(others)))
 }
 
 // Reads a 64-bit number, by its whole word.
 #[inline(never)]
-#[tactic(auto, unfolding(crate::specs::Reading::number_said))]
-fn any_number(rest: Rest<'_>) -> Option<(u64, Rest<'_>)>
-    ensures { option_map (λ p. (p.0, words_in p.1)) result ≡ number_said (2 ^ 64) (words_in rest.entry) }
+#[tactic(auto, unfolding(crate::specs::Reading::read_number))]
+fn any_number(rest: Remainder<'_>) -> Option<(u64, Remainder<'_>)>
+    ensures { option_map (λ p. (p.0, words_in p.1)) result ≡ read_number (2 ^ 64) (words_in rest.entry) }
 {
     let (word, behind) = next(rest)?;
     match number_of(word) {
@@ -128,9 +128,9 @@ fn any_number(rest: Rest<'_>) -> Option<(u64, Rest<'_>)>
 
 // Reads a 64-bit number. (Most words of an audit are short numbers, so `short_number` is tried first.)
 #[inline(always)]
-#[tactic(auto, unfolding(crate::specs::Reading::number_said))]
-pub(crate) fn number64(rest: Rest<'_>) -> Option<(u64, Rest<'_>)>
-    ensures { option_map (λ p. (p.0, words_in p.1)) result ≡ number_said (2 ^ 64) (words_in rest.entry) }
+#[tactic(auto, unfolding(crate::specs::Reading::read_number))]
+pub(crate) fn number64(rest: Remainder<'_>) -> Option<(u64, Remainder<'_>)>
+    ensures { option_map (λ p. (p.0, words_in p.1)) result ≡ read_number (2 ^ 64) (words_in rest.entry) }
 {
     match short_number(rest?) {
         Some(found) => Some(found),
@@ -140,8 +140,8 @@ pub(crate) fn number64(rest: Rest<'_>) -> Option<(u64, Rest<'_>)>
 
 // Reads a 32-bit number.
 #[inline(always)]
-pub(crate) fn number32(rest: Rest<'_>) -> Option<(u32, Rest<'_>)>
-    ensures { option_map (λ p. (p.0, words_in p.1)) result ≡ number_said (2 ^ 32) (words_in rest.entry) }
+pub(crate) fn number32(rest: Remainder<'_>) -> Option<(u32, Remainder<'_>)>
+    ensures { option_map (λ p. (p.0, words_in p.1)) result ≡ read_number (2 ^ 32) (words_in rest.entry) }
 {
     let (number, behind) = number64(rest)?;
     if number > u64::from(u32::MAX) {
@@ -152,8 +152,8 @@ pub(crate) fn number32(rest: Rest<'_>) -> Option<(u32, Rest<'_>)>
 
 // Reads a 16-bit number.
 #[inline(always)]
-pub(crate) fn number16(rest: Rest<'_>) -> Option<(u16, Rest<'_>)>
-    ensures { option_map (λ p. (p.0, words_in p.1)) result ≡ number_said (2 ^ 16) (words_in rest.entry) }
+pub(crate) fn number16(rest: Remainder<'_>) -> Option<(u16, Remainder<'_>)>
+    ensures { option_map (λ p. (p.0, words_in p.1)) result ≡ read_number (2 ^ 16) (words_in rest.entry) }
 {
     let (number, behind) = number64(rest)?;
     if number > u64::from(u16::MAX) {
@@ -164,9 +164,9 @@ pub(crate) fn number16(rest: Rest<'_>) -> Option<(u16, Rest<'_>)>
 
 // Reads a 64-bit number as the last word.
 #[inline(always)]
-#[tactic(auto, unfolding(crate::specs::Reading::last_said))]
-pub(crate) fn last64(rest: Rest<'_>) -> Option<u64>
-    ensures { result ≡ last_said (2 ^ 64) (words_in rest.entry) }
+#[tactic(auto, unfolding(crate::specs::Reading::read_last_number))]
+pub(crate) fn last64(rest: Remainder<'_>) -> Option<u64>
+    ensures { result ≡ read_last_number (2 ^ 64) (words_in rest.entry) }
 {
     let (number, behind) = number64(rest)?;
     end(behind)?;
@@ -174,9 +174,9 @@ pub(crate) fn last64(rest: Rest<'_>) -> Option<u64>
 }
 
 // Reads a 32-bit number as the last word.
-#[tactic(auto, unfolding(crate::specs::Reading::last_said))]
-pub(crate) fn last32(rest: Rest<'_>) -> Option<u32>
-    ensures { result ≡ last_said (2 ^ 32) (words_in rest.entry) }
+#[tactic(auto, unfolding(crate::specs::Reading::read_last_number))]
+pub(crate) fn last32(rest: Remainder<'_>) -> Option<u32>
+    ensures { result ≡ read_last_number (2 ^ 32) (words_in rest.entry) }
 {
     let (number, behind) = number32(rest)?;
     end(behind)?;
@@ -184,9 +184,9 @@ pub(crate) fn last32(rest: Rest<'_>) -> Option<u32>
 }
 
 // Reads a name of any length.
-#[tactic(auto, unfolding(crate::specs::Reading::name_said))]
-pub(crate) fn name(rest: Rest<'_>) -> Option<(&[u8], Rest<'_>)>
-    ensures { option_map (λ p. (p.0.now, words_in p.1)) result ≡ name_said (words_in rest.entry) }
+#[tactic(auto, unfolding(crate::specs::Reading::read_name))]
+pub(crate) fn name(rest: Remainder<'_>) -> Option<(&[u8], Remainder<'_>)>
+    ensures { option_map (λ p. (p.0.now, words_in p.1)) result ≡ read_name (words_in rest.entry) }
 {
     let (word, behind) = next(rest)?;
     if !is_name_form(word) {

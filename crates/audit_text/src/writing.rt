@@ -2,30 +2,30 @@
 
 ghost use Rattle.std.specs.Prelude.{◌≡◌, ◌∷◌, ◌++◌, [], codes, map, IfOk, OnOk};
 ghost use Rattle.std.specs.Fmt.{decimal};
-ghost use Rattle.mrpc_table.specs.Lines.{behind_spaces};
+ghost use Rattle.mrpc_table.specs.Lines.{after_spaces};
 ghost use Rattle.mrpc_table.specs.Text.{line};
 ghost use Rattle.mrpc_table.specs.Valid.{IsValid};
 ghost use Rattle.mrpc_table.specs.declared.table.Table.{Table};
-ghost use Rattle.audit_text.specs.Lines.{audit_line, cause_words, encoding_of, hex_word, stands_line, step_words, FitsTable, FitsCall};
-ghost use Rattle.audit_text.specs.Pieces.{note_line, told_copy};
+ghost use Rattle.audit_text.specs.Lines.{audit_line, cause_words, encoding_of, hex_word, stands_line, step_words, IsEventOfTable, IsCopyOfTable};
+ghost use Rattle.audit_text.specs.Pieces.{note_line, copy_words_of_encoding};
 ghost use Rattle.call_history.specs.declared.happening.Happening.TheVariants.{Took};
 
 use crate::holding::Holding;
-use crate::row::{put_front, put_line, put_note};
-use call_history::{Cause, Happened, Happening, Taken, TookCopy};
+use crate::row::{put_line, put_note, put_prefix};
+use call_history::{AcceptedCall, Cause, ConnectionEvent, Happening, TookCopy};
 use engine_core::Op;
 use mrpc_table::{Bytes, Memory, Table};
 use std::alloc::Global;
-use wire_encode::{Output, encode_into};
+use wire_encode::{BackwardBuffer, encode_into};
 
 // A line of up to this many bytes is made in an array and appended at once. A longer one is appended word by word.
 const ROOM: usize = 128;
 
 /// Returns the audit line of an event, with its line feed. The format is this project's own. The only error is
 /// `Memory`.
-pub fn audit_line(alloc: Global, happened: &Happened, table: &Table) -> Result<Bytes, Memory>
+pub fn audit_line(alloc: Global, happened: &ConnectionEvent, table: &Table) -> Result<Bytes, Memory>
     requires valid { IsValid table.now }
-    requires fits { FitsTable table.now happened.now.what }
+    requires fits { IsEventOfTable table.now happened.now.what }
     ensures { IfOk result (λ line. line ≡ audit_line table.now happened.now) }
 {
     let mut out = Bytes::new(alloc);
@@ -37,17 +37,17 @@ pub fn audit_line(alloc: Global, happened: &Happened, table: &Table) -> Result<B
 pub fn append_audit_line(
     alloc: Global,
     out: &mut Bytes,
-    happened: &Happened,
+    happened: &ConnectionEvent,
     table: &Table,
 ) -> Result<(), Memory>
     requires valid { IsValid table.now }
-    requires fits { FitsTable table.now happened.now.what }
+    requires fits { IsEventOfTable table.now happened.now.what }
     ensures { OnOk result (out.new ≡ out.old ++ audit_line table.now happened.now) }
 {
     let conn = happened.conn;
     match &happened.what {
         Happening::Took(call) => {
-            let mut encoding = Output::new(alloc)?;
+            let mut encoding = BackwardBuffer::new(alloc)?;
             append_took(out, &mut encoding, conn, call, table)
         }
         Happening::Away {
@@ -85,13 +85,13 @@ pub fn append_audit_line(
 // Appends the line of an accepted call, whose copy it encodes into `encoding`.
 pub(crate) fn append_took(
     out: &mut Bytes,
-    encoding: &mut Output,
+    encoding: &mut BackwardBuffer,
     conn: u32,
-    call: &Taken,
+    call: &AcceptedCall,
     table: &Table,
 ) -> Result<(), Memory>
     requires valid { IsValid table.now }
-    requires fits { FitsCall table.now call.now call.now.copy }
+    requires fits { IsCopyOfTable table.now call.now call.now.copy }
     ensures { OnOk result (out.new ≡ out.old ++ audit_line table.now (record { conn = conn; what = Took call.now })) }
 {
     match &call.copy {
@@ -109,7 +109,7 @@ pub(crate) fn append_took(
 pub fn append_took_line(
     out: &mut Bytes,
     conn: u32,
-    call: &Taken,
+    call: &AcceptedCall,
     encoding: &[u8],
 ) -> Result<(), Memory>
     ensures { (T : Table) → encoding.now ≡ encoding_of T call.now call.now.copy
@@ -124,7 +124,7 @@ pub fn append_took_line(
         call.after,
         call.count,
     ];
-    begin(out, b"took", &numbers)?;
+    append_prefix(out, b"took", &numbers)?;
     append_copy(out, &call.copy, encoding)?;
     out.push(b'\n')
 }
@@ -143,10 +143,10 @@ pub fn append_stands_line(
     ensures { OnOk result (out.new ≡ out.old ++ stands_line conn seq position name.now holding) }
 {
     let numbers = [u64::from(conn), u64::from(seq), u64::from(position)];
-    begin(out, b"stands", &numbers)?;
+    append_prefix(out, b"stands", &numbers)?;
     out.append_spaced(name)?;
     if let Some(holding) = holding {
-        begin(out, b" held", &[holding.level, holding.cost])?;
+        append_prefix(out, b" held", &[holding.level, holding.cost])?;
     }
     out.push(b'\n')
 }
@@ -164,11 +164,11 @@ pub fn append_hex_word(out: &mut Bytes, bytes: &[u8]) -> Result<(), Memory>
 }
 
 // Appends a prefix, and numbers after it.
-pub(crate) fn begin(out: &mut Bytes, front: &[u8], numbers: &[u64]) -> Result<(), Memory>
-    ensures { OnOk result (out.new ≡ out.old ++ (front.now ++ behind_spaces (map decimal numbers.now))) }
+pub(crate) fn append_prefix(out: &mut Bytes, front: &[u8], numbers: &[u64]) -> Result<(), Memory>
+    ensures { OnOk result (out.new ≡ out.old ++ (front.now ++ after_spaces (map decimal numbers.now))) }
 {
     let mut row = [0; ROOM];
-    match put_front(&mut row, ROOM, front, numbers) {
+    match put_prefix(&mut row, ROOM, front, numbers) {
         Some(start) => out.append(&row[start..]),
         None => out.append_row(front, numbers),
     }
@@ -234,7 +234,7 @@ fn append_note_by_words(
 
 // Appends the words of a call's copy, given its encoding, or the reason why it has none.
 fn append_copy(out: &mut Bytes, copy: &TookCopy, encoding: &[u8]) -> Result<(), Memory>
-    ensures { OnOk result (out.new ≡ out.old ++ behind_spaces (told_copy encoding.now copy.now)) }
+    ensures { OnOk result (out.new ≡ out.old ++ after_spaces (copy_words_of_encoding encoding.now copy.now)) }
 {
     match copy {
         TookCopy::Copy { .. } => {
@@ -247,7 +247,7 @@ fn append_copy(out: &mut Bytes, copy: &TookCopy, encoding: &[u8]) -> Result<(), 
             value,
         } => {
             out.append(b" malformed ")?;
-            begin(out, reason.word().as_bytes(), &[*place, *value])
+            append_prefix(out, reason.word().as_bytes(), &[*place, *value])
         }
     }
 }
@@ -279,7 +279,7 @@ pub(crate) fn append_sent(out: &mut Bytes, conn: u32, seq: u32, bytes: u64) -> R
 pub(crate) fn append_step(out: &mut Bytes, conn: u32, step: &Op) -> Result<(), Memory>
     ensures { OnOk result (out.new ≡ out.old ++ line (codes "op" ∷ decimal conn ∷ step_words step.now)) }
 {
-    begin(out, b"op", &[u64::from(conn)])?;
+    append_prefix(out, b"op", &[u64::from(conn)])?;
     match step {
         Op::Attach {
             at,
@@ -287,7 +287,7 @@ pub(crate) fn append_step(out: &mut Bytes, conn: u32, step: &Op) -> Result<(), M
             label,
             ..
         } => {
-            begin(out, b" attach", &[u64::from(*at)])?;
+            append_prefix(out, b" attach", &[u64::from(*at)])?;
             out.append_spaced(name.as_slice())?;
             out.append_spaced(label.as_slice())?;
         }
@@ -309,7 +309,7 @@ fn append_refusal(out: &mut Bytes, conn: u32, seq: u32, cause: &Cause) -> Result
     ensures { OnOk result (out.new
         ≡ out.old ++ line (codes "refused" ∷ decimal conn ∷ decimal seq ∷ cause_words cause.now)) }
 {
-    begin(out, b"refused", &[u64::from(conn), u64::from(seq)])?;
+    append_prefix(out, b"refused", &[u64::from(conn), u64::from(seq)])?;
     match cause {
         Cause::Malformed => out.append(b" malformed")?,
         Cause::Access {
@@ -338,9 +338,9 @@ pub(crate) fn append_cause(
     name: &[u8],
     numbers: &[u64],
 ) -> Result<(), Memory>
-    ensures { OnOk result (out.new ≡ out.old ++ (kind.now ++ behind_spaces (name.now ∷ map decimal numbers.now))) }
+    ensures { OnOk result (out.new ≡ out.old ++ (kind.now ++ after_spaces (name.now ∷ map decimal numbers.now))) }
 {
     out.append(kind)?;
     out.append_spaced(name)?;
-    begin(out, b"", numbers)
+    append_prefix(out, b"", numbers)
 }

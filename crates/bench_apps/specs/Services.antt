@@ -2,35 +2,35 @@
 use Rattle.std.specs.Prelude.{◌≡◌, []}
 use Rattle.shared_heap.specs.Fresh.{HeapId}
 use Rattle.bench_apps.specs.declared.plain_service.Service.{Service}
-use Rattle.bench_apps.specs.declared.plain_service.Side.{Side}
-use Rattle.bench_apps.specs.declared.wiring.Heap.{Heap}
-use Rattle.bench_apps.specs.declared.wiring.Ring.{Ring}
-use Rattle.bench_apps.specs.declared.wiring.Rings.{Rings}
+use Rattle.bench_apps.specs.declared.plain_service.AppSide.{AppSide}
+use Rattle.bench_apps.specs.declared.wiring.HeapEnds.{HeapEnds}
+use Rattle.bench_apps.specs.declared.wiring.RingEnds.{RingEnds}
+use Rattle.bench_apps.specs.declared.wiring.AppRings.{AppRings}
 use Rattle.bench_apps.specs.declared.wiring.TheConstants.{CAPACITY, WORDS}
 
 -- both ends are of one heap
-pub record IsNewHeap (heap : Heap) : Type 0 where
+pub record IsNewHeap (heap : HeapEnds) : Type 0 where
   pub words : heap.writer.heap.words ≡ WORDS
   pub reader_heap : heap.reader.heap ≡ heap.writer.heap
   pub stored : heap.writer.stores ≡ []
   pub loaded : heap.reader.loads ≡ []
 
 -- both ends are for notes of one heap
-pub record IsNewRing (ring : Ring) : Type 0 where
+pub record IsNewRing (ring : RingEnds) : Type 0 where
   pub heap : ring.receiver.heap ≡ ring.sender.heap
   pub capacity : ring.sender.capacity ≡ CAPACITY
   pub sent : ring.sender.sent ≡ []
   pub taken : ring.receiver.taken ≡ []
 
 -- nothing was sent through the rings of an application
-pub record AreNewRings (rings : Rings) : Type 0 where
+pub record AreNewRings (rings : AppRings) : Type 0 where
   pub calls : IsNewRing rings.calls
   pub notices : IsNewRing rings.notices
   pub blocks : rings.numbers.blocks.taken ≡ []
   pub reclaims : rings.numbers.reclaims.sent ≡ []
 
 -- its side of an application, whose calls and notices are of these heaps
-pub record IsUnusedSide (called told : HeapId) (side : Side) : Type 0 where
+pub record IsUnusedSide (called told : HeapId) (side : AppSide) : Type 0 where
   pub calls_heap : side.taking.calls.heap ≡ called
   pub notices_heap : side.notices.heap ≡ told
   pub taken : side.taking.calls.taken ≡ []

@@ -3,14 +3,14 @@ ghost use Rattle.std.specs.Prelude.{◌≡◌, ◌≤◌, ◌<◌, ◌+◌, [], 
 ghost use Rattle.std.specs.Thread.{IsSync};
 ghost use Rattle.mrpc_table.specs.Valid.{IsValid};
 ghost use Rattle.app_stub.specs.Ports.{IsNew};
-ghost use Rattle.app_program.specs.Programs.{IsClientLine, IsClientProgram, line_stores, stores_of};
+ghost use Rattle.app_program.specs.Programs.{IsClientLine, IsClientProgram, line_stores, program_stores};
 ghost use Rattle.bench_apps.specs.Services.{IsUnused};
 ghost use Rattle.bench_apps.specs.declared.calling.TheConstants.{MAX_CALLS};
 ghost use Rattle.bench_apps.specs.declared.wiring.TheConstants.{CAPACITY, WORDS};
 
 use crate::plain_service::Service;
-use crate::taking::Found;
-use crate::wiring::{Wired, open_ports};
+use crate::taking::TakenCalls;
+use crate::wiring::{BenchPorts, open_ports};
 use app_program::{Program, ProgramLine};
 use app_stub::{AppEnd, AppPort, client, echo};
 use mrpc_table::{Memory, Table};
@@ -33,7 +33,7 @@ pub fn call<R: Threads + Wait + Sync>(
     alloc: Global,
     table: &Table,
     count: u32,
-) -> Option<Found>
+) -> Option<TakenCalls>
     requires valid { IsValid table.now }
     requires few { count ≤ MAX_CALLS }
 {
@@ -52,7 +52,7 @@ fn add(program: &mut Program, line: ProgramLine) -> Result<(), Memory>
     requires lines { All (IsClientLine WORDS) program.old }
     ensures lines { OnOk result (All (IsClientLine WORDS) program.new) }
     ensures length { OnOk result (length program.new ≡ length program.old + 1) }
-    ensures stores { OnOk result (length (stores_of program.new) ≤ length (stores_of program.old) + 1) }
+    ensures stores { OnOk result (length (program_stores program.new) ≤ length (program_stores program.old) + 1) }
 {
     program.push(line)
 }
@@ -79,9 +79,9 @@ fn in_three_threads<R: Threads + Wait + Sync>(
     table: &Table,
     program: &Program,
     stop: &RunFlag,
-    wired: Wired,
+    wired: BenchPorts,
     count: u32,
-) -> Option<Found>
+) -> Option<TakenCalls>
     requires valid { IsValid table.now }
     requires program { IsClientProgram WORDS program.now }
     requires new { IsNew wired.client × IsNew wired.echo }
@@ -90,7 +90,7 @@ fn in_three_threads<R: Threads + Wait + Sync>(
     requires few { count ≤ MAX_CALLS }
     requires service { IsUnused wired.service }
 {
-    let Wired {
+    let BenchPorts {
         client: port,
         echo: echo_port,
         service,
@@ -100,7 +100,7 @@ fn in_three_threads<R: Threads + Wait + Sync>(
         move || -> bool
             requires { IsSync R.row × IsNew port × IsClientProgram port.writer.heap.words program.now }
         { is_whole(client(rt, program, port)) },
-        move || -> (bool, Option<Found>)
+        move || -> (bool, Option<TakenCalls>)
             requires { IsSync R.row × IsValid table.now × IsNew echo_port × (echo_port.writer.heap.words ≡ WORDS)
                 × (echo_port.reader.heap.words ≡ WORDS) × (echo_port.capacity ≡ CAPACITY)
                 × (count ≤ MAX_CALLS) × IsUnused service }
@@ -122,7 +122,7 @@ fn echo_and_serve<R: Threads + Wait + Sync>(
     stop: &RunFlag,
     service: Service,
     count: u32,
-) -> (bool, Option<Found>)
+) -> (bool, Option<TakenCalls>)
     requires valid { IsValid table.now }
     requires new { IsNew port }
     requires words { (port.writer.heap.words ≡ WORDS) × (port.reader.heap.words ≡ WORDS) }
@@ -136,7 +136,7 @@ fn echo_and_serve<R: Threads + Wait + Sync>(
             requires { IsSync R.row × IsValid table.now × IsNew port × (port.writer.heap.words ≡ WORDS)
                 × (port.reader.heap.words ≡ WORDS) × (port.capacity ≡ CAPACITY) }
         { is_whole(echo(rt, alloc, table, port)) },
-        move || -> Option<Found>
+        move || -> Option<TakenCalls>
             requires { IsSync R.row × (count ≤ MAX_CALLS) × IsUnused service }
         { service.serve(rt, stop, count) },
     )

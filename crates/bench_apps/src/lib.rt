@@ -13,7 +13,7 @@ mod taking;
 mod wiring;
 
 pub use calling::{MAX_CALLS, call};
-pub use taking::Found;
+pub use taking::TakenCalls;
 
 // Values are moved in here to be dropped: what dropping a value does is proved in each function that drops
 // one. Through this function it is one call.

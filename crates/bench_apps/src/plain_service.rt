@@ -1,47 +1,47 @@
 //! A plain service between a client and an echo: it copies the descriptors of calls to notices.
 ghost use Rattle.std.specs.Prelude.{◌≡◌, ◌≤◌, ◌<◌, ◌+◌, [], OnSome, length};
-ghost use Rattle.descriptor_ring.specs.Rings.{IsOf};
+ghost use Rattle.descriptor_ring.specs.Rings.{IsDescriptorOf};
 ghost use Rattle.bench_apps.specs.Services.{IsUnused};
 
-use crate::taking::{Found, Taking};
+use crate::taking::{SideReader, TakenCalls};
 use descriptor_ring::{Descriptor, Full, Receiver, Sender, Taken};
 use polling::{RunFlag, StopFlag};
 use shared_heap::Writer;
 use std::sync::Wait;
 
 // The service's side of an application.
-pub(crate) struct Side {
-    pub(crate) taking: Taking,
+pub(crate) struct AppSide {
+    pub(crate) taking: SideReader,
     pub(crate) notices: Sender,
 }
 
 // Written by hand, so that a drop is one call, not a drop of each part.
-impl Drop for Side {
+impl Drop for AppSide {
     fn drop(self) {
-        let Side {
+        let AppSide {
             taking: _taking,
             notices: _notices,
         } = self;
     }
 }
 
-impl Side {
+impl AppSide {
     // Closes the application's ring of notices, and takes what the application sends until it closes its own
     // ring.
-    fn finish<R: Wait>(self, rt: &R, stop: &RunFlag) -> Option<Found> {
-        let Side {
+    fn finish<R: Wait>(self, rt: &R, stop: &RunFlag) -> Option<TakenCalls> {
+        let AppSide {
             mut taking,
             notices,
         } = self;
         close_notices(rt, stop, &mut taking, notices)?;
-        take_rest(rt, stop, &mut taking)
+        take_remaining(rt, stop, &mut taking)
     }
 }
 
 // The service's sides of both. The writer stores nothing; the client's notices belong to its heap.
 pub(crate) struct Service {
-    pub(crate) client: Side,
-    pub(crate) echo: Side,
+    pub(crate) client: AppSide,
+    pub(crate) echo: AppSide,
     pub(crate) writer: Writer,
 }
 
@@ -59,7 +59,7 @@ impl Service {
     // Forwards the client's calls to the echo, and takes the replies. A client takes its notices after its
     // calls are done, so it gets the notices of the replies then, at most `count`. Returns the results of the
     // echo; `None` once the flag is set, here and below.
-    pub(crate) fn serve<R: Wait>(self, rt: &R, stop: &RunFlag, count: u32) -> Option<Found>
+    pub(crate) fn serve<R: Wait>(self, rt: &R, stop: &RunFlag, count: u32) -> Option<TakenCalls>
         requires few { count < 4294967294 }
         requires unused { IsUnused self }
     {
@@ -74,14 +74,19 @@ impl Service {
         } else {
             u64::from(count)
         };
-        tell(rt, stop, &mut client, &mut writer, told)?;
+        send_reply_notices(rt, stop, &mut client, &mut writer, told)?;
         client.finish(rt, stop)?;
         Some(replies)
     }
 }
 
 // Has the calls of a ring echoed until the ring is closed, and returns the results of the echo.
-fn serve_echo<R: Wait>(rt: &R, stop: &RunFlag, calls: &mut Receiver, echo: Side) -> Option<Found>
+fn serve_echo<R: Wait>(
+    rt: &R,
+    stop: &RunFlag,
+    calls: &mut Receiver,
+    echo: AppSide,
+) -> Option<TakenCalls>
     requires heap { calls.old.heap ≡ echo.notices.heap }
     requires new { (calls.old.taken ≡ []) × (echo.notices.sent ≡ []) }
 {
@@ -91,7 +96,12 @@ fn serve_echo<R: Wait>(rt: &R, stop: &RunFlag, calls: &mut Receiver, echo: Side)
 }
 
 // Sends a notice for each call, until their ring is closed.
-fn pass_calls<R: Wait>(rt: &R, stop: &RunFlag, calls: &mut Receiver, echo: &mut Side) -> Option<()>
+fn pass_calls<R: Wait>(
+    rt: &R,
+    stop: &RunFlag,
+    calls: &mut Receiver,
+    echo: &mut AppSide,
+) -> Option<()>
     requires heap { calls.old.heap ≡ echo.old.notices.heap }
     requires new { (calls.old.taken ≡ []) × (echo.old.notices.sent ≡ []) }
 {
@@ -113,10 +123,10 @@ fn pass_calls<R: Wait>(rt: &R, stop: &RunFlag, calls: &mut Receiver, echo: &mut 
 }
 
 // Sends an application the notices of this number of replies.
-fn tell<R: Wait>(
+fn send_reply_notices<R: Wait>(
     rt: &R,
     stop: &RunFlag,
-    client: &mut Side,
+    client: &mut AppSide,
     writer: &mut Writer,
     count: u64,
 ) -> Option<()>
@@ -132,7 +142,7 @@ fn tell<R: Wait>(
 }
 
 fn reply(writer: &mut Writer) -> Descriptor
-    ensures of_heap { IsOf writer.old.heap result }
+    ensures of_heap { IsDescriptorOf writer.old.heap result }
     ensures same { writer.new ≡ writer.old }
 {
     Descriptor {
@@ -146,8 +156,8 @@ fn reply(writer: &mut Writer) -> Descriptor
 }
 
 // Sends a notice.
-fn give<R: Wait>(rt: &R, stop: &RunFlag, side: &mut Side, mut notice: Descriptor) -> Option<()>
-    requires of_heap { IsOf side.old.notices.heap notice }
+fn give<R: Wait>(rt: &R, stop: &RunFlag, side: &mut AppSide, mut notice: Descriptor) -> Option<()>
+    requires of_heap { IsDescriptorOf side.old.notices.heap notice }
     requires few { length side.old.notices.sent < 4294967294 }
     ensures sent { OnSome result (length side.new.notices.sent ≡ length side.old.notices.sent + 1) }
     ensures heap { side.new.notices.heap ≡ side.old.notices.heap }
@@ -168,7 +178,7 @@ fn give<R: Wait>(rt: &R, stop: &RunFlag, side: &mut Side, mut notice: Descriptor
     unreachable!()
 }
 
-fn take_rest<R: Wait>(rt: &R, stop: &RunFlag, taking: &mut Taking) -> Option<Found> {
+fn take_remaining<R: Wait>(rt: &R, stop: &RunFlag, taking: &mut SideReader) -> Option<TakenCalls> {
     for _ in rt.forever() {
         if taking.turn(rt, stop)? {
             return Some(taking.found);
@@ -180,7 +190,7 @@ fn take_rest<R: Wait>(rt: &R, stop: &RunFlag, taking: &mut Taking) -> Option<Fou
 fn close_notices<R: Wait>(
     rt: &R,
     stop: &RunFlag,
-    taking: &mut Taking,
+    taking: &mut SideReader,
     mut notices: Sender,
 ) -> Option<()> {
     for _ in rt.forever() {

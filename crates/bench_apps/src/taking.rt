@@ -9,7 +9,7 @@ use std::thread;
 
 /// What was taken from an application.
 #[derive(Clone, Copy)]
-pub struct Found {
+pub struct TakenCalls {
     /// The number of calls.
     pub calls: u64,
     /// The sum of their numbers, modulo 2^64.
@@ -18,27 +18,27 @@ pub struct Found {
 
 // What a ring returned.
 #[derive(Clone, Copy)]
-enum Came {
+enum TakeOutcome {
     Item,
     Nothing,
     Closing,
 }
 
 #[derive(Drop)]
-pub(crate) struct Taking {
+pub(crate) struct SideReader {
     pub(crate) calls: Receiver,
-    pub(crate) found: Found,
+    pub(crate) found: TakenCalls,
 }
 
-impl Taking {
-    pub(crate) fn new(calls: Receiver) -> Taking
+impl SideReader {
+    pub(crate) fn new(calls: Receiver) -> SideReader
         ensures calls { result.calls ≡ calls }
     {
-        let found = Found {
+        let found = TakenCalls {
             calls: 0,
             numbers: 0,
         };
-        Taking { calls, found }
+        SideReader { calls, found }
     }
 
     // Takes a call if there is one, and otherwise yields. True once the ring is closed; `None` once the flag
@@ -49,29 +49,29 @@ impl Taking {
             return None;
         }
         match came {
-            Came::Closing => return Some(true),
-            Came::Item => {}
-            Came::Nothing => thread::yield_now(),
+            TakeOutcome::Closing => return Some(true),
+            TakeOutcome::Item => {}
+            TakeOutcome::Nothing => thread::yield_now(),
         }
         Some(false)
     }
 
-    fn take_call<R: Wait>(&mut self, rt: &R) -> Came {
+    fn take_call<R: Wait>(&mut self, rt: &R) -> TakeOutcome {
         let taken = self.calls.take(rt);
         let came = self.count(&taken);
         discard(taken);
         came
     }
 
-    fn count(&mut self, taken: &Taken) -> Came {
+    fn count(&mut self, taken: &Taken) -> TakeOutcome {
         match taken {
             Taken::Item(call) => {
                 self.found.calls = self.found.calls.wrapping_add(1);
                 self.found.numbers = self.found.numbers.wrapping_add(u64::from(call.number));
-                Came::Item
+                TakeOutcome::Item
             }
-            Taken::Closed => Came::Closing,
-            Taken::Empty(_) => Came::Nothing,
+            Taken::Closed => TakeOutcome::Closing,
+            Taken::Empty(_) => TakeOutcome::Nothing,
         }
     }
 }

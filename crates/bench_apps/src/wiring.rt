@@ -4,8 +4,8 @@ ghost use Rattle.app_stub.specs.Ports.{IsNew};
 ghost use Rattle.bench_apps.specs.Services.{AreNewRings, IsNewHeap, IsNewRing, IsUnused, IsUnusedSide};
 
 use crate::discard;
-use crate::plain_service::{Service, Side};
-use crate::taking::Taking;
+use crate::plain_service::{AppSide, Service};
+use crate::taking::SideReader;
 use app_stub::AppPort;
 use descriptor_ring::{NumberReceiver, NumberSender, Receiver, Sender};
 use polling::RunFlag;
@@ -20,50 +20,50 @@ pub(crate) const CAPACITY: u64 = 64;
 pub(crate) const WORDS: u64 = 1024;
 
 // Both ends of a heap.
-pub(crate) struct Heap {
+pub(crate) struct HeapEnds {
     pub(crate) writer: Writer,
     pub(crate) reader: Reader,
 }
 
 // Written by hand, like those below, so that a drop is one call, not a drop of each part.
-impl Drop for Heap {
+impl Drop for HeapEnds {
     fn drop(self) {
-        let Heap {
+        let HeapEnds {
             writer: _writer,
             reader: _reader,
         } = self;
     }
 }
 
-impl Heap {
+impl HeapEnds {
     fn into_ends(self) -> (Writer, Reader)
         ensures { (result.0 ≡ self.writer) × (result.1 ≡ self.reader) }
     {
-        let Heap { writer, reader } = self;
+        let HeapEnds { writer, reader } = self;
         (writer, reader)
     }
 }
 
 // Both ends of a ring of descriptors.
-pub(crate) struct Ring {
+pub(crate) struct RingEnds {
     pub(crate) sender: Sender,
     pub(crate) receiver: Receiver,
 }
 
-impl Drop for Ring {
+impl Drop for RingEnds {
     fn drop(self) {
-        let Ring {
+        let RingEnds {
             sender: _sender,
             receiver: _receiver,
         } = self;
     }
 }
 
-impl Ring {
+impl RingEnds {
     fn into_ends(self) -> (Sender, Receiver)
         ensures { (result.0 ≡ self.sender) × (result.1 ≡ self.receiver) }
     {
-        let Ring { sender, receiver } = self;
+        let RingEnds { sender, receiver } = self;
         (sender, receiver)
     }
 }
@@ -94,16 +94,16 @@ impl Numbers {
 }
 
 // The rings of an application, and its stop flag.
-pub(crate) struct Rings {
-    pub(crate) calls: Ring,
-    pub(crate) notices: Ring,
+pub(crate) struct AppRings {
+    pub(crate) calls: RingEnds,
+    pub(crate) notices: RingEnds,
     pub(crate) numbers: Numbers,
     pub(crate) stop: RunFlag,
 }
 
-impl Drop for Rings {
+impl Drop for AppRings {
     fn drop(self) {
-        let Rings {
+        let AppRings {
             calls: _calls,
             notices: _notices,
             numbers: _numbers,
@@ -112,9 +112,9 @@ impl Drop for Rings {
     }
 }
 
-impl Rings {
+impl AppRings {
     // The port of the application, and the service's side of it.
-    fn into_sides(self, writer: Writer, reader: Reader) -> (AppPort<RunFlag>, Side)
+    fn into_sides(self, writer: Writer, reader: Reader) -> (AppPort<RunFlag>, AppSide)
         requires rings { AreNewRings self }
         requires heaps { (self.calls.sender.heap ≡ writer.heap) × (self.notices.sender.heap ≡ reader.heap) }
         requires unused { (writer.stores ≡ []) × (reader.loads ≡ []) }
@@ -123,7 +123,7 @@ impl Rings {
         ensures capacity { result.0.capacity ≡ CAPACITY }
         ensures side { IsUnusedSide writer.heap reader.heap result.1 }
     {
-        let Rings {
+        let AppRings {
             calls,
             notices,
             numbers,
@@ -142,15 +142,15 @@ impl Rings {
             reclaims,
             stop,
         };
-        let side = Side {
-            taking: Taking::new(called),
+        let side = AppSide {
+            taking: SideReader::new(called),
             notices: telling,
         };
         (port, side)
     }
 }
 
-pub(crate) struct Wired {
+pub(crate) struct BenchPorts {
     pub(crate) client: AppPort<RunFlag>,
     pub(crate) echo: AppPort<RunFlag>,
     pub(crate) service: Service,
@@ -162,7 +162,7 @@ pub(crate) fn open_ports<R: Wait>(
     rt: &R,
     alloc: Global,
     stop: &RunFlag,
-) -> Result<Wired, AllocError>
+) -> Result<BenchPorts, AllocError>
     ensures new { IfOk result (λ wired. IsNew wired.client × IsNew wired.echo) }
     ensures words { IfOk result (λ wired. (wired.client.writer.heap.words ≡ WORDS)
         × (wired.echo.writer.heap.words ≡ WORDS) × (wired.echo.reader.heap.words ≡ WORDS)) }
@@ -183,11 +183,11 @@ pub(crate) fn open_ports<R: Wait>(
     Ok(wire(client, echo, service, rings))
 }
 
-fn open_heap(alloc: Global) -> Result<Heap, AllocError>
+fn open_heap(alloc: Global) -> Result<HeapEnds, AllocError>
     ensures { IfOk result IsNewHeap }
 {
     let (writer, reader) = shared_heap::open(alloc, WORDS)?;
-    Ok(Heap { writer, reader })
+    Ok(HeapEnds { writer, reader })
 }
 
 // The rings of the client and of the echo, for notes of the heaps of these readers.
@@ -198,7 +198,7 @@ fn open_both<R: Wait>(
     client: &Reader,
     echo: &Reader,
     service: &Reader,
-) -> Result<(Rings, Rings), AllocError>
+) -> Result<(AppRings, AppRings), AllocError>
     ensures new { IfOk result (λ both. AreNewRings both.0 × AreNewRings both.1) }
     ensures client { IfOk result (λ both. (both.0.calls.sender.heap ≡ client.now.heap)
         × (both.0.notices.sender.heap ≡ service.now.heap)) }
@@ -218,7 +218,7 @@ fn open_rings<R: Wait>(
     stop: &RunFlag,
     stored: &Reader,
     delivered: &Reader,
-) -> Result<Rings, AllocError>
+) -> Result<AppRings, AllocError>
     ensures new { IfOk result AreNewRings }
     ensures heaps { IfOk result (λ rings. (rings.calls.sender.heap ≡ stored.now.heap)
         × (rings.notices.sender.heap ≡ delivered.now.heap)) }
@@ -227,7 +227,7 @@ fn open_rings<R: Wait>(
     let numbers = open_numbers(rt, alloc)?;
     let calls = open_ring(alloc, stored)?;
     let notices = open_ring(alloc, delivered)?;
-    Ok(Rings {
+    Ok(AppRings {
         calls,
         notices,
         numbers,
@@ -235,12 +235,12 @@ fn open_rings<R: Wait>(
     })
 }
 
-fn open_ring(alloc: Global, reader: &Reader) -> Result<Ring, AllocError>
+fn open_ring(alloc: Global, reader: &Reader) -> Result<RingEnds, AllocError>
     ensures new { IfOk result IsNewRing }
     ensures heap { IfOk result (λ ring. ring.sender.heap ≡ reader.now.heap) }
 {
     let (sender, receiver) = descriptor_ring::open(alloc, CAPACITY, reader)?;
-    Ok(Ring { sender, receiver })
+    Ok(RingEnds { sender, receiver })
 }
 
 fn open_numbers<R: Wait>(rt: &R, alloc: Global) -> Result<Numbers, AllocError>
@@ -263,7 +263,12 @@ fn closed_numbers<R: Wait>(rt: &R, alloc: Global) -> Result<NumberReceiver, Allo
 }
 
 // The parts, from three heaps and the rings of the client and the echo.
-fn wire(client: Heap, echo: Heap, service: Heap, rings: (Rings, Rings)) -> Wired
+fn wire(
+    client: HeapEnds,
+    echo: HeapEnds,
+    service: HeapEnds,
+    rings: (AppRings, AppRings),
+) -> BenchPorts
     requires heaps { IsNewHeap client × IsNewHeap echo × IsNewHeap service }
     requires rings { AreNewRings rings.0 × AreNewRings rings.1 }
     requires client_heaps { (rings.0.calls.sender.heap ≡ client.reader.heap)
@@ -283,7 +288,7 @@ fn wire(client: Heap, echo: Heap, service: Heap, rings: (Rings, Rings)) -> Wired
     discard(placed);
     let (client, client_side) = client_rings.into_sides(client_writer, delivered);
     let (echo, echo_side) = echo_rings.into_sides(echo_writer, stored);
-    Wired {
+    BenchPorts {
         client,
         echo,
         service: Service {

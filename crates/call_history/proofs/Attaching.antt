@@ -7,16 +7,16 @@ use Rattle.std.specs.Str.{bytes_eq}
 use Rattle.std.proofs.lemmas.Bool.{cases_lt}
 use Rattle.std.proofs.lemmas.List.Elements.{All-nil}
 use Rattle.engine_core.specs.Answers.{nothing}
-use Rattle.engine_core.specs.Chains.{Chain, Changes, Entry, names_of, new_entry, is_taken, is_past, taken as is_taken_name, no_place}
+use Rattle.engine_core.specs.Chains.{Chain, HasChanged, Entry, names_of, new_entry, is_taken, is_past, taken as is_taken_name, no_place}
 use Rattle.engine_core.specs.declared.op.Op.TheVariants.{Attach}
 use Rattle.engine_core.specs.declared.policy.Policy.{Policy}
-use Rattle.call_history.specs.Behind.{chain, noted, noted_calls, standing}
+use Rattle.call_history.specs.Trace.{chain, noted, noted_calls, pending_calls}
 use Rattle.engine_core.specs.Chains.{changed}
-use Rattle.call_history.specs.Events.{Course, NotesAscend}
-use Rattle.engine_core.specs.Moves.{back_to}
-use Rattle.call_history.specs.Rules.{Under, Lets}
+use Rattle.call_history.specs.Transitions.{ConnState, AreNotesAscending}
+use Rattle.engine_core.specs.Moves.{returned_to}
+use Rattle.call_history.specs.Rules.{JudgeContext, IsAllowedInTrace}
 use Rattle.call_history.specs.declared.happening.Happening.TheVariants.{Op}
-use Rattle.call_history.specs.declared.happening.Taken.{Taken}
+use Rattle.call_history.specs.declared.happening.AcceptedCall.{AcceptedCall}
 use Rattle.call_history.proofs.Chained.{all-step, named-there}
 use Rattle.call_history.proofs.Holding.{Holds}
 use Rattle.call_history.proofs.Looking.{other-name, lets-still}
@@ -28,7 +28,7 @@ record IsFree (entries : List Entry) (at : ℕ) (name : List ℕ) : Type 0 where
   within : at ≤ length entries
   apart : Contains (names_of entries) name → ⊥
 
-free-place : (before after : Chain) (at : ℕ) (name label : List ℕ) (policy : Policy) → Changes before (Attach at name label policy) after → IsFree before.entries at name
+free-place : (before after : Chain) (at : ℕ) (name label : List ℕ) (policy : Policy) → HasChanged before (Attach at name label policy) after → IsFree before.entries at name
 free-place before after at name label policy changes = record {
   within = elim (cases_lt (length before.entries) at) [ inl past ↦ absurd (changes.free (no_place at) (is_past at name label policy refl past refl)) | inr fits ↦ fits ];
   apart = λ has. changes.free (is_taken_name name) (is_taken at name label policy refl has refl);
@@ -46,9 +46,9 @@ front-same (e ∷ es) rest (suc k) (suc at) before within = ap (λ (xs : List En
 longer : (es : List Entry) (at : ℕ) (new : Entry) → at ≤ length es → at ≤ length (take at es ++ new ∷ drop at es)
 longer es at new within = omega (arith, length-append (take at es) (new ∷ drop at es), length-take-le at es within)
 
-pub attached_holds : (u : Under) (c : Course) (at : ℕ) (name label : List ℕ) (policy : Policy) → Holds u c
-    → Changes (chain c.past) (Attach at name label policy) (changed (Attach at name label policy) (chain c.past))
-    → Holds u (record c { past = Op (Attach at name label policy) ∷ c.past; row = back_to at c.row })
+pub attached_holds : (u : JudgeContext) (c : ConnState) (at : ℕ) (name label : List ℕ) (policy : Policy) → Holds u c
+    → HasChanged (chain c.past) (Attach at name label policy) (changed (Attach at name label policy) (chain c.past))
+    → Holds u (record c { past = Op (Attach at name label policy) ∷ c.past; row = returned_to at c.row })
 attached_holds u c at name label policy h changes =
     let free : IsFree (chain c.past).entries at name = free-place (chain c.past) (changed (Attach at name label policy) (chain c.past)) at name label policy changes in
     moved-holds u c (Attach at name label policy) (λ p. min p at) h changes (record {
@@ -59,9 +59,9 @@ attached_holds u c at name label policy h changes =
     })
   where
     -- the entries before it have other names, so their notes are unchanged
-    front-lets : (seq k : ℕ) → IsFree (chain c.past).entries at name → All (Lets u c.past seq) (take k (chain c.past).entries)
-        → All (Lets u (Op (Attach at name label policy) ∷ c.past) seq) (take k (chain c.past).entries)
-    front-lets seq k free lets = all-step (Lets u c.past seq) (Lets u (Op (Attach at name label policy) ∷ c.past) seq) (take k (chain c.past).entries)
+    front-lets : (seq k : ℕ) → IsFree (chain c.past).entries at name → All (IsAllowedInTrace u c.past seq) (take k (chain c.past).entries)
+        → All (IsAllowedInTrace u (Op (Attach at name label policy) ∷ c.past) seq) (take k (chain c.past).entries)
+    front-lets seq k free lets = all-step (IsAllowedInTrace u c.past seq) (IsAllowedInTrace u (Op (Attach at name label policy) ∷ c.past) seq) (take k (chain c.past).entries)
         (λ e has let_e. lets-still u c.past (Op (Attach at name label policy) ∷ c.past) seq e refl
         (ap (λ b. cond b nothing (noted e.name seq c.past))
         (other-name name e.name
@@ -74,16 +74,16 @@ attached_holds u c at name label policy h changes =
         → StandsAt u (Op (Attach at name label policy) ∷ c.past) seq (min position at)
     keeps free seq position stands = record {
       within = omega (arith, longer (chain c.past).entries at (new_entry name ((chain c.past).attached + 1) policy) free.within);
-      let_pass = subst (λ (xs : List Entry). All (Lets u (Op (Attach at name label policy) ∷ c.past) seq) xs)
+      allowed = subst (λ (xs : List Entry). All (IsAllowedInTrace u (Op (Attach at name label policy) ∷ c.past) seq) xs)
           (sym (front-same (chain c.past).entries (new_entry name ((chain c.past).attached + 1) policy ∷ drop at (chain c.past).entries) (min position at) at (omega arith) free.within))
-          (front-lets seq (min position at) free (all-fewer (Lets u c.past seq) (chain c.past).entries (min position at) position (omega arith) stands.let_pass));
+          (front-lets seq (min position at) free (all-fewer (IsAllowedInTrace u c.past seq) (chain c.past).entries (min position at) position (omega arith) stands.allowed));
     }
 
     -- the new entry has noted nothing
-    by-name : (b : Bool) (other : List ℕ) (s : ℕ) → Contains (map (λ (call : Taken). call.seq) (standing c.past)) s → cond b nothing (noted other s c.past) ≡ nothing
+    by-name : (b : Bool) (other : List ℕ) (s : ℕ) → Contains (map (λ (call : AcceptedCall). call.seq) (pending_calls c.past)) s → cond b nothing (noted other s c.past) ≡ nothing
         → All (λ n. n < s) (cond b [] (noted_calls other c.past))
     by-name true other s stands none = All-nil (λ n. n < s)
     by-name false other s stands none = h.notes_ascend other s stands none
 
-    ascends : NotesAscend (Op (Attach at name label policy) ∷ c.past)
+    ascends : AreNotesAscending (Op (Attach at name label policy) ∷ c.past)
     ascends other s stands none = by-name (bytes_eq name other) other s stands none

@@ -4,7 +4,7 @@ use Rattle.std.specs.Prelude.{Contains}
 use Rattle.std.proofs.lemmas.List.{map-append}
 use Rattle.std.proofs.lemmas.List.Elements.{filter-append}
 use Rattle.mrpc_table.specs.Valid.{AreDistinct}
-use Rattle.engine_core.specs.Chains.{Chain, IsChain, Entry, names_of, new_entry, upgraded, Makes, attaches, detaches, upgrades, Changes}
+use Rattle.engine_core.specs.Chains.{Chain, IsChain, Entry, names_of, new_entry, upgraded, IsChangeOf, attaches, detaches, upgrades, HasChanged}
 use Rattle.engine_core.specs.declared.op.Op.{Op as Step}
 use Rattle.engine_core.specs.declared.op.Op.TheVariants.{Attach}
 use Rattle.engine_core.specs.declared.policy.Policy.{Policy}
@@ -68,7 +68,7 @@ upgraded-entries front back e policy apart =
     ∙ ap (λ (xs : List Entry). xs ++ upgraded e policy ∷ with_upgraded e.name policy back) (unchanged e.name policy front (λ x has. front-apart front back e x apart has))
     ∙ ap (λ (xs : List Entry). front ++ upgraded e policy ∷ xs) (unchanged e.name policy back (λ x has. back-apart front back e x apart has))
 
-makes-changed : (before after : Chain) (op : Step) → AreDistinct (names_of before.entries) → Makes before op after → after ≡ changed op before
+makes-changed : (before after : Chain) (op : Step) → AreDistinct (names_of before.entries) → IsChangeOf before op after → after ≡ changed op before
 makes-changed before after op apart (attaches at name label policy front back is whole place result) =
     result ∙ attach-is before at name label policy front back whole place ∙ ap (λ (o : Step). changed o before) (sym is)
 makes-changed before after op apart (detaches name e front back is whole named result) =
@@ -85,5 +85,5 @@ makes-changed before after op apart (upgrades name label policy e front back is 
     (sym whole))
     ∙ ap (λ (o : Step). changed o before) (sym is)
 
-pub changes-changed : (before after : Chain) (op : Step) → IsChain before → Changes before op after → after ≡ changed op before
-changes-changed before after op chain changes = makes-changed before after op chain.names changes.makes
+pub changes-changed : (before after : Chain) (op : Step) → IsChain before → HasChanged before op after → after ≡ changed op before
+changes-changed before after op chain changes = makes-changed before after op chain.names changes.effect

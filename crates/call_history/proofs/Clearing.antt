@@ -11,16 +11,16 @@ use Rattle.mrpc_table.specs.Valid.{AreDistinct}
 use Rattle.mrpc_table.specs.declared.call.Call.{Call}
 use Rattle.policy_redact.specs.Redacting.{cleared, cleared_call}
 use Rattle.policy_redact.specs.declared.redact.Clear.{Clear}
-use Rattle.engine_core.specs.Answers.{Past, redact, Answers, allows, denies, was_charged, charges, holds, refuses, is_within, is_over, draws, was_counted, counts, is_clear, redacts}
+use Rattle.engine_core.specs.Answers.{Past, redact, IsEntryAnswer, allows, denies, was_charged, charges, holds, refuses, is_within, is_over, draws, was_counted, counts, is_clear, redacts}
 use Rattle.engine_core.specs.Chains.{Entry, names_of, new_entry, upgraded}
 use Rattle.engine_core.specs.declared.op.Op.TheVariants.{Attach, Detach, Upgrade}
 use Rattle.engine_core.specs.declared.policy.Policy.{Policy}
 use Rattle.engine_core.specs.declared.policy.Policy.TheVariants.{Access, Rate, Quota, Count, Redact}
-use Rattle.call_history.specs.Behind.{Behind, chain, policy_of, taken, form, level, moment, noted, redacted}
+use Rattle.call_history.specs.Trace.{Trace, chain, policy_in_trace, taken, form, level_in_trace, timestamp, noted, redacted}
 use Rattle.engine_core.specs.Chains.{is_named}
 use Rattle.call_history.specs.Clears.{cleared_in}
-use Rattle.call_history.specs.Legal.{IsPrefix}
-use Rattle.call_history.specs.Rules.{Under, IsCleared}
+use Rattle.call_history.specs.Legal.{IsLegalPrefix}
+use Rattle.call_history.specs.Rules.{JudgeContext, IsRedactionDue}
 use Rattle.call_history.specs.declared.happening.Happening.TheVariants.{Took, Op, Redacted}
 use Rattle.call_history.proofs.Accepting.{form-other}
 use Rattle.call_history.proofs.Chained.{contains-in, same-entry, find-entry}
@@ -75,7 +75,7 @@ clear-still either Count other f is = tt
 
 -- ---- in a chain
 
-record IsClearBy (u : Under) (past : Behind) (seq : ℕ) (e : Entry) : Type 0 where
+record IsClearBy (u : JudgeContext) (past : Trace) (seq : ℕ) (e : Entry) : Type 0 where
   versions : All (λ version. version ≤ e.version) (cleared_in e.name seq past)
   clear : Contains (cleared_in e.name seq past) e.version → IsClearOf e.policy (form u.conn seq past)
 
@@ -93,19 +93,19 @@ old-entry es at new e apart has =
     ])
 
 -- nothing was cleared in a call that isn't accepted yet
-none-cleared : (u : Under) (past : Behind) (seq : ℕ) (name : List ℕ) → IsPrefix u past → length (taken past) < seq → cleared_in name seq past ≡ []
+none-cleared : (u : JudgeContext) (past : Trace) (seq : ℕ) (name : List ℕ) → IsLegalPrefix u past → length (taken past) < seq → cleared_in name seq past ≡ []
 none-cleared u [] seq name prefix above = refl
 none-cleared u (Op (Attach at other label policy) ∷ past) seq name prefix above =
     elim (bytes_eq other name) as (λ b. cond b [] (cleared_in name seq past) ≡ []) [ true ↦ refl | false ↦ none-cleared u past seq name prefix.0 above ]
 none-cleared u (Took call ∷ past) seq name prefix above = none-cleared u past seq name prefix.0 (omega (arith, above, length-append (taken past) (call ∷ [])))
 none-cleared u (Redacted call other version ∷ past) seq name prefix above =
-    let few : call ≤ length (taken past) = stood u past call prefix.0 prefix.1.notes_due.at.call_stands in
+    let few : call ≤ length (taken past) = stood u past call prefix.0 prefix.1.notes_due.at.is_pending in
     ap (λ b. cond b (version ∷ cleared_in name seq past) (cleared_in name seq past))
     (and_left (call == seq) (bytes_eq other name) (ne_eqb call seq (λ same. omega (arith, same, few, above))))
     ∙ none-cleared u past seq name prefix.0 above
 none-cleared u (x ∷ past) seq name prefix above = none-cleared u past seq name prefix.0 above
 
-attached : (u : Under) (past : Behind) (at seq : ℕ) (name label : List ℕ) (policy : Policy) (e : Entry)
+attached : (u : JudgeContext) (past : Trace) (at seq : ℕ) (name label : List ℕ) (policy : Policy) (e : Entry)
     → Contains (take at (chain past).entries ++ new_entry name ((chain past).attached + 1) policy ∷ drop at (chain past).entries) e
     → ((x : Entry) → Contains (chain past).entries x → IsClearBy u past seq x) → IsClearBy u (Op (Attach at name label policy) ∷ past) seq e
 attached u past at seq name label policy e has before = record { versions = (given (bytes_eq name e.name) refl).0; clear = (given (bytes_eq name e.name) refl).1 }
@@ -121,7 +121,7 @@ attached u past at seq name label policy e has before = record { versions = (giv
     given false test =
         let old : IsClearBy u past seq e = before e (old-entry (chain past).entries at (new_entry name ((chain past).attached + 1) policy) e (apart test) has) in (old.versions, old.clear)
 
-upgraded-clear : (u : Under) (past : Behind) (seq : ℕ) (name label : List ℕ) (policy : Policy) (e : Entry) → IsFrom (chain past).entries name policy e
+upgraded-clear : (u : JudgeContext) (past : Trace) (seq : ℕ) (name label : List ℕ) (policy : Policy) (e : Entry) → IsFrom (chain past).entries name policy e
     → ((x : Entry) → Contains (chain past).entries x → IsClearBy u past seq x) → IsClearBy u (Op (Upgrade name label policy) ∷ past) seq e
 upgraded-clear u past seq name label policy e from before =
     subst (IsClearBy u (Op (Upgrade name label policy) ∷ past) seq) (sym from.is) (given (is_named name from.old) (before from.old from.there))
@@ -134,8 +134,8 @@ upgraded-clear u past seq name label policy e from before =
     }
     given false old = record { versions = old.versions; clear = old.clear }
 
-redacted-clear : Laws → (u : Under) (past : Behind) (call seq version : ℕ) (other : List ℕ) (e : Entry)
-    → IsPrefix u past → IsCleared u past call other version → Contains (chain past).entries e
+redacted-clear : Laws → (u : JudgeContext) (past : Trace) (call seq version : ℕ) (other : List ℕ) (e : Entry)
+    → IsLegalPrefix u past → IsRedactionDue u past call other version → Contains (chain past).entries e
     → IsClearBy u past seq e → IsClearBy u (Redacted call other version ∷ past) seq e
 redacted-clear laws u past call seq version other e prefix due there old =
     record {
@@ -149,7 +149,7 @@ redacted-clear laws u past call seq version other e prefix due there old =
       | inl same ↦ subst (λ (f : Option Call). IsClearOf e.policy f)
           (sym (ap (λ n. form u.conn seq (Redacted n other version ∷ past)) same
           ∙ form-cleared u.conn seq version other past))
-          (clear-still laws.either e.policy (policy_of other past) (form u.conn seq past) is)
+          (clear-still laws.either e.policy (policy_in_trace other past) (form u.conn seq past) is)
       | inr apart ↦ subst (λ (f : Option Call). IsClearOf e.policy f) (sym (form-others u.conn call seq version other past apart)) is
     ]
 
@@ -158,9 +158,9 @@ redacted-clear laws u past call seq version other e prefix due there old =
         (contains-in (chain past).entries due.at.front due.at.back due.entry due.at.entries) there
         (due.at.named ∙ same)
 
-    policy-is : other ≡ e.name → policy_of other past ≡ Some e.policy
+    policy-is : other ≡ e.name → policy_in_trace other past ≡ Some e.policy
     policy-is same =
-        ap (λ (n : List ℕ). policy_of n past) (sym due.at.named)
+        ap (λ (n : List ℕ). policy_in_trace n past) (sym due.at.named)
         ∙ ap (λ (es : List Entry). option_map (λ x. x.policy) (find (is_named due.entry.name) es)) due.at.entries
         ∙ ap (option_map (λ (x : Entry). x.policy))
         (find-entry due.at.front due.at.back due.entry
@@ -185,7 +185,7 @@ redacted-clear laws u past call seq version other e prefix due there old =
         (All-cons (λ v. v ≤ e.version) version (cleared_in e.name seq past) (omega (arith, present)) old.versions, λ has. here (eqb-true call seq parts.0) name_is)
     given false test = (old.versions, λ has. others (old.clear has))
 
-clear-by : Laws → (u : Under) (past : Behind) (seq : ℕ) → IsPrefix u past → (e : Entry) → Contains (chain past).entries e → IsClearBy u past seq e
+clear-by : Laws → (u : JudgeContext) (past : Trace) (seq : ℕ) → IsLegalPrefix u past → (e : Entry) → Contains (chain past).entries e → IsClearBy u past seq e
 clear-by laws u [] seq prefix e there = absurd (omega (arith, there.1))
 clear-by laws u (Op (Attach at name label policy) ∷ past) seq prefix e there = attached u past at seq name label policy e there (clear-by laws u past seq prefix.0)
 clear-by laws u (Op (Detach name) ∷ past) seq prefix e there =
@@ -209,31 +209,31 @@ clear-by laws u (x ∷ past) seq prefix e there = let old = clear-by laws u past
 
 -- ---- so it isn't redacted again
 
-not-redacts : (policy : Policy) (level moment : ℕ) (call : Call) (past : Past) → IsClearOf policy (Some call) → Answers policy level moment call past redact → ⊥
-not-redacts policy level moment call past is (allows p is_p allow answer) = cc
-not-redacts policy level moment call past is (denies p is_p allow answer) = cc
-not-redacts policy level moment call past is (was_charged r is_p some answer) = cc
-not-redacts policy level moment call past is (charges r is_p none enough answer) = cc
-not-redacts policy level moment call past is (holds r is_p none less mode answer) = cc
-not-redacts policy level moment call past is (refuses r is_p none less mode answer) = cc
-not-redacts policy level moment call past is (is_within tenant per cap ticket is_p some less answer) = cc
-not-redacts policy level moment call past is (is_over tenant per cap ticket is_p some more answer) = cc
-not-redacts policy level moment call past is (draws tenant per cap ticket is_p none answer) = cc
-not-redacts policy level moment call past is (was_counted is_p some answer) = cc
-not-redacts policy level moment call past is (counts is_p none answer) = cc
-not-redacts policy level moment call past is (is_clear clears is_p left answer) = cc
-not-redacts policy level moment call past is (redacts clears is_p other answer) = other (subst (λ (p : Policy). IsClearOf p (Some call)) is_p is)
+not-redacts : (policy : Policy) (level_in_trace timestamp : ℕ) (call : Call) (past : Past) → IsClearOf policy (Some call) → IsEntryAnswer policy level_in_trace timestamp call past redact → ⊥
+not-redacts policy level_in_trace timestamp call past is (allows p is_p allow answer) = cc
+not-redacts policy level_in_trace timestamp call past is (denies p is_p allow answer) = cc
+not-redacts policy level_in_trace timestamp call past is (was_charged r is_p some answer) = cc
+not-redacts policy level_in_trace timestamp call past is (charges r is_p none enough answer) = cc
+not-redacts policy level_in_trace timestamp call past is (holds r is_p none less mode answer) = cc
+not-redacts policy level_in_trace timestamp call past is (refuses r is_p none less mode answer) = cc
+not-redacts policy level_in_trace timestamp call past is (is_within tenant per cap ticket is_p some less answer) = cc
+not-redacts policy level_in_trace timestamp call past is (is_over tenant per cap ticket is_p some more answer) = cc
+not-redacts policy level_in_trace timestamp call past is (draws tenant per cap ticket is_p none answer) = cc
+not-redacts policy level_in_trace timestamp call past is (was_counted is_p some answer) = cc
+not-redacts policy level_in_trace timestamp call past is (counts is_p none answer) = cc
+not-redacts policy level_in_trace timestamp call past is (is_clear clears is_p left answer) = cc
+not-redacts policy level_in_trace timestamp call past is (redacts clears is_p other answer) = other (subst (λ (p : Policy). IsClearOf p (Some call)) is_p is)
 
-gives-redact : (policy : Policy) (level moment : ℕ) (f : Option Call) (past : Past) → IsClearOf policy f → IsSomeAnd f (λ call. Answers policy level moment call past redact) → ⊥
-gives-redact policy level moment None past is gives = gives
-gives-redact policy level moment (Some call) past is gives = not-redacts policy level moment call past is gives
+gives-redact : (policy : Policy) (level_in_trace timestamp : ℕ) (f : Option Call) (past : Past) → IsClearOf policy f → IsSomeAnd f (λ call. IsEntryAnswer policy level_in_trace timestamp call past redact) → ⊥
+gives-redact policy level_in_trace timestamp None past is gives = gives
+gives-redact policy level_in_trace timestamp (Some call) past is gives = not-redacts policy level_in_trace timestamp call past is gives
 
-pub redacted-once : Laws → (u : Under) (past : Behind) (seq version : ℕ) (name : List ℕ) → IsPrefix u past
-    → IsCleared u past seq name version → Contains (cleared_in name seq past) version → ⊥
+pub redacted-once : Laws → (u : JudgeContext) (past : Trace) (seq version : ℕ) (name : List ℕ) → IsLegalPrefix u past
+    → IsRedactionDue u past seq name version → Contains (cleared_in name seq past) version → ⊥
 redacted-once laws u past seq version name prefix due has =
     let e = due.entry in
     let at = due.at in
     let by : IsClearBy u past seq e = clear-by laws u past seq prefix e (contains-in (chain past).entries at.front at.back e at.entries) in
     let was : Contains (cleared_in e.name seq past) e.version =
     subst (λ (n : List ℕ). Contains (cleared_in n seq past) e.version) (sym at.named) (subst (λ (v : ℕ). Contains (cleared_in name seq past) v) (sym due.present) has) in
-    gives-redact e.policy (level e.name past) (moment past) (form u.conn seq past) (noted e.name seq past) (by.clear was) due.gives
+    gives-redact e.policy (level_in_trace e.name past) (timestamp past) (form u.conn seq past) (noted e.name seq past) (by.clear was) due.gives

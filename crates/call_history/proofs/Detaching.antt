@@ -6,13 +6,13 @@ use Rattle.std.specs.Str.{bytes_eq}
 use Rattle.std.proofs.lemmas.Bool.{cases_lt, lt-ltb, le-ltb}
 use Rattle.std.proofs.lemmas.List.Elements.{All-nil, All-cons, All-head, All-tail, All-weaker}
 use Rattle.mrpc_table.specs.Valid.{AreDistinct}
-use Rattle.engine_core.specs.Chains.{Chain, Changes, Entry, names_of, detaches_none, no_such}
+use Rattle.engine_core.specs.Chains.{Chain, HasChanged, Entry, names_of, detaches_none, no_such}
 use Rattle.engine_core.specs.declared.op.Op.TheVariants.{Detach}
-use Rattle.call_history.specs.Behind.{chain}
+use Rattle.call_history.specs.Trace.{chain}
 use Rattle.engine_core.specs.Chains.{changed, is_named}
-use Rattle.call_history.specs.Events.{Course}
-use Rattle.engine_core.specs.Moves.{moved_up, place_of}
-use Rattle.call_history.specs.Rules.{Under, Lets}
+use Rattle.call_history.specs.Transitions.{ConnState}
+use Rattle.engine_core.specs.Moves.{moved_up, position_of}
+use Rattle.call_history.specs.Rules.{JudgeContext, IsAllowedInTrace}
 use Rattle.call_history.specs.declared.happening.Happening.TheVariants.{Op}
 use Rattle.call_history.proofs.Further.{contains-cases, contains-first, contains-later}
 use Rattle.call_history.proofs.Holding.{Holds}
@@ -36,11 +36,11 @@ others-same name (e ∷ es) none =
     ∙ ap (λ (xs : List Entry). e ∷ xs) (others-same name es (λ has. none (contains-later e.name (names_of es) name has)))
 
 -- an entry with the name is at its position
-none-there : (name : List ℕ) (es : List Entry) → length es ≤ place_of name es → Contains (names_of es) name → ⊥
+none-there : (name : List ℕ) (es : List Entry) → length es ≤ position_of name es → Contains (names_of es) name → ⊥
 none-there name [] past has = omega (arith, has.1)
 none-there name (e ∷ es) past has =
-    let given : (b : Bool) → is_named name e ≡ b → length es + 1 ≤ cond b 0 (place_of name es + 1)
-    → ⊥ = λ b. elim b as (λ b. is_named name e ≡ b → length es + 1 ≤ cond b 0 (place_of name es + 1) → ⊥) [
+    let given : (b : Bool) → is_named name e ≡ b → length es + 1 ≤ cond b 0 (position_of name es + 1)
+    → ⊥ = λ b. elim b as (λ b. is_named name e ≡ b → length es + 1 ≤ cond b 0 (position_of name es + 1) → ⊥) [
       | true ↦ λ test past. omega (arith, past)
       | false ↦ λ test past. elim (contains-cases e.name (names_of es) name has) [
         | inl same ↦ (let yes : bytes_eq e.name name ≡ true = equal-name e.name name same in let no : false ≡ true = sym test ∙ yes in cc)
@@ -49,18 +49,18 @@ none-there name (e ∷ es) past has =
     ] in
     given (is_named name e) refl (omega (arith, past))
 
-there : (before after : Chain) (name : List ℕ) → Changes before (Detach name) after → place_of name before.entries < length before.entries
-there before after name changes = elim (cases_lt (place_of name before.entries) (length before.entries)) [
+there : (before after : Chain) (name : List ℕ) → HasChanged before (Detach name) after → position_of name before.entries < length before.entries
+there before after name changes = elim (cases_lt (position_of name before.entries) (length before.entries)) [
   | inl less ↦ less
   | inr past ↦ absurd (changes.free (no_such name) (detaches_none name refl (none-there name before.entries past) refl))
 ]
 
-one-fewer : (name : List ℕ) (es : List Entry) → AreDistinct (names_of es) → place_of name es < length es → length (others_of name es) + 1 ≡ length es
+one-fewer : (name : List ℕ) (es : List Entry) → AreDistinct (names_of es) → position_of name es < length es → length (others_of name es) + 1 ≡ length es
 one-fewer name [] apart less = absurd (omega (arith, less))
 one-fewer name (e ∷ es) apart less =
-    let given : (b : Bool) → is_named name e ≡ b → cond b 0 (place_of name es + 1) < length es + 1
+    let given : (b : Bool) → is_named name e ≡ b → cond b 0 (position_of name es + 1) < length es + 1
     → length (cond (not b) (e ∷ others_of name es) (others_of name es)) + 1 ≡ length es + 1 =
-    λ b. elim b as (λ b. is_named name e ≡ b → cond b 0 (place_of name es + 1) < length es + 1
+    λ b. elim b as (λ b. is_named name e ≡ b → cond b 0 (position_of name es + 1) < length es + 1
     → length (cond (not b) (e ∷ others_of name es) (others_of name es)) + 1 ≡ length es + 1) [
       | true ↦ λ test less. ap (λ (xs : List Entry). length xs + 1)
           (others-same name es
@@ -71,15 +71,15 @@ one-fewer name (e ∷ es) apart less =
 
 -- what holds of the entries before a position holds of those before the new position
 front-all : (P : Entry → Type 0) (name : List ℕ) (es : List Entry) (p k : ℕ) → AreDistinct (names_of es)
-    → (p ≤ place_of name es → k ≡ p) → (place_of name es < p → k + 1 ≡ p)
+    → (p ≤ position_of name es → k ≡ p) → (position_of name es < p → k + 1 ≡ p)
     → All P (take p es) → All P (take k (others_of name es))
 front-all P name [] p k apart before behind all = all-none P k
 front-all P name (e ∷ es) zero k apart before behind all = subst (λ n. All P (take n (others_of name (e ∷ es)))) (sym (before (omega arith))) (All-nil P)
 front-all P name (e ∷ es) (suc p) k apart before behind all =
-    let given : (b : Bool) → is_named name e ≡ b → (suc p ≤ cond b 0 (place_of name es + 1) → k ≡ suc p) → (cond b 0 (place_of name es + 1) < suc p → k + 1 ≡ suc p)
+    let given : (b : Bool) → is_named name e ≡ b → (suc p ≤ cond b 0 (position_of name es + 1) → k ≡ suc p) → (cond b 0 (position_of name es + 1) < suc p → k + 1 ≡ suc p)
     → All P (take k (cond (not b) (e ∷ others_of name es) (others_of name es))) =
-    λ b. elim b as (λ b. is_named name e ≡ b → (suc p ≤ cond b 0 (place_of name es + 1) → k ≡ suc p)
-    → (cond b 0 (place_of name es + 1) < suc p → k + 1 ≡ suc p)
+    λ b. elim b as (λ b. is_named name e ≡ b → (suc p ≤ cond b 0 (position_of name es + 1) → k ≡ suc p)
+    → (cond b 0 (position_of name es + 1) < suc p → k + 1 ≡ suc p)
     → All P (take k (cond (not b) (e ∷ others_of name es) (others_of name es)))) [
       | true ↦ λ test before behind. here test (omega (arith, behind (omega arith)))
       | false ↦ λ test before behind. later k (λ m le lt. front-all P name es p m apart.1 le lt (All-tail P e (take p es) all)) before behind
@@ -91,8 +91,8 @@ front-all P name (e ∷ es) (suc p) k apart before behind all =
         let others : others_of name es ≡ es = others-same name es (λ has. apart.0 (subst (λ (n : List ℕ). Contains (names_of es) n) (sym (same-name e.name name test)) has)) in
         subst (λ n. All P (take n (others_of name es))) (sym same) (subst (λ (xs : List Entry). All P (take p xs)) (sym others) (All-tail P e (take p es) all))
 
-    later : (k : ℕ) → ((m : ℕ) → (p ≤ place_of name es → m ≡ p) → (place_of name es < p → m + 1 ≡ p) → All P (take m (others_of name es)))
-        → (suc p ≤ place_of name es + 1 → k ≡ suc p) → (place_of name es + 1 < suc p → k + 1 ≡ suc p) → All P (take k (e ∷ others_of name es))
+    later : (k : ℕ) → ((m : ℕ) → (p ≤ position_of name es → m ≡ p) → (position_of name es < p → m + 1 ≡ p) → All P (take m (others_of name es)))
+        → (suc p ≤ position_of name es + 1 → k ≡ suc p) → (position_of name es + 1 < suc p → k + 1 ≡ suc p) → All P (take k (e ∷ others_of name es))
     later zero rest before behind = All-nil P
     later (suc m) rest before behind = All-cons P e (take m (others_of name es)) (All-head P e (take p es) all)
         (rest m (λ le. (let same : suc m ≡ suc p = before (omega (arith, le)) in omega (arith, same)))
@@ -119,28 +119,28 @@ moved-within place p total left there fewer le = elim (cases_lt place p) [
   | inr before ↦ omega (arith, moved-before place p before, fewer, there, before)
 ]
 
-pub detached_holds : (u : Under) (c : Course) (name : List ℕ) → StaysChain → Holds u c
-    → Changes (chain c.past) (Detach name) (changed (Detach name) (chain c.past))
-    → Holds u (record c { past = Op (Detach name) ∷ c.past; row = moved_up (place_of name (chain c.past).entries) c.row })
+pub detached_holds : (u : JudgeContext) (c : ConnState) (name : List ℕ) → StaysChain → Holds u c
+    → HasChanged (chain c.past) (Detach name) (changed (Detach name) (chain c.past))
+    → Holds u (record c { past = Op (Detach name) ∷ c.past; row = moved_up (position_of name (chain c.past).entries) c.row })
 detached_holds u c name stays h changes =
     let apart : AreDistinct (names_of (chain c.past).entries) = (chained stays u c.past h.prefix).names in
-    let stood : place_of name (chain c.past).entries < length (chain c.past).entries = there (chain c.past) (changed (Detach name) (chain c.past)) name changes in
+    let stood : position_of name (chain c.past).entries < length (chain c.past).entries = there (chain c.past) (changed (Detach name) (chain c.past)) name changes in
     let fewer : length (others_of name (chain c.past).entries) + 1 ≡ length (chain c.past).entries = one-fewer name (chain c.past).entries apart stood in
-    moved-holds u c (Detach name) (moved (place_of name (chain c.past).entries)) h changes (record {
-      rises = moved-rises (place_of name (chain c.past).entries);
+    moved-holds u c (Detach name) (moved (position_of name (chain c.past).entries)) h changes (record {
+      rises = moved-rises (position_of name (chain c.past).entries);
       keeps = keeps apart stood fewer;
-      bound = moved-within (place_of name (chain c.past).entries) (length (chain c.past).entries)
+      bound = moved-within (position_of name (chain c.past).entries) (length (chain c.past).entries)
           (length (chain c.past).entries) (length (others_of name (chain c.past).entries)) stood fewer (omega arith);
       ascend = h.notes_ascend;
     })
   where
-    keeps : AreDistinct (names_of (chain c.past).entries) → place_of name (chain c.past).entries < length (chain c.past).entries
+    keeps : AreDistinct (names_of (chain c.past).entries) → position_of name (chain c.past).entries < length (chain c.past).entries
         → length (others_of name (chain c.past).entries) + 1 ≡ length (chain c.past).entries
-        → (seq position : ℕ) → StandsAt u c.past seq position → StandsAt u (Op (Detach name) ∷ c.past) seq (moved (place_of name (chain c.past).entries) position)
+        → (seq position : ℕ) → StandsAt u c.past seq position → StandsAt u (Op (Detach name) ∷ c.past) seq (moved (position_of name (chain c.past).entries) position)
     keeps apart stood fewer seq position stands = record {
-      within = moved-within (place_of name (chain c.past).entries) position (length (chain c.past).entries) (length (others_of name (chain c.past).entries)) stood fewer stands.within;
-      let_pass = All-weaker (Lets u c.past seq) (Lets u (Op (Detach name) ∷ c.past) seq) (λ e. lets-still u c.past (Op (Detach name) ∷ c.past) seq e refl refl)
-          (take (moved (place_of name (chain c.past).entries) position) (others_of name (chain c.past).entries))
-          (front-all (Lets u c.past seq) name (chain c.past).entries position (moved (place_of name (chain c.past).entries) position) apart
-          (moved-before (place_of name (chain c.past).entries) position) (moved-behind (place_of name (chain c.past).entries) position) stands.let_pass);
+      within = moved-within (position_of name (chain c.past).entries) position (length (chain c.past).entries) (length (others_of name (chain c.past).entries)) stood fewer stands.within;
+      allowed = All-weaker (IsAllowedInTrace u c.past seq) (IsAllowedInTrace u (Op (Detach name) ∷ c.past) seq) (λ e. lets-still u c.past (Op (Detach name) ∷ c.past) seq e refl refl)
+          (take (moved (position_of name (chain c.past).entries) position) (others_of name (chain c.past).entries))
+          (front-all (IsAllowedInTrace u c.past seq) name (chain c.past).entries position (moved (position_of name (chain c.past).entries) position) apart
+          (moved-before (position_of name (chain c.past).entries) position) (moved-behind (position_of name (chain c.past).entries) position) stands.allowed);
     }

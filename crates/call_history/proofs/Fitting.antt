@@ -7,20 +7,20 @@ use Rattle.std.specs.Str.{bytes_eq}
 use Rattle.std.proofs.lemmas.Bool.{and_parts, true_from_ne_false}
 use Rattle.std.proofs.lemmas.List.Elements.{Contains-append_cases, Contains-append_left, Contains-append_right}
 use Rattle.mrpc_table.specs.declared.call.Call.{Call}
-use Rattle.engine_core.specs.Answers.{Past, nothing, charged, drawn, counted, note, Answers, allows, denies}
+use Rattle.engine_core.specs.Answers.{Past, nothing, charged, drawn, counted, note, IsEntryAnswer, allows, denies}
 use Rattle.engine_core.specs.Answers.{was_charged, charges, holds, refuses, is_within, is_over, draws, was_counted}
 use Rattle.engine_core.specs.Answers.{counts, is_clear, redacts}
-use Rattle.engine_core.specs.Chains.{Chain, Changes, Entry, new_entry, upgraded, is_other, other_kind}
+use Rattle.engine_core.specs.Chains.{Chain, HasChanged, Entry, new_entry, upgraded, is_other, other_kind}
 use Rattle.engine_core.specs.Policies.{is_same_kind}
 use Rattle.engine_core.specs.declared.op.Op.TheVariants.{Attach, Detach, Upgrade}
 use Rattle.engine_core.specs.declared.outcome.Noted.{Noted}
 use Rattle.engine_core.specs.declared.outcome.Noted.TheVariants as notes
 use Rattle.engine_core.specs.declared.policy.Policy.{Policy}
 use Rattle.engine_core.specs.declared.policy.Policy.TheVariants.{Access, Rate, Quota, Count, Redact}
-use Rattle.call_history.specs.Behind.{Behind, chain, noted, form, level, moment}
+use Rattle.call_history.specs.Trace.{Trace, chain, noted, form, level_in_trace, timestamp}
 use Rattle.engine_core.specs.Chains.{changed, is_named}
-use Rattle.call_history.specs.Legal.{IsPrefix}
-use Rattle.call_history.specs.Rules.{Under, IsCalledFor}
+use Rattle.call_history.specs.Legal.{IsLegalPrefix}
+use Rattle.call_history.specs.Rules.{JudgeContext, IsNoteDue}
 use Rattle.call_history.specs.declared.happening.Happening.TheVariants.{Op, Charged, Drawn, Counted}
 use Rattle.call_history.proofs.Chained.{contains-in, same-entry}
 use Rattle.call_history.proofs.Further.{contains-cases, contains-first, contains-later}
@@ -75,57 +75,57 @@ past_by (notes.Charged left) = charged
 past_by (notes.Drawn window ticket) = drawn ticket
 past_by notes.Counted = counted
 
-note-fits : (policy : Policy) (level moment : ℕ) (form : Call) (past : Past) (n : Noted) → Answers policy level moment form past (note n) → Fits policy (past_by n)
-note-fits policy level moment form past n (allows p is allow answer) = absurd cc
-note-fits policy level moment form past n (denies p is allow answer) = absurd cc
-note-fits policy level moment form past n (was_charged r is some answer) = absurd cc
-note-fits policy level moment form past n (charges r is none enough answer) =
-    let same : n ≡ notes.Charged (level - r.per) = cc in subst (λ (m : Noted). Fits policy (past_by m)) (sym same) (subst (λ (p : Policy). Fits p charged) (sym is) tt)
-note-fits policy level moment form past n (holds r is none less mode answer) = absurd cc
-note-fits policy level moment form past n (refuses r is none less mode answer) = absurd cc
-note-fits policy level moment form past n (is_within tenant per cap ticket is some less answer) = absurd cc
-note-fits policy level moment form past n (is_over tenant per cap ticket is some more answer) = absurd cc
-note-fits policy level moment form past n (draws tenant per cap ticket is none answer) =
-    let same : n ≡ notes.Drawn (min (moment / per) 1023) ticket = cc in
+note-fits : (policy : Policy) (level_in_trace timestamp : ℕ) (form : Call) (past : Past) (n : Noted) → IsEntryAnswer policy level_in_trace timestamp form past (note n) → Fits policy (past_by n)
+note-fits policy level_in_trace timestamp form past n (allows p is allow answer) = absurd cc
+note-fits policy level_in_trace timestamp form past n (denies p is allow answer) = absurd cc
+note-fits policy level_in_trace timestamp form past n (was_charged r is some answer) = absurd cc
+note-fits policy level_in_trace timestamp form past n (charges r is none enough answer) =
+    let same : n ≡ notes.Charged (level_in_trace - r.per) = cc in subst (λ (m : Noted). Fits policy (past_by m)) (sym same) (subst (λ (p : Policy). Fits p charged) (sym is) tt)
+note-fits policy level_in_trace timestamp form past n (holds r is none less mode answer) = absurd cc
+note-fits policy level_in_trace timestamp form past n (refuses r is none less mode answer) = absurd cc
+note-fits policy level_in_trace timestamp form past n (is_within tenant per cap ticket is some less answer) = absurd cc
+note-fits policy level_in_trace timestamp form past n (is_over tenant per cap ticket is some more answer) = absurd cc
+note-fits policy level_in_trace timestamp form past n (draws tenant per cap ticket is none answer) =
+    let same : n ≡ notes.Drawn (min (timestamp / per) 1023) ticket = cc in
     subst (λ (m : Noted). Fits policy (past_by m)) (sym same)
     (subst (λ (p : Policy). Fits p (drawn ticket)) (sym is) tt)
-note-fits policy level moment form past n (was_counted is some answer) = absurd cc
-note-fits policy level moment form past n (counts is none answer) =
+note-fits policy level_in_trace timestamp form past n (was_counted is some answer) = absurd cc
+note-fits policy level_in_trace timestamp form past n (counts is none answer) =
     let same : n ≡ notes.Counted = cc in subst (λ (m : Noted). Fits policy (past_by m)) (sym same) (subst (λ (p : Policy). Fits p counted) (sym is) tt)
-note-fits policy level moment form past n (is_clear clears is left answer) = absurd cc
-note-fits policy level moment form past n (redacts clears is other answer) = absurd cc
+note-fits policy level_in_trace timestamp form past n (is_clear clears is left answer) = absurd cc
+note-fits policy level_in_trace timestamp form past n (redacts clears is other answer) = absurd cc
 
-gives-fits : (policy : Policy) (level moment : ℕ) (form : Option Call) (past : Past) (n : Noted)
-    → IsSomeAnd form (λ call. Answers policy level moment call past (note n)) → Fits policy (past_by n)
-gives-fits policy level moment None past n gives = absurd gives
-gives-fits policy level moment (Some call) past n gives = note-fits policy level moment call past n gives
+gives-fits : (policy : Policy) (level_in_trace timestamp : ℕ) (form : Option Call) (past : Past) (n : Noted)
+    → IsSomeAnd form (λ call. IsEntryAnswer policy level_in_trace timestamp call past (note n)) → Fits policy (past_by n)
+gives-fits policy level_in_trace timestamp None past n gives = absurd gives
+gives-fits policy level_in_trace timestamp (Some call) past n gives = note-fits policy level_in_trace timestamp call past n gives
 
 -- nothing was noted before
-pub none-noted : (policy : Policy) (level moment : ℕ) (form : Call) (past : Past) (n : Noted) → Fits policy past → Answers policy level moment form past (note n) → past ≡ nothing
-none-noted policy level moment form past n fits (allows p is allow answer) = absurd cc
-none-noted policy level moment form past n fits (denies p is allow answer) = absurd cc
-none-noted policy level moment form past n fits (was_charged r is some answer) = absurd cc
-none-noted policy level moment form past n fits (charges r is none enough answer) = none
-none-noted policy level moment form past n fits (holds r is none less mode answer) = absurd cc
-none-noted policy level moment form past n fits (refuses r is none less mode answer) = absurd cc
-none-noted policy level moment form past n fits (is_within tenant per cap ticket is some less answer) = absurd cc
-none-noted policy level moment form past n fits (is_over tenant per cap ticket is some more answer) = absurd cc
-none-noted policy level moment form past n fits (draws tenant per cap ticket is none answer) = undrawn past (subst (λ (p : Policy). Fits p past) is fits) none
+pub none-noted : (policy : Policy) (level_in_trace timestamp : ℕ) (form : Call) (past : Past) (n : Noted) → Fits policy past → IsEntryAnswer policy level_in_trace timestamp form past (note n) → past ≡ nothing
+none-noted policy level_in_trace timestamp form past n fits (allows p is allow answer) = absurd cc
+none-noted policy level_in_trace timestamp form past n fits (denies p is allow answer) = absurd cc
+none-noted policy level_in_trace timestamp form past n fits (was_charged r is some answer) = absurd cc
+none-noted policy level_in_trace timestamp form past n fits (charges r is none enough answer) = none
+none-noted policy level_in_trace timestamp form past n fits (holds r is none less mode answer) = absurd cc
+none-noted policy level_in_trace timestamp form past n fits (refuses r is none less mode answer) = absurd cc
+none-noted policy level_in_trace timestamp form past n fits (is_within tenant per cap ticket is some less answer) = absurd cc
+none-noted policy level_in_trace timestamp form past n fits (is_over tenant per cap ticket is some more answer) = absurd cc
+none-noted policy level_in_trace timestamp form past n fits (draws tenant per cap ticket is none answer) = undrawn past (subst (λ (p : Policy). Fits p past) is fits) none
   where
     undrawn : (past : Past) → Fits (Quota tenant per cap) past → ((t : ℕ) → past ≢ drawn t) → past ≡ nothing
     undrawn nothing fits none = refl
     undrawn charged fits none = absurd fits
     undrawn (drawn t) fits none = absurd (none t refl)
     undrawn counted fits none = absurd fits
-none-noted policy level moment form past n fits (was_counted is some answer) = absurd cc
-none-noted policy level moment form past n fits (counts is none answer) = none
-none-noted policy level moment form past n fits (is_clear clears is left answer) = absurd cc
-none-noted policy level moment form past n fits (redacts clears is other answer) = absurd cc
+none-noted policy level_in_trace timestamp form past n fits (was_counted is some answer) = absurd cc
+none-noted policy level_in_trace timestamp form past n fits (counts is none answer) = none
+none-noted policy level_in_trace timestamp form past n fits (is_clear clears is left answer) = absurd cc
+none-noted policy level_in_trace timestamp form past n fits (redacts clears is other answer) = absurd cc
 
 -- ---- in a chain
 
-noted-fits : (u : Under) (past : Behind) (call seq : ℕ) (other : List ℕ) (n : Noted) (e : Entry) → StaysChain
-    → IsPrefix u past → IsCalledFor u past call other n → Contains (chain past).entries e
+noted-fits : (u : JudgeContext) (past : Trace) (call seq : ℕ) (other : List ℕ) (n : Noted) (e : Entry) → StaysChain
+    → IsLegalPrefix u past → IsNoteDue u past call other n → Contains (chain past).entries e
     → Fits e.policy (noted e.name seq past) → Fits e.policy (cond ((call == seq) && bytes_eq other e.name) (past_by n) (noted e.name seq past))
 noted-fits u past call seq other n e stays prefix due there before =
     let given : (b : Bool) → ((call == seq) && bytes_eq other e.name) ≡ b
@@ -144,9 +144,9 @@ noted-fits u past call seq other n e stays prefix due there before =
         same-entry (chain past).entries due.meets.entry e (chained stays u past prefix).names
         (contains-in (chain past).entries at.front at.back due.meets.entry at.entries) there (at.named ∙ same) in
         subst (λ (x : Entry). Fits x.policy (past_by n)) is
-        (gives-fits due.meets.entry.policy (level due.meets.entry.name past) (moment past) (form u.conn call past) (noted due.meets.entry.name call past) n due.meets.gives)
+        (gives-fits due.meets.entry.policy (level_in_trace due.meets.entry.name past) (timestamp past) (form u.conn call past) (noted due.meets.entry.name call past) n due.meets.gives)
 
-Attach-fits : (u : Under) (past : Behind) (at seq : ℕ) (name : List ℕ) (policy : Policy) (e : Entry)
+Attach-fits : (u : JudgeContext) (past : Trace) (at seq : ℕ) (name : List ℕ) (policy : Policy) (e : Entry)
     → Contains (take at (chain past).entries ++ new_entry name ((chain past).attached + 1) policy
     ∷ drop at (chain past).entries) e
     → ((x : Entry) → Contains (chain past).entries x → Fits x.policy (noted x.name seq past))
@@ -201,7 +201,7 @@ from-map (x ∷ es) name policy e has = elim (contains-cases (cond (is_named nam
   | inr rest ↦ let found = from-map es name policy e rest in record { old = found.old; there = contains-later x es found.old found.there; is = found.is }
 ]
 
-Upgrade-fits : (u : Under) (past : Behind) (seq : ℕ) (name label : List ℕ) (policy : Policy) (e : Entry) → IsFrom (chain past).entries name policy e
+Upgrade-fits : (u : JudgeContext) (past : Trace) (seq : ℕ) (name label : List ℕ) (policy : Policy) (e : Entry) → IsFrom (chain past).entries name policy e
     → ((x : Entry) → Contains (chain past).entries x → x.name ≡ name → is_same_kind x.policy policy ≡ true)
     → ((x : Entry) → Contains (chain past).entries x → Fits x.policy (noted x.name seq past))
     → Fits e.policy (noted e.name seq past)
@@ -213,12 +213,12 @@ Upgrade-fits u past seq name label policy e from kind before =
     given false test = before from.old from.there
 
 kind-kept : (before after : Chain) (name label : List ℕ) (policy : Policy) (e : Entry)
-    → Changes before (Upgrade name label policy) after → Contains before.entries e → e.name ≡ name
+    → HasChanged before (Upgrade name label policy) after → Contains before.entries e → e.name ≡ name
     → is_same_kind e.policy policy ≡ true
 kind-kept before after name label policy e changes there named =
     true_from_ne_false (is_same_kind e.policy policy) (λ differs. changes.free (other_kind name) (is_other name label policy e refl there named differs refl))
 
-pub fitting : StaysChain → (u : Under) (past : Behind) (seq : ℕ) → IsPrefix u past → (e : Entry) → Contains (chain past).entries e → Fits e.policy (noted e.name seq past)
+pub fitting : StaysChain → (u : JudgeContext) (past : Trace) (seq : ℕ) → IsLegalPrefix u past → (e : Entry) → Contains (chain past).entries e → Fits e.policy (noted e.name seq past)
 fitting stays u [] seq prefix e there = tt
 fitting stays u (Op (Attach at name label policy) ∷ past) seq prefix e there = Attach-fits u past at seq name policy e there (fitting stays u past seq prefix.0)
 fitting stays u (Op (Detach name) ∷ past) seq prefix e there = fitting stays u past seq prefix.0 e (in-filter (λ x. not (is_named name x)) (chain past).entries e there)

@@ -4,13 +4,13 @@ use Rattle.frame_transport.specs.Bytes.{header_bytes}
 use Rattle.wire_base.specs.Encoding.{varint, groups}
 use Rattle.engine_core.specs.declared.op.Op.TheVariants.{Attach, Detach}
 use Rattle.engine_core.specs.declared.policy.Policy.TheVariants.{Access, Quota}
-use Rattle.call_history.specs.Behind.{Behind}
-use Rattle.call_history.specs.Frames.{frames, frames_behind}
+use Rattle.call_history.specs.Trace.{Trace}
+use Rattle.call_history.specs.Frames.{frames, frames_of_trace}
 use Rattle.call_history.specs.Legal.{History}
-use Rattle.call_history.specs.Tickets.{tickets_behind}
+use Rattle.call_history.specs.Tickets.{tickets_of_trace}
 use Rattle.call_history.specs.declared.happening.Cause.TheVariants as cause
 use Rattle.call_history.specs.declared.happening.Happening.TheVariants.{Took, Op, Drawn, Sent, Refused}
-use Rattle.call_history.specs.declared.happening.Taken.{Taken}
+use Rattle.call_history.specs.declared.happening.AcceptedCall.{AcceptedCall}
 use Rattle.call_history.specs.declared.happening.TookCopy.TheVariants.{Copy}
 use Rattle.call_history.proofs.Rows.{table, two_fields, with_number, request, seven, acl, q, no150, but_150, but_5, denied, failing, upgraded_before, cleared, drawn_over}
 
@@ -21,28 +21,28 @@ request_header conn number payload =
 
 -- ---- a call that the policy allows, and a later store
 
-abbrev allowed : Behind
+abbrev allowed : Trace
 allowed = reverse (Op (Attach 0 acl acl (Access but_150)) ∷ Took (seven 1) ∷ Sent 1 18 ∷ [])
 
-frame-allowed : frames_behind table 1 allowed
+frame-allowed : frames_of_trace table 1 allowed
     ≡ (0x00 ∷ 0x00 ∷ 0x00 ∷ 0x02 ∷ 0x01 ∷ 0x01 ∷ 0x00 ∷ 0x00 ∷ 0x00 ∷ 0x00 ∷ 0x00 ∷ 0x01 ∷ 0x00 ∷ 0x00 ∷ 0x00 ∷ 0x01 ∷ 0x08 ∷ 0x07 ∷ []) ∷ []
 unfolding header_bytes varint groups
 frame-allowed = refl
 
 -- a denied call is in no frame
-frame-denied : frames_behind table 1 denied ≡ []
+frame-denied : frames_of_trace table 1 denied ≡ []
 frame-denied = refl
 
 -- ---- the first call is refused by the later version, so only the second is sent
 
-frame-upgraded : frames_behind table 1 (Sent 2 18 ∷ Refused 1 (cause.Access acl 2 no150) ∷ upgraded_before)
+frame-upgraded : frames_of_trace table 1 (Sent 2 18 ∷ Refused 1 (cause.Access acl 2 no150) ∷ upgraded_before)
     ≡ (0x00 ∷ 0x00 ∷ 0x00 ∷ 0x02 ∷ 0x01 ∷ 0x01 ∷ 0x00 ∷ 0x00 ∷ 0x00 ∷ 0x00 ∷ 0x00 ∷ 0x01 ∷ 0x00 ∷ 0x00 ∷ 0x00 ∷ 0x02 ∷ 0x08 ∷ 0x07 ∷ []) ∷ []
 unfolding header_bytes varint groups
 frame-upgraded = refl
 
 -- ---- a frame has the call's fields at the time of the send
 
-frame-cleared : frames_behind two_fields 1 (Sent 1 18 ∷ cleared but_5)
+frame-cleared : frames_of_trace two_fields 1 (Sent 1 18 ∷ cleared but_5)
     ≡ (0x00 ∷ 0x00 ∷ 0x00 ∷ 0x02 ∷ 0x01 ∷ 0x01 ∷ 0x00 ∷ 0x00 ∷ 0x00 ∷ 0x00 ∷ 0x00 ∷ 0x01 ∷ 0x00 ∷ 0x00 ∷ 0x00 ∷ 0x01 ∷ 0x08 ∷ 0x07 ∷ []) ∷ []
 unfolding header_bytes varint groups
 frame-cleared = refl
@@ -50,10 +50,10 @@ frame-cleared = refl
 -- ---- the frame of a reply has the number of its request, and the frame of a message without fields has no
 -- payload
 
-abbrev reply : Taken
+abbrev reply : AcceptedCall
 reply = record { seq = 3; method = 0; number = 1; addr = 2; after = 1; count = 1; copy = Copy (with_number 150) }
 
-frame-reply : frames_behind table 2 (Sent 3 19 ∷ Took reply ∷ [])
+frame-reply : frames_of_trace table 2 (Sent 3 19 ∷ Took reply ∷ [])
     ≡ (0x00 ∷ 0x00 ∷ 0x00 ∷ 0x03 ∷ 0x02 ∷ 0x01 ∷ 0x00 ∷ 0x00 ∷ 0x00 ∷ 0x00 ∷ 0x00 ∷ 0x02 ∷ 0x00 ∷ 0x00 ∷ 0x00 ∷ 0x01 ∷ 0x08 ∷ 0x96 ∷ 0x01 ∷ []) ∷ []
 unfolding header_bytes varint groups
 frame-reply = refl
@@ -71,23 +71,23 @@ frames-of_both = refl
 
 -- ---- a link that fails with two calls pending: one frame
 
-frames-failing : frames_behind table 1 failing ≡ request_header 1 1 (0x08 ∷ 0x07 ∷ []) ∷ []
+frames-failing : frames_of_trace table 1 failing ≡ request_header 1 1 (0x08 ∷ 0x07 ∷ []) ∷ []
 unfolding header_bytes varint groups
 frames-failing = refl
 
 -- ---- tickets of one window and one tenant, by the policy that the name had then
 
-tickets-drawn : tickets_behind 0 0 (Refused 2 (cause.Quota q 1 1) ∷ drawn_over) ≡ 0 ∷ 1 ∷ []
+tickets-drawn : tickets_of_trace 0 0 (Refused 2 (cause.Quota q 1 1) ∷ drawn_over) ≡ 0 ∷ 1 ∷ []
 tickets-drawn = refl
 
-tickets-other_window : tickets_behind 0 1 drawn_over ≡ []
+tickets-other_window : tickets_of_trace 0 1 drawn_over ≡ []
 tickets-other_window = refl
 
-tickets-other_tenant : tickets_behind 1 0 drawn_over ≡ []
+tickets-other_tenant : tickets_of_trace 1 0 drawn_over ≡ []
 tickets-other_tenant = refl
 
-tickets-of_both : tickets_behind 1 5 (Drawn 3 q 5 7 ∷ Op (Attach 0 q q (Quota 1 1000 9)) ∷ Op (Detach q) ∷ drawn_over) ≡ 7 ∷ []
+tickets-of_both : tickets_of_trace 1 5 (Drawn 3 q 5 7 ∷ Op (Attach 0 q q (Quota 1 1000 9)) ∷ Op (Detach q) ∷ drawn_over) ≡ 7 ∷ []
 tickets-of_both = refl
 
-tickets-before : tickets_behind 0 0 (Drawn 3 q 0 7 ∷ Op (Attach 0 q q (Quota 1 1000 9)) ∷ Op (Detach q) ∷ drawn_over) ≡ 0 ∷ 1 ∷ []
+tickets-before : tickets_of_trace 0 0 (Drawn 3 q 0 7 ∷ Op (Attach 0 q q (Quota 1 1000 9)) ∷ Op (Detach q) ∷ drawn_over) ≡ 0 ∷ 1 ∷ []
 tickets-before = refl

@@ -4,30 +4,30 @@ use Rattle.std.specs.Prelude.{All, Contains, filter, slice_get, Some}
 use Rattle.std.proofs.lemmas.Bool.{false_from_ne_true}
 use Rattle.std.proofs.lemmas.List.Elements.{All-weaker}
 use Rattle.engine_core.specs.Chains.{Entry}
-use Rattle.call_history.specs.Behind.{Behind, chain, taken, standing, has_failed}
-use Rattle.call_history.specs.Events.{Course, NotesAscend, IsCourse}
+use Rattle.call_history.specs.Trace.{Trace, chain, taken, pending_calls, has_failed}
+use Rattle.call_history.specs.Transitions.{ConnState, AreNotesAscending, IsValidState}
 use Rattle.engine_core.specs.Moves.{Row, first_at}
-use Rattle.call_history.specs.Legal.{IsPrefix, IsSettledUp, AwaitsLink}
+use Rattle.call_history.specs.Legal.{IsLegalPrefix, HasNoObligation, HasLinkObligation}
 use Rattle.std.specs.List.{AllZip}
-use Rattle.call_history.specs.Places.{MayStandAt}
-use Rattle.call_history.specs.Rules.{Under, Lets}
-use Rattle.call_history.specs.declared.happening.Taken.{Taken}
+use Rattle.call_history.specs.Positions.{IsLegalPosition}
+use Rattle.call_history.specs.Rules.{JudgeContext, IsAllowedInTrace}
+use Rattle.call_history.specs.declared.happening.AcceptedCall.{AcceptedCall}
 use Rattle.call_history.proofs.Further.{contains-cases, contains-first, contains-later}
 use Rattle.call_history.proofs.Coursed.{row-from, places-to}
 use Rattle.call_history.proofs.Going.{IsOpen}
 use Rattle.call_history.proofs.Prefixes.{rising}
 use Rattle.call_history.proofs.Rowed.{StandsAt, IsRow}
 
-pub record Holds (u : Under) (c : Course) : Type 0 where
-  pub prefix : IsPrefix u c.past
-  pub settled : IsSettledUp c.past
+pub record Holds (u : JudgeContext) (c : ConnState) : Type 0 where
+  pub prefix : IsLegalPrefix u c.past
+  pub settled : HasNoObligation c.past
   pub row : IsRow u c.past 0 (length (taken c.past)) (length (chain c.past).entries) c.row
-  pub calls : map (λ call. call.0) c.row ≡ map (λ call. call.seq) (standing c.past)
-  pub notes_ascend : NotesAscend c.past
+  pub calls : map (λ call. call.0) c.row ≡ map (λ call. call.seq) (pending_calls c.past)
+  pub notes_ascend : AreNotesAscending c.past
   pub failed : has_failed c.past ≡ true → c.ended ≡ true
   pub none_left : c.ended ≡ true → c.row ≡ []
 
-pub to_course : (u : Under) (c : Course) → Holds u c → IsCourse u c
+pub to_course : (u : JudgeContext) (c : ConnState) → Holds u c → IsValidState u c
 to_course u c h = record {
   legal = record { prefix = h.prefix; closed = h.settled };
   calls = h.calls;
@@ -37,12 +37,12 @@ to_course u c h = record {
   none_left = h.none_left;
 }
 
-pub from_course : (u : Under) (c : Course) → IsCourse u c → Holds u c
+pub from_course : (u : JudgeContext) (c : ConnState) → IsValidState u c → Holds u c
 from_course u c h = record {
   prefix = h.legal.prefix;
   settled = h.legal.closed;
-  row = row-from u c.past 0 (length (taken c.past)) (length (chain c.past).entries) c.row (standing c.past) h.calls h.places.each h.places.never_rise
-      (first-within (standing c.past) (map (λ call. call.1) c.row) h.places.each)
+  row = row-from u c.past 0 (length (taken c.past)) (length (chain c.past).entries) c.row (pending_calls c.past) h.calls h.places.each h.places.never_rise
+      (first-within (pending_calls c.past) (map (λ call. call.1) c.row) h.places.each)
       (rising u c.past h.legal.prefix);
   calls = h.calls;
   notes_ascend = h.notes_ascend;
@@ -50,7 +50,7 @@ from_course u c h = record {
   none_left = h.none_left;
 }
   where
-    first-within : (calls : List Taken) (positions : List ℕ) → AllZip (MayStandAt u c.past) calls positions → (p : ℕ)
+    first-within : (calls : List AcceptedCall) (positions : List ℕ) → AllZip (IsLegalPosition u c.past) calls positions → (p : ℕ)
         → slice_get positions 0 ≡ Some p → p ≤ length (chain c.past).entries
     first-within [] [] each p at = absurd cc
     first-within [] (q ∷ positions) each p at = absurd each
@@ -59,14 +59,14 @@ from_course u c h = record {
 
 -- ---- the link works
 
-pub works-running : (u : Under) (c : Course) → Holds u c → c.ended ≡ false → IsOpen c.past
+pub works-running : (u : JudgeContext) (c : ConnState) → Holds u c → c.ended ≡ false → IsOpen c.past
 works-running u c h running = record {
   settled = h.settled;
   works = false_from_ne_true (has_failed c.past) (λ failed. (let wrong : false ≡ true = sym running ∙ h.failed failed in absurd cc));
 }
 
 -- some call is pending, so the link works
-pub works-there : (u : Under) (c : Course) (position : ℕ) (call : ℕ × ℕ) → Holds u c → first_at position c.row ≡ Some call → IsOpen c.past
+pub works-there : (u : JudgeContext) (c : ConnState) (position : ℕ) (call : ℕ × ℕ) → Holds u c → first_at position c.row ≡ Some call → IsOpen c.past
 works-there u c position call h first = record {
   settled = h.settled;
   works = false_from_ne_true (has_failed c.past) (λ failed. none c.row (h.none_left (h.failed failed)) first);
@@ -78,17 +78,17 @@ works-there u c position call h first = record {
 
 -- ---- positions that are still legal
 
-pub stands-still : (u : Under) (past new : Behind) (seq position : ℕ) → (chain new).entries ≡ (chain past).entries → ((e : Entry) → Lets u past seq e → Lets u new seq e)
+pub stands-still : (u : JudgeContext) (past new : Trace) (seq position : ℕ) → (chain new).entries ≡ (chain past).entries → ((e : Entry) → IsAllowedInTrace u past seq e → IsAllowedInTrace u new seq e)
     → StandsAt u past seq position → StandsAt u new seq position
 stands-still u past new seq position same lets h = record {
   within = subst (λ (es : List Entry). position ≤ length es) (sym same) h.within;
-  let_pass = subst (λ (es : List Entry). All (Lets u new seq) (take position es)) (sym same)
-      (All-weaker (Lets u past seq) (Lets u new seq) lets (take position (chain past).entries) h.let_pass);
+  allowed = subst (λ (es : List Entry). All (IsAllowedInTrace u new seq) (take position es)) (sym same)
+      (All-weaker (IsAllowedInTrace u past seq) (IsAllowedInTrace u new seq) lets (take position (chain past).entries) h.allowed);
 }
 
 -- ---- which refusals are owed after an event that owes none by itself
 
-pub works-on : (past : Behind) → has_failed past ≡ false → AwaitsLink past → ⊥
+pub works-on : (past : Trace) → has_failed past ≡ false → HasLinkObligation past → ⊥
 works-on past works awaits = let wrong : false ≡ true = sym works ∙ awaits.failed in cc
 
 pub contains-kept : {X : Type 0} (p : X → Bool) (xs : List X) (y : X) → Contains (filter p xs) y → Contains xs y

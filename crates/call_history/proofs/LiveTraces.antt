@@ -3,7 +3,7 @@
 use Rattle.std.proofs.Common.{◌≡◌, ℕ, true, false, inl, inr, List, [], ◌∷◌, codes, refl, ap, sym, ◌∙◌, arith}
 use Rattle.std.specs.Prelude.{Contains}
 use Rattle.engine_core.specs.Answers as answers
-use Rattle.engine_core.specs.Chains.{Entry, new_entry, Refusal, IsAgainst, detaches_none, upgrades_none, is_taken, is_past, is_full, is_other}
+use Rattle.engine_core.specs.Chains.{Entry, new_entry, Refusal, IsReasonToReject, detaches_none, upgrades_none, is_taken, is_past, is_full, is_other}
 use Rattle.engine_core.specs.Chains as chains
 use Rattle.engine_core.specs.Turns as turns
 use Rattle.engine_core.specs.declared.op.Op.TheVariants.{Attach, Upgrade}
@@ -11,11 +11,11 @@ use Rattle.engine_core.specs.declared.outcome.Noted.TheVariants as notes
 use Rattle.engine_core.specs.declared.outcome.Outcome.TheVariants as outcomes
 use Rattle.engine_core.specs.declared.outcome.Why.TheVariants.{Denied}
 use Rattle.engine_core.specs.declared.policy.Policy.TheVariants.{Access}
-use Rattle.call_history.specs.Events.{Course, Event, accepts, operates, turns as has_turn_of, sends, takes, changes, has_turn, is_sent, Lead, beginning}
-use Rattle.call_history.specs.Legal.{IsLegalBehind}
+use Rattle.call_history.specs.Transitions.{ConnState, Transition, accepts, operates, turns as has_turn_of, sends, takes, changes, has_turn, is_sent, AreTransitions, initial_state}
+use Rattle.call_history.specs.Legal.{IsLegalTrace}
 use Rattle.call_history.specs.declared.happening.Cause.TheVariants as cause
 use Rattle.call_history.specs.declared.happening.Happening.TheVariants.{Sent, Refused}
-use Rattle.call_history.specs.declared.happening.Taken.{Taken}
+use Rattle.call_history.specs.declared.happening.AcceptedCall.{AcceptedCall}
 use Rattle.call_history.proofs.Further.{contains-cases}
 use Rattle.call_history.proofs.Keeping.{course-begins, events-keep}
 use Rattle.call_history.proofs.Prefixes.{StaysChain}
@@ -28,7 +28,7 @@ use Rattle.call_history.proofs.Traces.{under, form_of, normal_number, none-in, a
 
 -- ---- an upgrade after two calls passed the old version
 
-abbrev with_7 : Taken
+abbrev with_7 : AcceptedCall
 with_7 = request 2 2 1 (with_number 7)
 
 abbrev first_entry : Entry
@@ -49,7 +49,7 @@ p1 = codes "p1"
 abbrev p2 : List ℕ
 p2 = codes "p2"
 
-abbrev upgrade_events : List Event
+abbrev upgrade_events : List Transition
 upgrade_events =
     operates (Attach 0 acl p1 opening) ∷ operates (Attach 1 rl rl (holding 2)) ∷ accepts call_150 ∷ accepts with_7
     ∷ has_turn_of 0 1 (outcomes.Passed notes.Nothing) ∷ has_turn_of 0 2 (outcomes.Passed notes.Nothing)
@@ -58,13 +58,13 @@ upgrade_events =
     ∷ has_turn_of 0 1 (outcomes.Refused notes.Nothing (Denied 0)) ∷ has_turn_of 0 2 (outcomes.Passed notes.Nothing)
     ∷ has_turn_of 1 2 (outcomes.Passed notes.Nothing) ∷ sends 2 18 ∷ []
 
-abbrev upgrade_end : Course
+abbrev upgrade_end : ConnState
 upgrade_end = record { past = Sent 2 18 ∷ Refused 1 (cause.Access acl 2 no150) ∷ upgraded_before; row = []; ended = false }
 
 apart-rl : Contains (acl ∷ []) rl → ⊥
 apart-rl has = elim (contains-cases acl [] rl has) [ inl same ↦ (let first : ◌≡◌ {A = ℕ} 97 114 = cc in omega (arith, first)) | inr rest ↦ none-in rl rest ]
 
-free-upgrade : (refusal : Refusal) → IsAgainst (first_entry ∷ rate_entry ∷ []) (Upgrade acl p2 (Access but_150)) refusal → ⊥
+free-upgrade : (refusal : Refusal) → IsReasonToReject (first_entry ∷ rate_entry ∷ []) (Upgrade acl p2 (Access but_150)) refusal → ⊥
 free-upgrade refusal (detaches_none n is not r) = cc
 free-upgrade refusal (upgrades_none n l p is not r) = let names : acl ≡ n = cc in not (0, omega arith, names)
 free-upgrade refusal (is_taken a n l p is some r) = cc
@@ -90,7 +90,7 @@ free-upgrade refusal (is_other n l p e is there named differs r) = elim (contain
 abbrev all : AccessPolicy
 all = record { rules = []; allow = true }
 
-lead-upgraded : Lead under beginning upgrade_events upgrade_end
+lead-upgraded : AreTransitions under initial_state upgrade_events upgrade_end
 lead-upgraded = (
   _,
   changes (Attach 0 acl p1 opening) refl (attached [] 0 0 [] [] acl p1 opening (none-in acl) (omega arith) refl refl refl (omega arith)) refl,
@@ -130,7 +130,7 @@ lead-upgraded = (
                 first = refl;
                 call = form_of 1 150;
                 is_form = refl;
-                comes = turns.is_noted (notes.Charged 1000) (answers.charges rate refl refl (omega arith) refl) (answers.was_charged rate refl (λ none. cc) refl) refl;
+                comes = turns.is_noted_and_passes (notes.Charged 1000) (answers.charges rate refl refl (omega arith) refl) (answers.was_charged rate refl (λ none. cc) refl) refl;
               }) refl,
               (
                 _,
@@ -139,13 +139,13 @@ lead-upgraded = (
                   first = refl;
                   call = form_of 2 7;
                   is_form = refl;
-                  comes = turns.is_noted (notes.Charged 0) (answers.charges rate refl refl (omega arith) refl) (answers.was_charged rate refl (λ none. cc) refl) refl;
+                  comes = turns.is_noted_and_passes (notes.Charged 0) (answers.charges rate refl refl (omega arith) refl) (answers.was_charged rate refl (λ none. cc) refl) refl;
                 }) refl,
                 (
                   _,
                   changes (Upgrade acl p2 (Access but_150)) refl (record {
                     free = free-upgrade;
-                    makes = chains.upgrades acl p2 (Access but_150) first_entry [] (rate_entry ∷ []) refl refl refl
+                    effect = chains.upgrades acl p2 (Access but_150) first_entry [] (rate_entry ∷ []) refl refl refl
                         refl;
                   }) refl,
                   (
@@ -192,5 +192,5 @@ lead-upgraded = (
   ),
 )
 
-legal-upgraded : StaysChain → IsLegalBehind under upgrade_end.past
-legal-upgraded stays = (events-keep stays under beginning upgrade_end upgrade_events (course-begins under) lead-upgraded).legal
+legal-upgraded : StaysChain → IsLegalTrace under upgrade_end.past
+legal-upgraded stays = (events-keep stays under initial_state upgrade_end upgrade_events (course-begins under) lead-upgraded).legal

@@ -2,20 +2,20 @@
 use Rattle.std.proofs.Common.{◌≡◌, ℕ, ◌+◌, ◌<◌, ◌≤◌, ◌^◌, [], ◌∷◌, ◌++◌, length, refl, ap, arith, length-append}
 use Rattle.mrpc_table.specs.declared.table.Kind.TheVariants.{Uint64}
 use Rattle.graph_form.specs.Malformed.{is_copied as comes_copied, is_malformed as comes_malformed, no_root}
-use Rattle.graph_form.specs.Placed.{Placed, nothing, first, word, IsFine, IsSound}
+use Rattle.graph_form.specs.Placed.{Placed, nothing, first, word, IsValidWord, IsSound}
 use Rattle.graph_form.specs.Roles.{value}
 use Rattle.graph_form.specs.declared.reason.Reason.TheVariants.{Address, Presence, Case, Length, Utf8, Narrow, Depth, Loads as TooMany, NoMethod}
-use Rattle.call_history.specs.Behind.{Behind}
+use Rattle.call_history.specs.Trace.{Trace}
 use Rattle.call_history.specs.Loads.{no_method, is_copied, is_malformed, AreSpelled}
 use Rattle.call_history.specs.declared.happening.Cause.TheVariants as cause
 use Rattle.call_history.specs.declared.happening.Happening.TheVariants.{Took, Sent, Refused}
-use Rattle.call_history.specs.declared.happening.Taken.{Taken}
+use Rattle.call_history.specs.declared.happening.AcceptedCall.{AcceptedCall}
 use Rattle.call_history.specs.declared.happening.TookCopy.TheVariants.{Copy, Malformed}
 use Rattle.call_history.proofs.Rows.{table, with_number, denied}
 
 -- ---- numbers in a heap of 16 words
 
-fine : (v : ℕ) → v < 2 ^ 64 → IsFine table 16 (value Uint64) v
+fine : (v : ℕ) → v < 2 ^ 64 → IsValidWord table 16 (value Uint64) v
 fine v small Address offends = offends
 fine v small Presence offends = offends
 fine v small Case offends = offends
@@ -36,16 +36,16 @@ sound at v low high small = record { root = record { from_one = low; to_end = hi
 -- ---- three calls: one with a number at place 14, one past the heap's end, and one of a method that the table
 -- lacks
 
-abbrev five : Taken
+abbrev five : AcceptedCall
 five = record { seq = 1; method = 0; number = 0; addr = 14; after = 1; count = 1; copy = Copy (with_number 5) }
 
-abbrev outside : Taken
+abbrev outside : AcceptedCall
 outside = record { seq = 2; method = 0; number = 0; addr = 15; after = 1; count = 0; copy = Malformed Address 0 15 }
 
-abbrev unknown : Taken
+abbrev unknown : AcceptedCall
 unknown = record { seq = 3; method = 9; number = 0; addr = 2; after = 1; count = 0; copy = Malformed NoMethod 0 9 }
 
-abbrev three_calls : Behind
+abbrev three_calls : Trace
 three_calls = Sent 1 18 ∷ Refused 3 cause.Malformed ∷ Took unknown ∷ Refused 2 cause.Malformed ∷ Took outside ∷ Took five ∷ []
 
 spelled-three : AreSpelled table 16 1024 three_calls ((14, 5) ∷ [])

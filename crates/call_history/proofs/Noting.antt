@@ -8,7 +8,7 @@ use Rattle.std.proofs.lemmas.Bool.{cases_order, and_right}
 use Rattle.std.proofs.lemmas.List.Elements.{All-cons, All-contains, All-push}
 use Rattle.mrpc_table.specs.Valid.{AreDistinct}
 use Rattle.mrpc_table.specs.declared.call.Call.{Call}
-use Rattle.engine_core.specs.Answers.{Past, nothing, Answer, pass, note, Answers, allows, denies, was_charged}
+use Rattle.engine_core.specs.Answers.{Past, nothing, Answer, pass, note, IsEntryAnswer, allows, denies, was_charged}
 use Rattle.engine_core.specs.Answers.{charges, holds, refuses, is_within, is_over, draws, was_counted, counts}
 use Rattle.engine_core.specs.Answers.{is_clear, redacts}
 use Rattle.engine_core.specs.Chains.{Entry, names_of}
@@ -16,12 +16,12 @@ use Rattle.engine_core.specs.declared.outcome.Noted.{Noted}
 use Rattle.engine_core.specs.declared.outcome.Noted.TheVariants as notes
 use Rattle.engine_core.specs.declared.policy.Policy.{Policy}
 use Rattle.engine_core.specs.declared.policy.Policy.TheVariants.{Rate, Quota, Count}
-use Rattle.call_history.specs.Behind.{Behind, chain, taken, standing, has_failed, form, level, moment, noted, noted_calls}
-use Rattle.call_history.specs.Events.{Course, NotesAscend}
-use Rattle.engine_core.specs.Moves.{first_at, goes_on}
-use Rattle.call_history.specs.Rules.{Under, Lets, Gives, IsAt}
+use Rattle.call_history.specs.Trace.{Trace, chain, taken, pending_calls, has_failed, form, level_in_trace, timestamp, noted, noted_calls}
+use Rattle.call_history.specs.Transitions.{ConnState, AreNotesAscending}
+use Rattle.engine_core.specs.Moves.{first_at, advanced}
+use Rattle.call_history.specs.Rules.{JudgeContext, IsAllowedInTrace, IsAnswerInTrace, IsAt}
 use Rattle.call_history.specs.declared.happening.Happening.TheVariants.{Charged, Drawn, Counted}
-use Rattle.call_history.specs.declared.happening.Taken.{Taken}
+use Rattle.call_history.specs.declared.happening.AcceptedCall.{AcceptedCall}
 use Rattle.call_history.proofs.Chained.{IsCut, cut, contains-in, front-apart, all-step}
 use Rattle.call_history.proofs.Fitting.{past_by}
 use Rattle.call_history.proofs.Further.{IsFound, found, IsFurther, earlier-further, KeepsOthers, goes-further, contains-first, contains-later}
@@ -34,22 +34,22 @@ use Rattle.call_history.proofs.Rowed.{StandsAt, IsRow}
 -- ---- a turn
 
 -- the first call at a position, and the entry there
-pub record IsTurn (u : Under) (c : Course) (position seq : ℕ) (e : Entry) : Type 0 where
+pub record IsTurn (u : JudgeContext) (c : ConnState) (position seq : ℕ) (e : Entry) : Type 0 where
   pub cut : IsCut (chain c.past).entries position e
   pub found : IsFound u c.past 0 (length (taken c.past)) (length (chain c.past).entries) position c.row (seq, position)
   pub free : IsOpen c.past
   pub at : IsAt u c.past seq e.name e
-  pub lets : All (Lets u c.past seq) cut.front
+  pub lets : All (IsAllowedInTrace u c.past seq) cut.front
   pub there : Contains (chain c.past).entries e
   pub distinct : AreDistinct (names_of (chain c.past).entries)
 
-pub turn_of : (u : Under) (c : Course) (position seq : ℕ) (e : Entry) → StaysChain → Holds u c → slice_get (chain c.past).entries position ≡ Some e
+pub turn_of : (u : JudgeContext) (c : ConnState) (position seq : ℕ) (e : Entry) → StaysChain → Holds u c → slice_get (chain c.past).entries position ≡ Some e
     → first_at position c.row ≡ Some (seq, position) → IsTurn u c position seq e
 turn_of u c position seq e stays h entry first =
     let place : IsCut (chain c.past).entries position e = cut (chain c.past).entries position e entry in
     let call : IsFound u c.past 0 (length (taken c.past)) (length (chain c.past).entries) position c.row (seq, position) =
     found u c.past 0 (length (taken c.past)) (length (chain c.past).entries) position c.row (seq, position) first h.row in
-    let before : All (Lets u c.past seq) place.front = subst (λ (es : List Entry). All (Lets u c.past seq) es) place.before call.placed.stands.let_pass in
+    let before : All (IsAllowedInTrace u c.past seq) place.front = subst (λ (es : List Entry). All (IsAllowedInTrace u c.past seq) es) place.before call.placed.stands.allowed in
     record {
       cut = place;
       found = call;
@@ -60,35 +60,35 @@ turn_of u c position seq e stays h entry first =
         back = place.back;
         entries = place.entries;
         named = refl;
-        call_stands = subst (λ (ns : List ℕ). Contains ns seq) h.calls call.there;
-        let_pass = before;
+        is_pending = subst (λ (ns : List ℕ). Contains ns seq) h.calls call.there;
+        allowed = before;
       };
       there = contains-in (chain c.past).entries place.front place.back e place.entries;
       distinct = (chained stays u c.past h.prefix).names;
     }
 
 -- entries before the one of a turn have other names
-pub before-apart : (u : Under) (c : Course) (position seq : ℕ) (e x : Entry) (turn : IsTurn u c position seq e) → Contains turn.cut.front x → x.name ≢ e.name
+pub before-apart : (u : JudgeContext) (c : ConnState) (position seq : ℕ) (e x : Entry) (turn : IsTurn u c position seq e) → Contains turn.cut.front x → x.name ≢ e.name
 before-apart u c position seq e x turn has = front-apart turn.cut.front turn.cut.back e x (subst (λ (es : List Entry). AreDistinct (names_of es)) turn.cut.entries turn.distinct) has
 
-pub gives-by : (u : Under) (past : Behind) (seq : ℕ) (e : Entry) (call : Call) (answer : Answer) → form u.conn seq past ≡ Some call
-    → Answers e.policy (level e.name past) (moment past) call (noted e.name seq past) answer → Gives u past e seq answer
+pub gives-by : (u : JudgeContext) (past : Trace) (seq : ℕ) (e : Entry) (call : Call) (answer : Answer) → form u.conn seq past ≡ Some call
+    → IsEntryAnswer e.policy (level_in_trace e.name past) (timestamp past) call (noted e.name seq past) answer → IsAnswerInTrace u past e seq answer
 gives-by u past seq e call answer is answers =
-    subst (λ (f : Option Call). IsSomeAnd f (λ other. Answers e.policy (level e.name past) (moment past) other (noted e.name seq past) answer)) (sym is) answers
+    subst (λ (f : Option Call). IsSomeAnd f (λ other. IsEntryAnswer e.policy (level_in_trace e.name past) (timestamp past) other (noted e.name seq past) answer)) (sym is) answers
 
 -- ---- a note
 
 -- the trace after a note of a call by the entry with a name
-pub record IsNote (past new : Behind) (seq : ℕ) (name : List ℕ) (n : Noted) : Type 0 where
+pub record IsNote (past new : Trace) (seq : ℕ) (name : List ℕ) (n : Noted) : Type 0 where
   pub entries : (chain new).entries ≡ (chain past).entries
   pub forms : (conn s : ℕ) → form conn s new ≡ form conn s past
-  pub standing_same : standing new ≡ standing past
+  pub standing_same : pending_calls new ≡ pending_calls past
   pub taken_same : taken new ≡ taken past
   pub failed_same : has_failed new ≡ has_failed past
   pub noted_is : (other : List ℕ) (s : ℕ) → noted other s new ≡ cond ((seq == s) && bytes_eq name other) (past_by n) (noted other s past)
   pub calls_is : (other : List ℕ) → noted_calls other new ≡ cond (bytes_eq name other) (seq ∷ noted_calls other past) (noted_calls other past)
 
-pub charge-note : (past : Behind) (seq : ℕ) (name : List ℕ) (left : ℕ) → IsNote past (Charged seq name left ∷ past) seq name (notes.Charged left)
+pub charge-note : (past : Trace) (seq : ℕ) (name : List ℕ) (left : ℕ) → IsNote past (Charged seq name left ∷ past) seq name (notes.Charged left)
 charge-note past seq name left = record {
   entries = refl;
   forms = λ conn s. refl;
@@ -99,7 +99,7 @@ charge-note past seq name left = record {
   calls_is = λ other. refl;
 }
 
-pub draw-note : (past : Behind) (seq : ℕ) (name : List ℕ) (window ticket : ℕ) → IsNote past (Drawn seq name window ticket ∷ past) seq name (notes.Drawn window ticket)
+pub draw-note : (past : Trace) (seq : ℕ) (name : List ℕ) (window ticket : ℕ) → IsNote past (Drawn seq name window ticket ∷ past) seq name (notes.Drawn window ticket)
 draw-note past seq name window ticket = record {
   entries = refl;
   forms = λ conn s. refl;
@@ -110,7 +110,7 @@ draw-note past seq name window ticket = record {
   calls_is = λ other. refl;
 }
 
-pub count-note : (past : Behind) (seq : ℕ) (name : List ℕ) → IsNote past (Counted seq name ∷ past) seq name notes.Counted
+pub count-note : (past : Trace) (seq : ℕ) (name : List ℕ) → IsNote past (Counted seq name ∷ past) seq name notes.Counted
 count-note past seq name = record {
   entries = refl;
   forms = λ conn s. refl;
@@ -122,30 +122,30 @@ count-note past seq name = record {
 }
 
 -- the notes of the call itself, of another call, and by another name
-pub noted-here : (past new : Behind) (seq : ℕ) (name : List ℕ) (n : Noted) → IsNote past new seq name n → noted name seq new ≡ past_by n
+pub noted-here : (past new : Trace) (seq : ℕ) (name : List ℕ) (n : Noted) → IsNote past new seq name n → noted name seq new ≡ past_by n
 noted-here past new seq name n is = is.noted_is name seq ∙ ap (λ b. cond b (past_by n) (noted name seq past)) (is-for seq seq name name refl refl)
 
-pub noted-call : (past new : Behind) (seq s : ℕ) (name other : List ℕ) (n : Noted) → IsNote past new seq name n → seq ≢ s → noted other s new ≡ noted other s past
+pub noted-call : (past new : Trace) (seq s : ℕ) (name other : List ℕ) (n : Noted) → IsNote past new seq name n → seq ≢ s → noted other s new ≡ noted other s past
 noted-call past new seq s name other n is apart = is.noted_is other s ∙ ap (λ b. cond b (past_by n) (noted other s past)) (isnt-call seq s name other apart)
 
-pub noted-name : (past new : Behind) (seq s : ℕ) (name other : List ℕ) (n : Noted) → IsNote past new seq name n → name ≢ other → noted other s new ≡ noted other s past
+pub noted-name : (past new : Trace) (seq s : ℕ) (name other : List ℕ) (n : Noted) → IsNote past new seq name n → name ≢ other → noted other s new ≡ noted other s past
 noted-name past new seq s name other n is apart = is.noted_is other s ∙ ap (λ b. cond b (past_by n) (noted other s past)) (isnt-named seq s name other apart)
 
 -- ---- other calls keep their positions, and this one advances
 
-pub note-keeps : (u : Under) (past new : Behind) (seq : ℕ) (name : List ℕ) (n : Noted) → IsNote past new seq name n → KeepsOthers u past new seq
+pub note-keeps : (u : JudgeContext) (past new : Trace) (seq : ℕ) (name : List ℕ) (n : Noted) → IsNote past new seq name n → KeepsOthers u past new seq
 note-keeps u past new seq name n is s position apart = stands-still u past new s position is.entries
     (λ e. lets-still u past new s e (is.forms u.conn s) (noted-call past new seq s name e.name n is (λ same. apart (sym same))))
 
 -- the entries before it still let the call pass
-pub front-lets : (u : Under) (past new : Behind) (seq : ℕ) (name : List ℕ) (n : Noted) (front : List Entry) → IsNote past new seq name n
-    → ((x : Entry) → Contains front x → x.name ≢ name) → All (Lets u past seq) front → All (Lets u new seq) front
-front-lets u past new seq name n front is apart lets = all-step (Lets u past seq) (Lets u new seq) front
+pub front-lets : (u : JudgeContext) (past new : Trace) (seq : ℕ) (name : List ℕ) (n : Noted) (front : List Entry) → IsNote past new seq name n
+    → ((x : Entry) → Contains front x → x.name ≢ name) → All (IsAllowedInTrace u past seq) front → All (IsAllowedInTrace u new seq) front
+front-lets u past new seq name n front is apart lets = all-step (IsAllowedInTrace u past seq) (IsAllowedInTrace u new seq) front
     (λ x has let_x. lets-still u past new seq x (is.forms u.conn seq) (noted-name past new seq seq name x.name n is (λ same. apart x has (sym same))) let_x) lets
 
-pub note-row : (u : Under) (c : Course) (new : Behind) (position seq : ℕ) (e : Entry) (n : Noted) → Holds u c
+pub note-row : (u : JudgeContext) (c : ConnState) (new : Trace) (position seq : ℕ) (e : Entry) (n : Noted) → Holds u c
     → IsTurn u c position seq e → first_at position c.row ≡ Some (seq, position)
-    → IsNote c.past new seq e.name n → Lets u new seq e → IsRow u new 0 (length (taken c.past)) (length (chain c.past).entries) (goes_on seq c.row)
+    → IsNote c.past new seq e.name n → IsAllowedInTrace u new seq e → IsRow u new 0 (length (taken c.past)) (length (chain c.past).entries) (advanced seq c.row)
 note-row u c new position seq e n h turn first is lets =
     goes-further u c.past new 0 (length (taken c.past)) (length (chain c.past).entries) position seq c.row first turn.cut.within (note-keeps u c.past new seq e.name n is) step h.row
   where
@@ -155,9 +155,9 @@ note-row u c new position seq e n h turn first is lets =
     step : StandsAt u c.past seq position → StandsAt u new seq (position + 1)
     step stands = record {
       within = subst (λ (es : List Entry). position + 1 ≤ length es) (sym is.entries) (omega (arith, turn.cut.within));
-      let_pass = subst (λ (es : List Entry). All (Lets u new seq) (take (position + 1) es)) (sym is.entries)
-          (subst (λ (es : List Entry). All (Lets u new seq) es) (sym through)
-          (All-push (Lets u new seq) turn.cut.front e (front-lets u c.past new seq e.name n turn.cut.front is (λ x. before-apart u c position seq e x turn) turn.lets) lets));
+      allowed = subst (λ (es : List Entry). All (IsAllowedInTrace u new seq) (take (position + 1) es)) (sym is.entries)
+          (subst (λ (es : List Entry). All (IsAllowedInTrace u new seq) es) (sym through)
+          (All-push (IsAllowedInTrace u new seq) turn.cut.front e (front-lets u c.past new seq e.name n turn.cut.front is (λ x. before-apart u c position seq e x turn) turn.lets) lets));
     }
 
 -- ---- calls are noted in order
@@ -169,41 +169,41 @@ Notes (Quota tenant per cap) = Unit {0}
 Notes Count = Unit {0}
 Notes policy = ⊥
 
-pub notes-by : (policy : Policy) (level moment : ℕ) (form : Call) (past : Past) (n : Noted) → Answers policy level moment form past (note n) → Notes policy
-notes-by policy level moment form past n (allows p is allow answer) = absurd cc
-notes-by policy level moment form past n (denies p is allow answer) = absurd cc
-notes-by policy level moment form past n (was_charged r is some answer) = absurd cc
-notes-by policy level moment form past n (charges r is none enough answer) = subst Notes (sym is) tt
-notes-by policy level moment form past n (holds r is none less mode answer) = absurd cc
-notes-by policy level moment form past n (refuses r is none less mode answer) = absurd cc
-notes-by policy level moment form past n (is_within tenant per cap ticket is some less answer) = absurd cc
-notes-by policy level moment form past n (is_over tenant per cap ticket is some more answer) = absurd cc
-notes-by policy level moment form past n (draws tenant per cap ticket is none answer) = subst Notes (sym is) tt
-notes-by policy level moment form past n (was_counted is some answer) = absurd cc
-notes-by policy level moment form past n (counts is none answer) = subst Notes (sym is) tt
-notes-by policy level moment form past n (is_clear clears is left answer) = absurd cc
-notes-by policy level moment form past n (redacts clears is other answer) = absurd cc
+pub notes-by : (policy : Policy) (level_in_trace timestamp : ℕ) (form : Call) (past : Past) (n : Noted) → IsEntryAnswer policy level_in_trace timestamp form past (note n) → Notes policy
+notes-by policy level_in_trace timestamp form past n (allows p is allow answer) = absurd cc
+notes-by policy level_in_trace timestamp form past n (denies p is allow answer) = absurd cc
+notes-by policy level_in_trace timestamp form past n (was_charged r is some answer) = absurd cc
+notes-by policy level_in_trace timestamp form past n (charges r is none enough answer) = subst Notes (sym is) tt
+notes-by policy level_in_trace timestamp form past n (holds r is none less mode answer) = absurd cc
+notes-by policy level_in_trace timestamp form past n (refuses r is none less mode answer) = absurd cc
+notes-by policy level_in_trace timestamp form past n (is_within tenant per cap ticket is some less answer) = absurd cc
+notes-by policy level_in_trace timestamp form past n (is_over tenant per cap ticket is some more answer) = absurd cc
+notes-by policy level_in_trace timestamp form past n (draws tenant per cap ticket is none answer) = subst Notes (sym is) tt
+notes-by policy level_in_trace timestamp form past n (was_counted is some answer) = absurd cc
+notes-by policy level_in_trace timestamp form past n (counts is none answer) = subst Notes (sym is) tt
+notes-by policy level_in_trace timestamp form past n (is_clear clears is left answer) = absurd cc
+notes-by policy level_in_trace timestamp form past n (redacts clears is other answer) = absurd cc
 
 -- such a policy lets a call pass if something was noted of it
-pass-noted : (policy : Policy) (level moment : ℕ) (form : Call) (past : Past) → Notes policy → Answers policy level moment form past pass → past ≢ nothing
-pass-noted policy level moment form past noting (allows p is allow answer) none = subst Notes is noting
-pass-noted policy level moment form past noting (denies p is allow answer) none = cc
-pass-noted policy level moment form past noting (was_charged r is some answer) none = some none
-pass-noted policy level moment form past noting (charges r is none enough answer) gone = cc
-pass-noted policy level moment form past noting (holds r is none less mode answer) gone = cc
-pass-noted policy level moment form past noting (refuses r is none less mode answer) gone = cc
-pass-noted policy level moment form past noting (is_within tenant per cap ticket is some less answer) none = cc
-pass-noted policy level moment form past noting (is_over tenant per cap ticket is some more answer) none = cc
-pass-noted policy level moment form past noting (draws tenant per cap ticket is none answer) gone = cc
-pass-noted policy level moment form past noting (was_counted is some answer) none = some none
-pass-noted policy level moment form past noting (counts is none answer) gone = cc
-pass-noted policy level moment form past noting (is_clear clears is left answer) none = subst Notes is noting
-pass-noted policy level moment form past noting (redacts clears is other answer) none = cc
+pass-noted : (policy : Policy) (level_in_trace timestamp : ℕ) (form : Call) (past : Past) → Notes policy → IsEntryAnswer policy level_in_trace timestamp form past pass → past ≢ nothing
+pass-noted policy level_in_trace timestamp form past noting (allows p is allow answer) none = subst Notes is noting
+pass-noted policy level_in_trace timestamp form past noting (denies p is allow answer) none = cc
+pass-noted policy level_in_trace timestamp form past noting (was_charged r is some answer) none = some none
+pass-noted policy level_in_trace timestamp form past noting (charges r is none enough answer) gone = cc
+pass-noted policy level_in_trace timestamp form past noting (holds r is none less mode answer) gone = cc
+pass-noted policy level_in_trace timestamp form past noting (refuses r is none less mode answer) gone = cc
+pass-noted policy level_in_trace timestamp form past noting (is_within tenant per cap ticket is some less answer) none = cc
+pass-noted policy level_in_trace timestamp form past noting (is_over tenant per cap ticket is some more answer) none = cc
+pass-noted policy level_in_trace timestamp form past noting (draws tenant per cap ticket is none answer) gone = cc
+pass-noted policy level_in_trace timestamp form past noting (was_counted is some answer) none = some none
+pass-noted policy level_in_trace timestamp form past noting (counts is none answer) gone = cc
+pass-noted policy level_in_trace timestamp form past noting (is_clear clears is left answer) none = subst Notes is noting
+pass-noted policy level_in_trace timestamp form past noting (redacts clears is other answer) none = cc
 
-lets-noted : (policy : Policy) (level moment : ℕ) (form : Option Call) (past : Past) → Notes policy
-    → IsSomeAnd form (λ call. Answers policy level moment call past pass) → past ≢ nothing
-lets-noted policy level moment None past noting lets = absurd lets
-lets-noted policy level moment (Some call) past noting lets = pass-noted policy level moment call past noting lets
+lets-noted : (policy : Policy) (level_in_trace timestamp : ℕ) (form : Option Call) (past : Past) → Notes policy
+    → IsSomeAnd form (λ call. IsEntryAnswer policy level_in_trace timestamp call past pass) → past ≢ nothing
+lets-noted policy level_in_trace timestamp None past noting lets = absurd lets
+lets-noted policy level_in_trace timestamp (Some call) past noting lets = pass-noted policy level_in_trace timestamp call past noting lets
 
 contains-take : (es : List Entry) (k m : ℕ) (e : Entry) → slice_get es k ≡ Some e → k < m → Contains (take m es) e
 contains-take [] k m e at less = absurd cc
@@ -213,24 +213,24 @@ contains-take (x ∷ es) (suc k) zero e at less = absurd (omega (arith, less))
 contains-take (x ∷ es) (suc k) (suc m) e at less = contains-later x (take m es) e (contains-take es k m e at (omega (arith, less)))
 
 -- the previous entry noted a call with a smaller number
-pub earlier-noted : (u : Under) (c : Course) (position seq s : ℕ) (e : Entry) → Holds u c → Notes e.policy
+pub earlier-noted : (u : JudgeContext) (c : ConnState) (position seq s : ℕ) (e : Entry) → Holds u c → Notes e.policy
     → slice_get (chain c.past).entries position ≡ Some e → first_at position c.row ≡ Some (seq, position)
-    → Contains (map (λ (call : Taken). call.seq) (standing c.past)) s → s < seq → noted e.name s c.past ≢ nothing
+    → Contains (map (λ (call : AcceptedCall). call.seq) (pending_calls c.past)) s → s < seq → noted e.name s c.past ≢ nothing
 earlier-noted u c position seq s e h noting entry first stands less =
     let further : IsFurther u c.past s position =
     earlier-further u c.past 0 (length (taken c.past)) (length (chain c.past).entries) position seq s c.row first
     h.row (subst (λ (ns : List ℕ). Contains ns s) (sym h.calls) stands) less in
-    let lets : Lets u c.past s e =
-    All-contains (Lets u c.past s) (take further.place (chain c.past).entries) e further.stands.let_pass
+    let lets : IsAllowedInTrace u c.past s e =
+    All-contains (IsAllowedInTrace u c.past s) (take further.place (chain c.past).entries) e further.stands.allowed
     (contains-take (chain c.past).entries position further.place e entry further.further) in
-    lets-noted e.policy (level e.name c.past) (moment c.past) (form u.conn s c.past) (noted e.name s c.past) noting lets
+    lets-noted e.policy (level_in_trace e.name c.past) (timestamp c.past) (form u.conn s c.past) (noted e.name s c.past) noting lets
 
-pub note-ascends : (u : Under) (c : Course) (new : Behind) (position seq : ℕ) (e : Entry) (n : Noted) → Holds u c → Notes e.policy → past_by n ≢ nothing
-    → slice_get (chain c.past).entries position ≡ Some e → first_at position c.row ≡ Some (seq, position) → IsNote c.past new seq e.name n → NotesAscend new
+pub note-ascends : (u : JudgeContext) (c : ConnState) (new : Trace) (position seq : ℕ) (e : Entry) (n : Noted) → Holds u c → Notes e.policy → past_by n ≢ nothing
+    → slice_get (chain c.past).entries position ≡ Some e → first_at position c.row ≡ Some (seq, position) → IsNote c.past new seq e.name n → AreNotesAscending new
 note-ascends u c new position seq e n h noting something entry first is name s stands none = given (bytes_eq e.name name) refl
   where
-    stood : Contains (map (λ (call : Taken). call.seq) (standing c.past)) s
-    stood = subst (λ (calls : List Taken). Contains (map (λ call. call.seq) calls) s) is.standing_same stands
+    stood : Contains (map (λ (call : AcceptedCall). call.seq) (pending_calls c.past)) s
+    stood = subst (λ (calls : List AcceptedCall). Contains (map (λ call. call.seq) calls) s) is.standing_same stands
 
     here : e.name ≡ name → All (λ other. other < s) (seq ∷ noted_calls name c.past)
     here same = elim (cases_order seq s) [

@@ -2,12 +2,12 @@
 use Rattle.std.proofs.Common.{ℕ, ◌≤◌, zero, suc, List, [], ◌∷◌, length, map, take, inl, inr, ◌∙◌, arith}
 use Rattle.std.specs.Prelude.{All, Contains}
 use Rattle.std.proofs.lemmas.List.Elements.{All-nil, All-cons, All-head, All-tail}
-use Rattle.engine_core.specs.Chains.{Changes}
+use Rattle.engine_core.specs.Chains.{HasChanged}
 use Rattle.engine_core.specs.declared.op.Op.{Op as Step}
-use Rattle.call_history.specs.Behind.{Behind, chain, taken}
+use Rattle.call_history.specs.Trace.{Trace, chain, taken}
 use Rattle.engine_core.specs.Chains.{changed}
-use Rattle.call_history.specs.Events.{Course, NotesAscend}
-use Rattle.call_history.specs.Rules.{Under}
+use Rattle.call_history.specs.Transitions.{ConnState, AreNotesAscending}
+use Rattle.call_history.specs.Rules.{JudgeContext}
 use Rattle.call_history.specs.declared.happening.Happening.TheVariants.{Op}
 use Rattle.call_history.proofs.Further.{contains-cases, contains-first, contains-later}
 use Rattle.call_history.proofs.Going.{may-operate}
@@ -16,20 +16,20 @@ use Rattle.call_history.proofs.Passing.{numbers-same, ended-still}
 use Rattle.call_history.proofs.Rowed.{StandsAt, row-moved, row-weaker}
 
 -- how an operation moves positions, and which positions are still legal
-pub record Moves (u : Under) (past : Behind) (step : Step) (f : ℕ → ℕ) : Type 0 where
+pub record Moves (u : JudgeContext) (past : Trace) (step : Step) (f : ℕ → ℕ) : Type 0 where
   pub rises : (p q : ℕ) → p ≤ q → f p ≤ f q
   pub keeps : (seq position : ℕ) → StandsAt u past seq position → StandsAt u (Op step ∷ past) seq (f position)
   pub bound : f (length (chain past).entries) ≤ length (chain (Op step ∷ past)).entries
-  pub ascend : NotesAscend (Op step ∷ past)
+  pub ascend : AreNotesAscending (Op step ∷ past)
 
-pub moved-holds : (u : Under) (c : Course) (step : Step) (f : ℕ → ℕ) → Holds u c → Changes (chain c.past) step (changed step (chain c.past)) → Moves u c.past step f
+pub moved-holds : (u : JudgeContext) (c : ConnState) (step : Step) (f : ℕ → ℕ) → Holds u c → HasChanged (chain c.past) step (changed step (chain c.past)) → Moves u c.past step f
     → Holds u (record c { past = Op step ∷ c.past; row = map (λ call. (call.0, f call.1)) c.row })
 moved-holds u c step f h changes moves =
-    let new : Behind = Op step ∷ c.past in
+    let new : Trace = Op step ∷ c.past in
     let top : ℕ = length (taken c.past) in
     record {
       prefix = (h.prefix, may-operate u c.past step h.settled changes);
-      settled = record { malformed = λ awaits. awaits; quota = λ awaits. awaits; link = λ awaits. h.settled.link (record { failed = awaits.failed; some_stand = awaits.some_stand }) };
+      settled = record { malformed = λ awaits. awaits; quota = λ awaits. awaits; link = λ awaits. h.settled.link (record { failed = awaits.failed; some_pending = awaits.some_pending }) };
       row = row-weaker u new 0 0 top top (f (length (chain c.past).entries)) (length (chain new).entries) (map (λ call. (call.0, f call.1)) c.row) (omega arith) (omega arith) moves.bound
           (row-moved u c.past new f 0 top (length (chain c.past).entries) c.row moves.rises moves.keeps h.row);
       calls = numbers-same (λ call. f call.1) c.row ∙ h.calls;

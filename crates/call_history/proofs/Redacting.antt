@@ -3,12 +3,12 @@ use Rattle.std.proofs.Common.{◌≡◌, ◌≢◌, ℕ, cond, List, ◌∷◌, 
 use Rattle.std.specs.Prelude.{Some, nat_lt, option_map}
 use Rattle.std.proofs.lemmas.Bool.{ne_eqb}
 use Rattle.mrpc_table.specs.declared.call.Call.{Call}
-use Rattle.engine_core.specs.Answers.{redact, Answers}
+use Rattle.engine_core.specs.Answers.{redact, IsEntryAnswer}
 use Rattle.engine_core.specs.Chains.{Entry}
-use Rattle.call_history.specs.Behind.{Behind, chain, taken, form, level, moment, noted, policy_of, redacted}
-use Rattle.call_history.specs.Events.{Course}
-use Rattle.engine_core.specs.Moves.{begin_again}
-use Rattle.call_history.specs.Rules.{Under}
+use Rattle.call_history.specs.Trace.{Trace, chain, taken, form, level_in_trace, timestamp, noted, policy_in_trace, redacted}
+use Rattle.call_history.specs.Transitions.{ConnState}
+use Rattle.engine_core.specs.Moves.{restarted}
+use Rattle.call_history.specs.Rules.{JudgeContext}
 use Rattle.call_history.specs.declared.happening.Happening.TheVariants.{Redacted}
 use Rattle.call_history.proofs.Going.{may-redact}
 use Rattle.call_history.proofs.Holding.{Holds, stands-still, works-on}
@@ -18,15 +18,15 @@ use Rattle.call_history.proofs.Passing.{numbers-same, ended-still}
 use Rattle.call_history.proofs.Rowed.{row-begins}
 
 -- the form of another call is unchanged
-pub form-others : (conn seq s version : ℕ) (name : List ℕ) (past : Behind) → seq ≢ s → form conn s (Redacted seq name version ∷ past) ≡ form conn s past
+pub form-others : (conn seq s version : ℕ) (name : List ℕ) (past : Trace) → seq ≢ s → form conn s (Redacted seq name version ∷ past) ≡ form conn s past
 form-others conn seq s version name past apart =
-    ap (λ b. cond b (option_map (redacted (policy_of name past)) (form conn s past)) (form conn s past)) (ne_eqb seq s apart)
+    ap (λ b. cond b (option_map (redacted (policy_in_trace name past)) (form conn s past)) (form conn s past)) (ne_eqb seq s apart)
 
-pub cleared_again : (u : Under) (c : Course) (position seq : ℕ) (e : Entry) (call : Call) → Holds u c → IsTurn u c position seq e → form u.conn seq c.past ≡ Some call
-    → Answers e.policy (level e.name c.past) (moment c.past) call (noted e.name seq c.past) redact
-    → Holds u (record c { past = Redacted seq e.name e.version ∷ c.past; row = begin_again seq c.row })
+pub cleared_again : (u : JudgeContext) (c : ConnState) (position seq : ℕ) (e : Entry) (call : Call) → Holds u c → IsTurn u c position seq e → form u.conn seq c.past ≡ Some call
+    → IsEntryAnswer e.policy (level_in_trace e.name c.past) (timestamp c.past) call (noted e.name seq c.past) redact
+    → Holds u (record c { past = Redacted seq e.name e.version ∷ c.past; row = restarted seq c.row })
 cleared_again u c position seq e call h turn is answers =
-    let new : Behind = Redacted seq e.name e.version ∷ c.past in
+    let new : Trace = Redacted seq e.name e.version ∷ c.past in
     record {
       prefix = (
         h.prefix,

@@ -8,22 +8,22 @@ use Rattle.mrpc_table.specs.declared.table.Label.TheVariants.{Plain}
 use Rattle.mrpc_table.specs.declared.table.Table.{Table}
 use Rattle.policy_access.specs.Verdict.{AccessPolicy}
 use Rattle.mrpc_table.specs.declared.call.Call.{Call}
-use Rattle.policy_access.specs.declared.rule.About.TheVariants.{Calls as OfCalls}
+use Rattle.policy_access.specs.declared.rule.CallSelector.TheVariants.{Calls as OfCalls}
 use Rattle.policy_access.specs.declared.rule.Comparison.TheVariants.{Equal}
 use Rattle.policy_access.specs.declared.rule.Condition.TheVariants.{Compares}
 use Rattle.policy_access.specs.declared.rule.Operand.TheVariants.{Number}
 use Rattle.policy_access.specs.declared.rule.Rule.{Rule}
-use Rattle.mrpc_table.specs.declared.call.Sort.TheVariants.{Request}
+use Rattle.mrpc_table.specs.declared.call.CallKind.TheVariants.{Request}
 use Rattle.policy_redact.specs.declared.redact.Clear.{Clear}
 use Rattle.engine_core.specs.Answers.{nothing, charged, drawn, counted}
 use Rattle.engine_core.specs.Chains.{new_entry}
 use Rattle.engine_core.specs.declared.op.Op.TheVariants.{Attach, Detach, Upgrade}
 use Rattle.engine_core.specs.declared.policy.Policy.{Policy}
 use Rattle.engine_core.specs.declared.policy.Policy.TheVariants.{Access, Rate, Quota, Count, Redact}
-use Rattle.call_history.specs.Behind.{Behind, chain, moment, level, noted, noted_calls, standing, has_failed, form, with_tree}
+use Rattle.call_history.specs.Trace.{Trace, chain, timestamp, level_in_trace, noted, noted_calls, pending_calls, has_failed, form, with_tree}
 use Rattle.call_history.specs.declared.happening.Cause.TheVariants as cause
 use Rattle.call_history.specs.declared.happening.Happening.TheVariants.{Took, Op, Moment, Charged, Drawn, Counted, Redacted, Sent, Refused}
-use Rattle.call_history.specs.declared.happening.Taken.{Taken}
+use Rattle.call_history.specs.declared.happening.AcceptedCall.{AcceptedCall}
 use Rattle.call_history.specs.declared.happening.TookCopy.TheVariants.{Copy}
 
 -- messages of these fields, and a method that takes one
@@ -44,7 +44,7 @@ abbrev pub with_number : ℕ → Node
 with_number v = field 1 (one (number v)) no_fields
 
 -- a request at place 2
-abbrev pub request : ℕ → ℕ → ℕ → Node → Taken
+abbrev pub request : ℕ → ℕ → ℕ → Node → AcceptedCall
 request seq after count tree = record { seq = seq; method = 0; number = 0; addr = 2; after = after; count = count; copy = Copy tree }
 
 -- a rule on requests whose field has a value
@@ -99,22 +99,22 @@ but_150 = record { rules = where_equal no150 false 1 150 ∷ []; allow = true }
 abbrev pub holding : ℕ → Policy
 holding burst = Rate (record { amount = 1; per = 1000; burst = burst; hold = true })
 
-abbrev pub seven : ℕ → Taken
+abbrev pub seven : ℕ → AcceptedCall
 seven seq = request seq 1 1 (with_number 7)
 
 -- the form of a call on connection 1
-abbrev pub form_of : Taken → Node → Option Call
+abbrev pub form_of : AcceptedCall → Node → Option Call
 form_of call tree = Some (with_tree 1 call tree)
 
 -- ---- a call with 150, which the policy denies
 
-abbrev pub call_150 : Taken
+abbrev pub call_150 : AcceptedCall
 call_150 = request 1 1 1 (with_number 150)
 
-abbrev pub denied_before : Behind
+abbrev pub denied_before : Trace
 denied_before = reverse (Op (Attach 0 acl acl (Access but_150)) ∷ Took call_150 ∷ [])
 
-abbrev pub denied : Behind
+abbrev pub denied : Trace
 denied = Refused 1 (cause.Access acl 1 no150) ∷ denied_before
 
 chain-denied : chain denied ≡ record { entries = new_entry acl 1 (Access but_150) ∷ []; attached = 1 }
@@ -123,27 +123,27 @@ chain-denied = refl
 form-denied : form 1 1 denied_before ≡ form_of call_150 (with_number 150)
 form-denied = refl
 
-standing-before : standing denied_before ≡ call_150 ∷ []
+standing-before : pending_calls denied_before ≡ call_150 ∷ []
 standing-before = refl
 
-standing-denied : standing denied ≡ []
+standing-denied : pending_calls denied ≡ []
 standing-denied = refl
 
 -- ---- three calls under a rate of two at once: the third is held, and charged a second later
 
-abbrev pub held : Behind
+abbrev pub held : Trace
 held = reverse (
     Op (Attach 0 rl rl (holding 2)) ∷ Took (seven 1) ∷ Took (seven 2) ∷ Took (seven 3) ∷ Charged 1 rl 1000 ∷ Charged 2 rl 0
     ∷ Sent 1 18 ∷ Sent 2 18 ∷ Moment 999 ∷ []
     )
 
-level-before : level rl (reverse (Op (Attach 0 rl rl (holding 2)) ∷ [])) ≡ 2000
+level-before : level_in_trace rl (reverse (Op (Attach 0 rl rl (holding 2)) ∷ [])) ≡ 2000
 level-before = refl
 
-level-held : level rl held ≡ 999
+level-held : level_in_trace rl held ≡ 999
 level-held = refl
 
-moment-held : moment held ≡ 999
+moment-held : timestamp held ≡ 999
 moment-held = refl
 
 noted-held : noted rl 2 held ≡ charged
@@ -152,23 +152,23 @@ noted-held = refl
 noted-third : noted rl 3 held ≡ nothing
 noted-third = refl
 
-standing-held : standing held ≡ seven 3 ∷ []
+standing-held : pending_calls held ≡ seven 3 ∷ []
 standing-held = refl
 
 -- a millisecond later, also in one step
-abbrev pub filled : Behind
+abbrev pub filled : Trace
 filled = reverse (
     Op (Attach 0 rl rl (holding 2)) ∷ Took (seven 1) ∷ Took (seven 2) ∷ Took (seven 3) ∷ Charged 1 rl 1000 ∷ Charged 2 rl 0
     ∷ Sent 1 18 ∷ Sent 2 18 ∷ Moment 1000 ∷ []
     )
 
-level-filled : level rl filled ≡ 1000
+level-filled : level_in_trace rl filled ≡ 1000
 level-filled = refl
 
-level-later : level rl (Moment 1000 ∷ held) ≡ 1000
+level-later : level_in_trace rl (Moment 1000 ∷ held) ≡ 1000
 level-later = refl
 
-level-charged : level rl (Charged 3 rl 0 ∷ filled) ≡ 0
+level-charged : level_in_trace rl (Charged 3 rl 0 ∷ filled) ≡ 0
 level-charged = refl
 
 noted_calls-charged : noted_calls rl (Charged 3 rl 0 ∷ filled) ≡ 3 ∷ 2 ∷ 1 ∷ []
@@ -176,7 +176,7 @@ noted_calls-charged = refl
 
 -- ---- an upgrade after two calls passed the old version
 
-abbrev pub upgraded_before : Behind
+abbrev pub upgraded_before : Trace
 upgraded_before = reverse (
     Op (Attach 0 acl (codes "p1") opening) ∷ Op (Attach 1 rl rl (holding 2)) ∷ Took call_150 ∷ Took (request 2 2 1 (with_number 7))
     ∷ Charged 1 rl 1000 ∷ Charged 2 rl 0 ∷ Op (Upgrade acl (codes "p2") (Access but_150)) ∷ []
@@ -191,15 +191,15 @@ chain-upgraded = refl
 noted-upgraded : noted rl 1 upgraded_before ≡ charged
 noted-upgraded = refl
 
-level-upgraded : level rl upgraded_before ≡ 0
+level-upgraded : level_in_trace rl upgraded_before ≡ 0
 level-upgraded = refl
 
-standing-upgraded : standing (Refused 1 (cause.Access acl 2 no150) ∷ upgraded_before) ≡ request 2 2 1 (with_number 7) ∷ []
+standing-upgraded : pending_calls (Refused 1 (cause.Access acl 2 no150) ∷ upgraded_before) ≡ request 2 2 1 (with_number 7) ∷ []
 standing-upgraded = refl
 
 -- ---- a policy that is detached and attached again: the bucket is full, and no call is noted
 
-abbrev pub again : Behind
+abbrev pub again : Trace
 again = reverse (
     Op (Attach 0 rl r1 (holding 1)) ∷ Took (seven 1) ∷ Took (seven 2) ∷ Took (seven 3) ∷ Charged 1 rl 0 ∷ Sent 1 18
     ∷ Op (Detach rl) ∷ Op (Attach 0 rl r1 (holding 1)) ∷ []
@@ -211,7 +211,7 @@ chain-between = refl
 chain-again : chain again ≡ record { entries = new_entry rl 2 (holding 1) ∷ []; attached = 2 }
 chain-again = refl
 
-level-again : level rl again ≡ 1000
+level-again : level_in_trace rl again ≡ 1000
 level-again = refl
 
 noted-again : noted rl 1 again ≡ nothing
@@ -220,26 +220,26 @@ noted-again = refl
 noted_calls-again : noted_calls rl again ≡ []
 noted_calls-again = refl
 
-standing-again : standing (Sent 2 18 ∷ Charged 2 rl 0 ∷ again) ≡ seven 3 ∷ []
+standing-again : pending_calls (Sent 2 18 ∷ Charged 2 rl 0 ∷ again) ≡ seven 3 ∷ []
 standing-again = refl
 
 -- ---- a link that fails with two calls pending
 
-abbrev pub failing : Behind
+abbrev pub failing : Trace
 failing = reverse (Took (seven 1) ∷ Took (seven 2) ∷ Took (seven 3) ∷ Sent 1 18 ∷ Refused 2 cause.Transport ∷ [])
 
-standing-failing : standing failing ≡ seven 3 ∷ []
+standing-failing : pending_calls failing ≡ seven 3 ∷ []
 standing-failing = refl
 
 failed-failing : has_failed failing ≡ true
 failed-failing = refl
 
-standing-failed : standing (Refused 3 cause.Transport ∷ failing) ≡ []
+standing-failed : pending_calls (Refused 3 cause.Transport ∷ failing) ≡ []
 standing-failed = refl
 
 -- ---- a quota of one ticket
 
-abbrev pub drawn_over : Behind
+abbrev pub drawn_over : Trace
 drawn_over = reverse (
     Op (Attach 0 q q (Quota 0 1000 1)) ∷ Took (seven 1) ∷ Took (seven 2) ∷ Drawn 1 q 0 0 ∷ Drawn 2 q 0 1 ∷ []
     )
@@ -252,7 +252,7 @@ noted-drawn_over = refl
 
 -- ---- a counted call, and a policy attached after the counting one that denies it
 
-abbrev pub counted_first : Behind
+abbrev pub counted_first : Trace
 counted_first = reverse (Op (Attach 0 c c Count) ∷ Took (seven 1) ∷ Counted 1 c ∷ Op (Attach 1 d d closing) ∷ [])
 
 chain-counted_first : chain counted_first ≡ record { entries = new_entry c 1 Count ∷ new_entry d 2 closing ∷ []; attached = 2 }
@@ -276,10 +276,10 @@ but_5 = record { rules = where_equal (codes "big") false 2 5 ∷ []; allow = tru
 abbrev pub clear_2 : Clear
 clear_2 = record { method = 0; sort = Request; path = record { way = []; number = 2; kind = Uint64; label = Plain } }
 
-abbrev pub seven_nine : Taken
+abbrev pub seven_nine : AcceptedCall
 seven_nine = request 1 2 2 (field 1 (one (number 7)) (field 2 (one (number 9)) no_fields))
 
-abbrev pub cleared : AccessPolicy → Behind
+abbrev pub cleared : AccessPolicy → Trace
 cleared policy = reverse (
     Op (Attach 0 acl acl (Access policy)) ∷ Op (Attach 1 cut cut (Redact (clear_2 ∷ []))) ∷ Took seven_nine ∷ Redacted 1 cut 1 ∷ []
     )

@@ -12,7 +12,7 @@ use Rattle.mrpc_table.specs.declared.call.Call.{Call}
 use Rattle.mrpc_table.specs.declared.table.Field.{Field}
 use Rattle.mrpc_table.specs.declared.table.Kind.{Kind}
 use Rattle.mrpc_table.specs.declared.table.Table.{Table}
-use Rattle.policy_redact.specs.Leaving.{without, content_without, item_without}
+use Rattle.policy_redact.specs.Without.{without, content_without, item_without}
 use Rattle.policy_redact.specs.Redacting.{cleared_call, is_listed}
 use Rattle.policy_redact.specs.declared.redact.Clear.{Clear}
 use Rattle.wire_base.specs.Encoding.{groups, varint, tag, delimited, fields_bytes, content_bytes, item_bytes}

@@ -3,13 +3,13 @@ use Rattle.std.proofs.Common.{◌≡◌, ℕ, ◌+◌, Bool, true, false, ◌||�
 use Rattle.std.specs.Prelude.{filter}
 use Rattle.std.specs.List.{list_any}
 use Rattle.std.proofs.lemmas.List.Elements.{filter-append}
-use Rattle.call_history.specs.Behind.{Behind, taken, is_fate_of, stands, standing}
+use Rattle.call_history.specs.Trace.{Trace, taken, is_fate_of, is_pending, pending_calls}
 use Rattle.engine_core.specs.Moves.{Row, without_call}
-use Rattle.call_history.specs.Legal.{IsPrefix}
-use Rattle.call_history.specs.Rules.{Under}
+use Rattle.call_history.specs.Legal.{IsLegalPrefix}
+use Rattle.call_history.specs.Rules.{JudgeContext}
 use Rattle.call_history.specs.declared.happening.Cause.{Cause}
 use Rattle.call_history.specs.declared.happening.Happening.TheVariants.{Took, Sent, Refused}
-use Rattle.call_history.specs.declared.happening.Taken.{Taken}
+use Rattle.call_history.specs.declared.happening.AcceptedCall.{AcceptedCall}
 use Rattle.call_history.proofs.Prefixes.{fateless}
 
 -- dropping what passes either of two tests is dropping by one, then by the other
@@ -33,27 +33,27 @@ map-filter {A} {B} f p (x ∷ xs) =
 
 -- ---- acceptance
 
-pub standing-took : (u : Under) (past : Behind) (call : Taken) → IsPrefix u past → call.seq ≡ length (taken past) + 1 → standing (Took call ∷ past) ≡ standing past ++ call ∷ []
+pub standing-took : (u : JudgeContext) (past : Trace) (call : AcceptedCall) → IsLegalPrefix u past → call.seq ≡ length (taken past) + 1 → pending_calls (Took call ∷ past) ≡ pending_calls past ++ call ∷ []
 standing-took u past call prefix next =
-    filter-append (stands past) (taken past) (call ∷ [])
-    ∙ ap (λ b. standing past ++ cond (not b) (call ∷ []) []) (fateless u past call.seq prefix (omega (arith, next)))
+    filter-append (is_pending past) (taken past) (call ∷ [])
+    ∙ ap (λ b. pending_calls past ++ cond (not b) (call ∷ []) []) (fateless u past call.seq prefix (omega (arith, next)))
 
 -- ---- fates
 
 -- the calls without the one with this number
-abbrev pub others_of : ℕ → List Taken → List Taken
+abbrev pub others_of : ℕ → List AcceptedCall → List AcceptedCall
 others_of seq calls = filter (λ call. not (seq == call.seq)) calls
 
-pub standing-sent : (past : Behind) (seq bytes : ℕ) → standing (Sent seq bytes ∷ past) ≡ others_of seq (standing past)
+pub standing-sent : (past : Trace) (seq bytes : ℕ) → pending_calls (Sent seq bytes ∷ past) ≡ others_of seq (pending_calls past)
 standing-sent past seq bytes = filter-both (λ call. seq == call.seq) (λ call. list_any (is_fate_of call.seq) past) (taken past)
 
-pub standing-refused : (past : Behind) (seq : ℕ) (why : Cause) → standing (Refused seq why ∷ past) ≡ others_of seq (standing past)
+pub standing-refused : (past : Trace) (seq : ℕ) (why : Cause) → pending_calls (Refused seq why ∷ past) ≡ others_of seq (pending_calls past)
 standing-refused past seq why = filter-both (λ call. seq == call.seq) (λ call. list_any (is_fate_of call.seq) past) (taken past)
 
 -- a row and the pending calls lose the same call
-pub calls-without : (seq : ℕ) (row : Row) (calls : List Taken) → map (λ call. call.0) row ≡ map (λ call. call.seq) calls
+pub calls-without : (seq : ℕ) (row : Row) (calls : List AcceptedCall) → map (λ call. call.0) row ≡ map (λ call. call.seq) calls
     → map (λ call. call.0) (without_call seq row) ≡ map (λ call. call.seq) (others_of seq calls)
 calls-without seq row calls same =
     map-filter (λ (call : ℕ × ℕ). call.0) (λ n. not (seq == n)) row
     ∙ ap (filter (λ n. not (seq == n))) same
-    ∙ sym (map-filter (λ (call : Taken). call.seq) (λ n. not (seq == n)) calls)
+    ∙ sym (map-filter (λ (call : AcceptedCall). call.seq) (λ n. not (seq == n)) calls)

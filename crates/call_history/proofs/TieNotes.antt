@@ -4,21 +4,21 @@ use Rattle.std.specs.Prelude.{All, Contains, Option, Some, None, option_map}
 use Rattle.std.proofs.lemmas.List.Elements.{All-set, Contains-get_or}
 use Rattle.mrpc_table.specs.Valid.{AreDistinct}
 use Rattle.mrpc_table.specs.declared.call.Call.{Call}
-use Rattle.engine_core.specs.Answers.{Past, past_after, level_left}
+use Rattle.engine_core.specs.Answers.{Past, past_after, level_after_note}
 use Rattle.engine_core.specs.Chains.{Chain, Entry, IsChain, attachments_of}
-use Rattle.engine_core.specs.Engines.{EngineParts, chain_of}
-use Rattle.engine_core.specs.Marks.{HasMarksUpTo, IsTrueFor, StandingCall, note_of, past_of}
+use Rattle.engine_core.specs.Engines.{EngineParts, chain_of_engines}
+use Rattle.engine_core.specs.Marks.{HasMarksUpTo, IsTrueFor, PendingCall, note_of, past_of}
 use Rattle.engine_core.specs.Turns.{form_after, noted_in}
-use Rattle.engine_core.specs.Working.{Works}
+use Rattle.engine_core.specs.Working.{HasWorked}
 use Rattle.engine_core.specs.declared.outcome.Noted.{Noted}
 use Rattle.engine_core.specs.declared.outcome.Noted.TheVariants as notes
 use Rattle.engine_core.specs.declared.outcome.Outcome.{Outcome}
 use Rattle.engine_core.specs.declared.outcome.Outcome.TheVariants.{Passed, Held, Refused, Redacted}
 use Rattle.engine_core.specs.declared.policy.Policy.{Policy}
 use Rattle.engine_core.specs.declared.policy.Policy.TheVariants.{Access, Rate, Quota, Count, Redact}
-use Rattle.call_history.specs.Behind.{Behind, chain, form, level, moment, noted, policy_of, redacted}
-use Rattle.call_history.specs.Events.{note_behind}
-use Rattle.call_history.specs.Ties.{AreNumbersApart, AreTied, IsCallBehind, IsEngineBehind, worked}
+use Rattle.call_history.specs.Trace.{Trace, chain, form, level_in_trace, timestamp, noted, policy_in_trace, redacted}
+use Rattle.call_history.specs.Transitions.{with_note}
+use Rattle.call_history.specs.Ties.{AreNumbersApart, AreTied, IsCallOfTrace, IsEngineOfTrace, worked}
 use Rattle.call_history.specs.declared.happening.Happening.TheVariants as what
 use Rattle.call_history.proofs.Further.{contains-cases}
 use Rattle.call_history.proofs.GoingOn.{form-cleared, level-charged, level-charged_other, noted-charged, noted-drawn, noted-counted}
@@ -29,17 +29,17 @@ use Rattle.call_history.proofs.Tying.{All-at, contains-at, contains-map, policy-
 -- ---- the trace after a turn
 
 -- how a note changes levels and notes
-record IsNoted (past new : Behind) (name : List ℕ) (seq : ℕ) (n : Noted) : Type 0 where
+record IsNoted (past new : Trace) (name : List ℕ) (seq : ℕ) (n : Noted) : Type 0 where
   chain_same : chain new ≡ chain past
-  moment_same : moment new ≡ moment past
+  moment_same : timestamp new ≡ timestamp past
   form_same : (conn s : ℕ) → form conn s new ≡ form conn s past
-  level_own : level name new ≡ level_left n (level name past)
-  level_other : (other : List ℕ) → name ≢ other → level other new ≡ level other past
+  level_own : level_in_trace name new ≡ level_after_note n (level_in_trace name past)
+  level_other : (other : List ℕ) → name ≢ other → level_in_trace other new ≡ level_in_trace other past
   noted_own : noted name seq new ≡ past_after n (noted name seq past)
   noted_call : (other : List ℕ) (s : ℕ) → seq ≢ s → noted other s new ≡ noted other s past
   noted_name : (other : List ℕ) (s : ℕ) → name ≢ other → noted other s new ≡ noted other s past
 
-is-noted : (past : Behind) (name : List ℕ) (seq : ℕ) (n : Noted) → IsNoted past (note_behind name seq n past) name seq n
+is-noted : (past : Trace) (name : List ℕ) (seq : ℕ) (n : Noted) → IsNoted past (with_note name seq n past) name seq n
 is-noted past name seq notes.Nothing = record {
   chain_same = refl;
   moment_same = refl;
@@ -82,19 +82,19 @@ is-noted past name seq notes.Counted = record {
 }
 
 -- how a turn changes levels, notes and forms
-record IsWorked (past new : Behind) (e : Entry) (seq : ℕ) (outcome : Outcome) : Type 0 where
+record IsWorked (past new : Trace) (e : Entry) (seq : ℕ) (outcome : Outcome) : Type 0 where
   chain_same : chain new ≡ chain past
-  moment_same : moment new ≡ moment past
-  level_own : level e.name new ≡ level_left (noted_in outcome) (level e.name past)
-  level_other : (other : List ℕ) → e.name ≢ other → level other new ≡ level other past
+  moment_same : timestamp new ≡ timestamp past
+  level_own : level_in_trace e.name new ≡ level_after_note (noted_in outcome) (level_in_trace e.name past)
+  level_other : (other : List ℕ) → e.name ≢ other → level_in_trace other new ≡ level_in_trace other past
   noted_own : noted e.name seq new ≡ past_after (noted_in outcome) (noted e.name seq past)
   noted_call : (other : List ℕ) (s : ℕ) → seq ≢ s → noted other s new ≡ noted other s past
   noted_name : (other : List ℕ) (s : ℕ) → e.name ≢ other → noted other s new ≡ noted other s past
   form_call : (conn s : ℕ) → seq ≢ s → form conn s new ≡ form conn s past
-  form_own : (conn : ℕ) (call : Call) → policy_of e.name past ≡ Some e.policy → form conn seq past ≡ Some call
+  form_own : (conn : ℕ) (call : Call) → policy_in_trace e.name past ≡ Some e.policy → form conn seq past ≡ Some call
       → form conn seq new ≡ Some (form_after outcome e.policy call)
 
-noted-worked : (past new : Behind) (e : Entry) (seq : ℕ) (outcome : Outcome) → IsNoted past new e.name seq (noted_in outcome)
+noted-worked : (past new : Trace) (e : Entry) (seq : ℕ) (outcome : Outcome) → IsNoted past new e.name seq (noted_in outcome)
     → ((call : Call) → form_after outcome e.policy call ≡ call) → IsWorked past new e seq outcome
 noted-worked past new e seq outcome is kept = record {
   chain_same = is.chain_same;
@@ -115,10 +115,10 @@ cleared-form (Quota tenant per cap) call = refl
 cleared-form Count call = refl
 cleared-form (Redact clears) call = refl
 
-is-worked : (past : Behind) (e : Entry) (seq : ℕ) (outcome : Outcome) → IsWorked past (worked e seq outcome past) e seq outcome
-is-worked past e seq (Passed n) = noted-worked past (note_behind e.name seq n past) e seq (Passed n) (is-noted past e.name seq n) (λ call. refl)
+is-worked : (past : Trace) (e : Entry) (seq : ℕ) (outcome : Outcome) → IsWorked past (worked e seq outcome past) e seq outcome
+is-worked past e seq (Passed n) = noted-worked past (with_note e.name seq n past) e seq (Passed n) (is-noted past e.name seq n) (λ call. refl)
 is-worked past e seq (Held left cost) = noted-worked past past e seq (Held left cost) (is-noted past e.name seq notes.Nothing) (λ call. refl)
-is-worked past e seq (Refused n why) = noted-worked past (note_behind e.name seq n past) e seq (Refused n why) (is-noted past e.name seq n) (λ call. refl)
+is-worked past e seq (Refused n why) = noted-worked past (with_note e.name seq n past) e seq (Refused n why) (is-noted past e.name seq n) (λ call. refl)
 is-worked past e seq Redacted = record {
   chain_same = refl;
   moment_same = refl;
@@ -130,13 +130,13 @@ is-worked past e seq Redacted = record {
   form_call = λ conn s apart. form-others conn seq s e.version e.name past apart;
   form_own = λ conn call there was.
       form-cleared conn seq e.version e.name past
-      ∙ (ap (λ (f : Option Call). option_map (redacted (policy_of e.name past)) f) was
+      ∙ (ap (λ (f : Option Call). option_map (redacted (policy_in_trace e.name past)) f) was
       ∙ (ap (λ (p : Option Policy). Some (redacted p call)) there ∙ ap (λ (c : Call). Some c) (cleared-form e.policy call)));
 }
 
 -- ---- marks
 
-true-same : (e : Entry) (s t : StandingCall) → t.call ≡ s.call → note_of t.marks e.attach ≡ note_of s.marks e.attach → IsTrueFor e s → IsTrueFor e t
+true-same : (e : Entry) (s t : PendingCall) → t.call ≡ s.call → note_of t.marks e.attach ≡ note_of s.marks e.attach → IsTrueFor e s → IsTrueFor e t
 true-same e s t calls marks holds = record {
   silent = rw marks holds.silent;
   present = λ version allowed. holds.present version (rw marks at allowed);
@@ -145,7 +145,7 @@ true-same e s t calls marks holds = record {
 
 same-seq : (outcome : Outcome) (policy : Policy) (call : Call) → (form_after outcome policy call).seq ≡ call.seq
 same-seq (Passed n) policy call = refl
-same-seq (Held level cost) policy call = refl
+same-seq (Held level_in_trace cost) policy call = refl
 same-seq (Refused n why) policy call = refl
 same-seq Redacted (Access p) call = refl
 same-seq Redacted (Rate r) call = refl
@@ -174,23 +174,23 @@ same-by {Y = Y} f (x ∷ xs) a b apart has_a has_b same = elim (contains-cases x
 
 -- ---- engines and calls after a turn
 
-module _ (conn : ℕ) (past : Behind) (es : List EngineParts) (n : ℕ) (calls : List StandingCall) (p j now : ℕ) (outcome : Outcome) (es' : List EngineParts)
-    (calls' : List StandingCall) (chained : IsChain (chain past)) (ties : AreTied conn past es n calls) (apart : AreNumbersApart calls)
-    (w : Works es calls p j now outcome es' calls') where
+module _ (conn : ℕ) (past : Trace) (es : List EngineParts) (n : ℕ) (calls : List PendingCall) (p j now : ℕ) (outcome : Outcome) (es' : List EngineParts)
+    (calls' : List PendingCall) (chained : IsChain (chain past)) (ties : AreTied conn past es n calls) (apart : AreNumbersApart calls)
+    (w : HasWorked es calls p j now outcome es' calls') where
   entry : Entry
   entry = w.engine.entry
 
-  new : Behind
+  new : Trace
   new = worked w.engine.entry w.call.call.seq outcome past
 
   is : IsWorked past (worked w.engine.entry w.call.call.seq outcome past) w.engine.entry w.call.call.seq outcome
   is = is-worked past w.engine.entry w.call.call.seq outcome
 
-  own-chain : IsChain (chain_of es n)
+  own-chain : IsChain (chain_of_engines es n)
   own-chain = subst IsChain (sym ties.same_chain) chained
 
-  its-ties : IsCallBehind conn past es n w.call
-  its-ties = All-at (IsCallBehind conn past es n) calls j w.call ties.calls_behind w.is_call
+  its-ties : IsCallOfTrace conn past es n w.call
+  its-ties = All-at (IsCallOfTrace conn past es n) calls j w.call ties.calls_of_trace w.is_call
 
   same-entries : map (λ e. e.entry) es' ≡ map (λ e. e.entry) es
   same-entries = ap (λ (xs : List EngineParts). map (λ e. e.entry) xs) w.others ∙ same-map (λ (e : EngineParts). e.entry) es p w.engine w.engine' w.is_engine w.leaves_engine.entry
@@ -200,36 +200,36 @@ module _ (conn : ℕ) (past : Behind) (es : List EngineParts) (n : ℕ) (calls :
   entries-kept P all = subst (λ (xs : List EngineParts). All (λ e. P e.entry) xs) (sym w.others)
       (All-set (λ (e : EngineParts). P e.entry) es p w.engine' (subst P (sym w.leaves_engine.entry) (All-at (λ (e : EngineParts). P e.entry) es p w.engine all w.is_engine)) all)
 
-  chain-kept : chain_of es' n ≡ chain (worked w.engine.entry w.call.call.seq outcome past)
+  chain-kept : chain_of_engines es' n ≡ chain (worked w.engine.entry w.call.call.seq outcome past)
   chain-kept = ap (λ (xs : List Entry). let c : Chain = record { entries = xs; attached = n } in c) same-entries ∙ (ties.same_chain ∙ sym is.chain_same)
 
-  engines-kept : All (IsEngineBehind (worked w.engine.entry w.call.call.seq outcome past)) es'
-  engines-kept = subst (λ (xs : List EngineParts). All (IsEngineBehind (worked w.engine.entry w.call.call.seq outcome past)) xs) (sym w.others)
-      (replaced (IsEngineBehind past) (IsEngineBehind (worked w.engine.entry w.call.call.seq outcome past)) es p w.engine w.engine'
-      own-chain.names own-chain.attachments w.is_engine own others ties.engines_behind)
+  engines-kept : All (IsEngineOfTrace (worked w.engine.entry w.call.call.seq outcome past)) es'
+  engines-kept = subst (λ (xs : List EngineParts). All (IsEngineOfTrace (worked w.engine.entry w.call.call.seq outcome past)) xs) (sym w.others)
+      (replaced (IsEngineOfTrace past) (IsEngineOfTrace (worked w.engine.entry w.call.call.seq outcome past)) es p w.engine w.engine'
+      own-chain.names own-chain.attachments w.is_engine own others ties.engines_of_trace)
     where
-      old : IsEngineBehind past w.engine
-      old = All-at (IsEngineBehind past) es p w.engine ties.engines_behind w.is_engine
+      old : IsEngineOfTrace past w.engine
+      old = All-at (IsEngineOfTrace past) es p w.engine ties.engines_of_trace w.is_engine
 
-      own : IsEngineBehind (worked w.engine.entry w.call.call.seq outcome past) w.engine'
+      own : IsEngineOfTrace (worked w.engine.entry w.call.call.seq outcome past) w.engine'
       own = record {
         level =
             w.leaves_engine.level
-            ∙ (ap (λ (l : ℕ). level_left (noted_in outcome) l) old.level
-            ∙ (sym is.level_own ∙ ap (λ (e : Entry). level e.name (worked w.engine.entry w.call.call.seq outcome past)) (sym w.leaves_engine.entry)));
+            ∙ (ap (λ (l : ℕ). level_after_note (noted_in outcome) l) old.level
+            ∙ (sym is.level_own ∙ ap (λ (e : Entry). level_in_trace e.name (worked w.engine.entry w.call.call.seq outcome past)) (sym w.leaves_engine.entry)));
         last = w.leaves_engine.last ∙ (old.last ∙ sym is.moment_same);
       }
 
-      others : (x : EngineParts) → x.entry.name ≢ w.engine.entry.name → x.entry.attach ≢ w.engine.entry.attach → IsEngineBehind past x
-          → IsEngineBehind (worked w.engine.entry w.call.call.seq outcome past) x
+      others : (x : EngineParts) → x.entry.name ≢ w.engine.entry.name → x.entry.attach ≢ w.engine.entry.attach → IsEngineOfTrace past x
+          → IsEngineOfTrace (worked w.engine.entry w.call.call.seq outcome past) x
       others x names attaches was = record {
         level = was.level ∙ sym (is.level_other x.entry.name (λ same. names (sym same)));
         last = was.last ∙ sym is.moment_same;
       }
 
   -- a call that the turn didn't work on
-  other-kept : (s : StandingCall) → s.call.seq ≢ w.call.call.seq → IsCallBehind conn past es n s
-      → IsCallBehind conn (worked w.engine.entry w.call.call.seq outcome past) es' n s
+  other-kept : (s : PendingCall) → s.call.seq ≢ w.call.call.seq → IsCallOfTrace conn past es n s
+      → IsCallOfTrace conn (worked w.engine.entry w.call.call.seq outcome past) es' n s
   other-kept s apart was = record {
     is_form = is.form_call conn s.call.seq (λ same. apart (sym same)) ∙ was.is_form;
     notes = entries-kept (λ (e : Entry). past_of s.marks e.attach ≡ noted e.name s.call.seq (worked w.engine.entry w.call.call.seq outcome past))
@@ -291,7 +291,7 @@ module _ (conn : ℕ) (past : Behind) (es : List EngineParts) (n : ℕ) (calls :
           → past_of w.call'.marks x.entry.attach ≡ noted x.entry.name w.call.call.seq (worked w.engine.entry w.call.call.seq outcome past)
       others x names attaches was = w.leaves_marks.others x.entry.attach attaches ∙ (was ∙ sym (is.noted_name x.entry.name w.call.call.seq (λ same. names (sym same))))
 
-  call-kept : IsCallBehind conn (worked w.engine.entry w.call.call.seq outcome past) es' n w.call'
+  call-kept : IsCallOfTrace conn (worked w.engine.entry w.call.call.seq outcome past) es' n w.call'
   call-kept = record {
     is_form = subst (λ (k : ℕ). form conn k (worked w.engine.entry w.call.call.seq outcome past) ≡ Some w.call'.call) (sym number-kept)
         (is.form_own conn w.call.call (policy-there past es n w.engine chained ties.same_chain (contains-at es p w.engine w.is_engine)) its-ties.is_form
@@ -307,8 +307,8 @@ module _ (conn : ℕ) (past : Behind) (es : List EngineParts) (n : ℕ) (calls :
   pub tied-worked : AreTied conn (worked w.engine.entry w.call.call.seq outcome past) es' n calls'
   tied-worked = record {
     same_chain = chain-kept;
-    engines_behind = engines-kept;
-    calls_behind = subst (λ (xs : List StandingCall). All (IsCallBehind conn (worked w.engine.entry w.call.call.seq outcome past) es' n) xs) (sym w.other_calls)
-        (replaced-call (IsCallBehind conn past es n) (IsCallBehind conn (worked w.engine.entry w.call.call.seq outcome past) es' n) calls j w.call w.call' apart w.is_call
-        call-kept other-kept ties.calls_behind);
+    engines_of_trace = engines-kept;
+    calls_of_trace = subst (λ (xs : List PendingCall). All (IsCallOfTrace conn (worked w.engine.entry w.call.call.seq outcome past) es' n) xs) (sym w.other_calls)
+        (replaced-call (IsCallOfTrace conn past es n) (IsCallOfTrace conn (worked w.engine.entry w.call.call.seq outcome past) es' n) calls j w.call w.call' apart w.is_call
+        call-kept other-kept ties.calls_of_trace);
   }

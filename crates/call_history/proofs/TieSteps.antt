@@ -9,18 +9,18 @@ use Rattle.std.proofs.lemmas.List.Elements.{All-head, All-map, All-push, All-set
 use Rattle.mrpc_table.specs.Valid.{AreDistinct}
 use Rattle.mrpc_table.specs.declared.call.Call.{Call}
 use Rattle.engine_core.specs.Answers.{Past, nothing, charged, drawn, counted}
-use Rattle.engine_core.specs.Chains.{Chain, Changes, Entry, IsChain, changed, is_named, is_taken, names_of, new_entry, taken as taken_name, upgraded}
-use Rattle.engine_core.specs.Engines.{EngineParts, chain_of, clocked}
-use Rattle.engine_core.specs.Marks.{IsTrueFor, StandingCall, note_of, past_of}
-use Rattle.engine_core.specs.Policies.{first_level, level_at, level_under}
+use Rattle.engine_core.specs.Chains.{Chain, HasChanged, Entry, IsChain, changed, is_named, is_taken, names_of, new_entry, taken as taken_name, upgraded}
+use Rattle.engine_core.specs.Engines.{EngineParts, chain_of_engines, clocked}
+use Rattle.engine_core.specs.Marks.{IsTrueFor, PendingCall, note_of, past_of}
+use Rattle.engine_core.specs.Policies.{initial_level, level_after_time, level_after_upgrade}
 use Rattle.engine_core.specs.declared.op.Op.TheVariants.{Attach, Detach, Upgrade}
 use Rattle.engine_core.specs.declared.policy.Policy.{Policy}
-use Rattle.call_history.specs.Behind.{Behind, chain, converted, copied, filled, level, moment, noted, noted_calls, policy_of, taken, with_tree}
-use Rattle.call_history.specs.Legal.{IsPrefix}
-use Rattle.call_history.specs.Rules.{Under}
-use Rattle.call_history.specs.Ties.{AreTied, IsCallBehind, IsEngineBehind, IsNumberApart}
+use Rattle.call_history.specs.Trace.{Trace, chain, converted, copied, filled, level_in_trace, timestamp, noted, noted_calls, policy_in_trace, taken, with_tree}
+use Rattle.call_history.specs.Legal.{IsLegalPrefix}
+use Rattle.call_history.specs.Rules.{JudgeContext}
+use Rattle.call_history.specs.Ties.{AreTied, IsCallOfTrace, IsEngineOfTrace, IsNumberApart}
 use Rattle.call_history.specs.declared.happening.Happening.TheVariants.{Took, Op, Moment, Charged, Drawn, Counted}
-use Rattle.call_history.specs.declared.happening.Taken.{Taken}
+use Rattle.call_history.specs.declared.happening.AcceptedCall.{AcceptedCall}
 use Rattle.call_history.specs.declared.happening.TookCopy.{TookCopy}
 use Rattle.call_history.specs.declared.happening.TookCopy.TheVariants.{Copy, Malformed}
 use Rattle.call_history.proofs.Accepting.{form-other}
@@ -32,11 +32,11 @@ use Rattle.call_history.proofs.Tying.{All-at, All-insert, All-remove, contains-a
 
 -- a call without a mark of an entry's attachment has true marks for the entry
 abbrev pub TrueUnmarked : Type 0
-TrueUnmarked = (e : Entry) (s : StandingCall) → note_of s.marks e.attach ≡ None → IsTrueFor e s
+TrueUnmarked = (e : Entry) (s : PendingCall) → note_of s.marks e.attach ≡ None → IsTrueFor e s
 
 -- ---- a call is accepted
 
-copied-number : (conn : ℕ) (call : Taken) (copy : TookCopy) (made : Call) → copied conn call copy ≡ Some made → made.seq ≡ call.seq
+copied-number : (conn : ℕ) (call : AcceptedCall) (copy : TookCopy) (made : Call) → copied conn call copy ≡ Some made → made.seq ≡ call.seq
 copied-number conn call (Copy tree) made is = let same : with_tree conn call tree ≡ made = cc in ap (λ (c : Call). c.seq) (sym same)
 copied-number conn call (Malformed reason place value) made is = absurd cc
 
@@ -54,7 +54,7 @@ unnoted-new seq true calls rest apart further = refl
 unnoted-new seq false calls rest apart further = further apart
 
 -- nothing was noted of a call that no entry noted
-unnoted : (past : Behind) (name : List ℕ) (seq : ℕ) → All (λ other. other ≢ seq) (noted_calls name past) → noted name seq past ≡ nothing
+unnoted : (past : Trace) (name : List ℕ) (seq : ℕ) → All (λ other. other ≢ seq) (noted_calls name past) → noted name seq past ≡ nothing
 unnoted [] name seq apart = refl
 unnoted (Op (Attach at other label policy) ∷ past) name seq apart = unnoted-new seq (bytes_eq other name) (noted_calls name past) (noted name seq past) apart (unnoted past name seq)
 unnoted (Charged call other left ∷ past) name seq apart = unnoted-one charged call seq (bytes_eq other name) (noted_calls name past) (noted name seq past) apart (unnoted past name seq)
@@ -64,16 +64,16 @@ unnoted (Drawn call other window ticket ∷ past) name seq apart =
 unnoted (Counted call other ∷ past) name seq apart = unnoted-one counted call seq (bytes_eq other name) (noted_calls name past) (noted name seq past) apart (unnoted past name seq)
 unnoted (x ∷ past) name seq apart = unnoted past name seq apart
 
-fresh : (u : Under) (past : Behind) (name : List ℕ) (seq : ℕ) → IsPrefix u past → seq ≡ length (taken past) + 1 → noted name seq past ≡ nothing
+fresh : (u : JudgeContext) (past : Trace) (name : List ℕ) (seq : ℕ) → IsLegalPrefix u past → seq ≡ length (taken past) + 1 → noted name seq past ≡ nothing
 fresh u past name seq prefix next = unnoted past name seq
     (All-weaker (λ other. other ≤ length (taken past)) (λ other. other ≢ seq) (λ other few same. omega arith) (noted_calls name past) (noted-few u past name prefix))
 
-pub took-other : (conn : ℕ) (past : Behind) (es : List EngineParts) (n : ℕ) (calls : List StandingCall) (call : Taken) → AreTied conn past es n calls
+pub took-other : (conn : ℕ) (past : Trace) (es : List EngineParts) (n : ℕ) (calls : List PendingCall) (call : AcceptedCall) → AreTied conn past es n calls
     → IsNumberApart call.seq calls → AreTied conn (Took call ∷ past) es n calls
 took-other conn past es n calls call ties apart = record {
   same_chain = ties.same_chain;
-  engines_behind = λ k d inside. (let was = ties.engines_behind k d inside in record { level = was.level; last = was.last });
-  calls_behind = λ k d inside. (let was = ties.calls_behind k d inside in record {
+  engines_of_trace = λ k d inside. (let was = ties.engines_of_trace k d inside in record { level = was.level; last = was.last });
+  calls_of_trace = λ k d inside. (let was = ties.calls_of_trace k d inside in record {
     is_form = form-other conn (get_or calls k d).call.seq past call (λ same. apart k d inside (sym same)) ∙ was.is_form;
     notes = was.notes;
     marked = was.marked;
@@ -81,15 +81,15 @@ took-other conn past es n calls call ties apart = record {
   });
 }
 
-pub takes-on : TrueUnmarked → (u : Under) (past : Behind) (es : List EngineParts) (n : ℕ) (calls : List StandingCall) (call : Taken) (s : StandingCall) → IsPrefix u past
+pub takes-on : TrueUnmarked → (u : JudgeContext) (past : Trace) (es : List EngineParts) (n : ℕ) (calls : List PendingCall) (call : AcceptedCall) (s : PendingCall) → IsLegalPrefix u past
     → AreTied u.conn past es n calls → IsNumberApart call.seq calls → call.seq ≡ length (taken past) + 1 → copied u.conn call call.copy ≡ Some s.call → s.marks ≡ []
     → AreTied u.conn (Took call ∷ past) es n (calls ++ s ∷ [])
 takes-on unmarked u past es n calls call s prefix ties apart next is none =
     let others = took-other u.conn past es n calls call ties apart in
     record {
       same_chain = others.same_chain;
-      engines_behind = others.engines_behind;
-      calls_behind = All-push (IsCallBehind u.conn (Took call ∷ past) es n) calls s others.calls_behind own;
+      engines_of_trace = others.engines_of_trace;
+      calls_of_trace = All-push (IsCallOfTrace u.conn (Took call ∷ past) es n) calls s others.calls_of_trace own;
     }
   where
     number : s.call.seq ≡ call.seq
@@ -98,7 +98,7 @@ takes-on unmarked u past es n calls call s prefix ties apart next is none =
     no-note : (attach : ℕ) → note_of s.marks attach ≡ None
     no-note attach = rw none refl
 
-    own : IsCallBehind u.conn (Took call ∷ past) es n s
+    own : IsCallOfTrace u.conn (Took call ∷ past) es n s
     own = record {
       is_form = form-own u.conn s.call.seq past call (sym number) ∙ is;
       notes = λ k d inside. (let gone = no-note (get_or es k d).entry.attach in rw gone (sym (fresh u past (get_or es k d).entry.name s.call.seq prefix (number ∙ next))));
@@ -108,59 +108,59 @@ takes-on unmarked u past es n calls call s prefix ties apart next is none =
 
 -- ---- an entry is attached
 
-pub attaches-on : TrueUnmarked → (conn : ℕ) (past : Behind) (es : List EngineParts) (n : ℕ) (calls : List StandingCall) (at : ℕ) (name label : List ℕ) (policy : Policy)
-    → AreTied conn past es n calls → Changes (chain past) (Attach at name label policy) (changed (Attach at name label policy) (chain past))
+pub attaches-on : TrueUnmarked → (conn : ℕ) (past : Trace) (es : List EngineParts) (n : ℕ) (calls : List PendingCall) (at : ℕ) (name label : List ℕ) (policy : Policy)
+    → AreTied conn past es n calls → HasChanged (chain past) (Attach at name label policy) (changed (Attach at name label policy) (chain past))
     → AreTied conn (Op (Attach at name label policy) ∷ past)
-    (insert es at (record { entry = new_entry name (n + 1) policy; level = first_level policy; last = moment past })) (n + 1) calls
+    (insert es at (record { entry = new_entry name (n + 1) policy; level = initial_level policy; last = timestamp past })) (n + 1) calls
 attaches-on unmarked conn past es n calls at name label policy ties changes = record {
   same_chain = same;
-  engines_behind = All-insert (IsEngineBehind (Op (Attach at name label policy) ∷ past)) es at
-      (record { entry = new_entry name (n + 1) policy; level = first_level policy; last = moment past })
-      (all-step (IsEngineBehind past) (IsEngineBehind (Op (Attach at name label policy) ∷ past)) es other-engine ties.engines_behind) own-engine;
-  calls_behind = λ k d inside. call-kept (get_or calls k d) (ties.calls_behind k d inside);
+  engines_of_trace = All-insert (IsEngineOfTrace (Op (Attach at name label policy) ∷ past)) es at
+      (record { entry = new_entry name (n + 1) policy; level = initial_level policy; last = timestamp past })
+      (all-step (IsEngineOfTrace past) (IsEngineOfTrace (Op (Attach at name label policy) ∷ past)) es other-engine ties.engines_of_trace) own-engine;
+  calls_of_trace = λ k d inside. call-kept (get_or calls k d) (ties.calls_of_trace k d inside);
 }
   where
     entries : map (λ e. e.entry) es ≡ (chain past).entries
     entries = ap (λ (c : Chain). c.entries) ties.same_chain
 
-    same : chain_of (insert es at (record {
+    same : chain_of_engines (insert es at (record {
       entry = new_entry name (n + 1) policy;
-      level = first_level policy;
-      last = moment past;
+      level = initial_level policy;
+      last = timestamp past;
     })) (n + 1) ≡ chain (Op (Attach at name label policy) ∷ past)
     same = ap (λ (xs : List Entry). let c : Chain = record { entries = xs; attached = n + 1 } in c)
-        (insert-map (λ (e : EngineParts). e.entry) es at (record { entry = new_entry name (n + 1) policy; level = first_level policy; last = moment past }))
+        (insert-map (λ (e : EngineParts). e.entry) es at (record { entry = new_entry name (n + 1) policy; level = initial_level policy; last = timestamp past }))
         ∙ ap (λ (c : Chain). changed (Attach at name label policy) c) ties.same_chain
 
     no-name : (e : EngineParts) → Contains es e → name ≢ e.entry.name
     no-name e has same = changes.free (taken_name name) (is_taken at name label policy refl
         (subst (λ (xs : List Entry). Contains (names_of xs) name) entries (subst (λ (m : List ℕ). Contains (names_of (map (λ e. e.entry) es)) m) (sym same) (named-in es e has))) refl)
 
-    own-engine : IsEngineBehind (Op (Attach at name label policy) ∷ past) (record { entry = new_entry name (n + 1) policy; level = first_level policy; last = moment past })
+    own-engine : IsEngineOfTrace (Op (Attach at name label policy) ∷ past) (record { entry = new_entry name (n + 1) policy; level = initial_level policy; last = timestamp past })
     own-engine = record { level = sym (level-attached past at name label policy); last = refl }
 
-    other-engine : (e : EngineParts) → Contains es e → IsEngineBehind past e → IsEngineBehind (Op (Attach at name label policy) ∷ past) e
+    other-engine : (e : EngineParts) → Contains es e → IsEngineOfTrace past e → IsEngineOfTrace (Op (Attach at name label policy) ∷ past) e
     other-engine e has was = record { level = was.level ∙ sym (level-attached_other past at name e.entry.name label policy (no-name e has)); last = was.last }
 
-    call-kept : (s : StandingCall) → IsCallBehind conn past es n s
-        → IsCallBehind conn (Op (Attach at name label policy) ∷ past)
+    call-kept : (s : PendingCall) → IsCallOfTrace conn past es n s
+        → IsCallOfTrace conn (Op (Attach at name label policy) ∷ past)
         (insert es at (record {
           entry = new_entry name (n + 1) policy;
-          level = first_level policy;
-          last = moment past;
+          level = initial_level policy;
+          last = timestamp past;
         })) (n + 1) s
     call-kept s was =
         let none : note_of s.marks (n + 1) ≡ None = was.marked (n + 1) (omega arith) in
         record {
           is_form = was.is_form;
           notes = All-insert (λ e. past_of s.marks e.entry.attach ≡ noted e.entry.name s.call.seq (Op (Attach at name label policy) ∷ past)) es at
-              (record { entry = new_entry name (n + 1) policy; level = first_level policy; last = moment past })
+              (record { entry = new_entry name (n + 1) policy; level = initial_level policy; last = timestamp past })
               (all-step (λ e. past_of s.marks e.entry.attach ≡ noted e.entry.name s.call.seq past)
               (λ e. past_of s.marks e.entry.attach ≡ noted e.entry.name s.call.seq (Op (Attach at name label policy) ∷ past)) es
               (λ e has is. is ∙ sym (noted-attached_other past at s.call.seq name e.entry.name label policy (no-name e has))) was.notes)
               (rw none (sym (noted-attached past at s.call.seq name label policy)));
           marked = λ attach above. was.marked attach (omega (arith, above));
-          true_for = All-insert (λ e. IsTrueFor e.entry s) es at (record { entry = new_entry name (n + 1) policy; level = first_level policy; last = moment past })
+          true_for = All-insert (λ e. IsTrueFor e.entry s) es at (record { entry = new_entry name (n + 1) policy; level = initial_level policy; last = timestamp past })
               was.true_for (unmarked (new_entry name (n + 1) policy) s none);
         }
 
@@ -212,21 +212,21 @@ upgraded-named name policy (x ∷ xs) (suc p) e apart is same =
     let rest = upgraded-named name policy xs p e apart.1 is same in
     rw other (ap (λ (ys : List Entry). x.entry ∷ ys) rest)
 
-chain-there : (past : Behind) (es : List EngineParts) (n : ℕ) → chain_of es n ≡ chain past → IsChain (chain past) → IsChain (chain_of es n)
+chain-there : (past : Trace) (es : List EngineParts) (n : ℕ) → chain_of_engines es n ≡ chain past → IsChain (chain past) → IsChain (chain_of_engines es n)
 chain-there past es n same is = subst IsChain (sym same) is
 
-pub detaches-on : StaysChain → (u : Under) (past : Behind) (es : List EngineParts) (n : ℕ) (calls : List StandingCall) (name : List ℕ) (p : ℕ) (e : EngineParts) → IsPrefix u past
+pub detaches-on : StaysChain → (u : JudgeContext) (past : Trace) (es : List EngineParts) (n : ℕ) (calls : List PendingCall) (name : List ℕ) (p : ℕ) (e : EngineParts) → IsLegalPrefix u past
     → AreTied u.conn past es n calls → slice_get es p ≡ Some e → e.entry.name ≡ name → AreTied u.conn (Op (Detach name) ∷ past) (remove es p) n calls
 detaches-on stays u past es n calls name p e prefix ties is same =
-    let is_chain : IsChain (chain_of es n) = chain-there past es n ties.same_chain (chained stays u past prefix) in
+    let is_chain : IsChain (chain_of_engines es n) = chain-there past es n ties.same_chain (chained stays u past prefix) in
     record {
       same_chain =
           ap (λ (xs : List Entry). let c : Chain = record { entries = xs; attached = n } in c)
           (remove-map (λ (e : EngineParts). e.entry) es p ∙ sym (without-named name es p e is_chain.names is same))
           ∙ ap (λ (c : Chain). changed (Detach name) c) ties.same_chain;
-      engines_behind = All-remove (IsEngineBehind (Op (Detach name) ∷ past)) es p
-          (λ k d inside. (let was = ties.engines_behind k d inside in record { level = was.level; last = was.last }));
-      calls_behind = λ k d inside. (let was = ties.calls_behind k d inside in record {
+      engines_of_trace = All-remove (IsEngineOfTrace (Op (Detach name) ∷ past)) es p
+          (λ k d inside. (let was = ties.engines_of_trace k d inside in record { level = was.level; last = was.last }));
+      calls_of_trace = λ k d inside. (let was = ties.calls_of_trace k d inside in record {
         is_form = was.is_form;
         notes = All-remove (λ e. past_of (get_or calls k d).marks e.entry.attach ≡ noted e.entry.name (get_or calls k d).call.seq past) es p was.notes;
         marked = was.marked;
@@ -239,11 +239,11 @@ map-set f [] p x = refl
 map-set f (z ∷ zs) zero x = refl
 map-set {Y = Y} f (z ∷ zs) (suc p) x = ap (λ (ys : List Y). f z ∷ ys) (map-set f zs p x)
 
-pub upgrades-on : StaysChain → (u : Under) (past : Behind) (es : List EngineParts) (n : ℕ) (calls : List StandingCall)
+pub upgrades-on : StaysChain → (u : JudgeContext) (past : Trace) (es : List EngineParts) (n : ℕ) (calls : List PendingCall)
     (name label : List ℕ) (policy : Policy) (p : ℕ) (e e' : EngineParts)
-    → IsPrefix u past → AreTied u.conn past es n calls → slice_get es p ≡ Some e → e.entry.name ≡ name
-    → e'.entry ≡ upgraded e.entry policy → e'.level ≡ level_under e.entry.policy policy e.level → e'.last ≡ e.last
-    → ((s : StandingCall) → IsTrueFor e.entry s → IsTrueFor e'.entry s)
+    → IsLegalPrefix u past → AreTied u.conn past es n calls → slice_get es p ≡ Some e → e.entry.name ≡ name
+    → e'.entry ≡ upgraded e.entry policy → e'.level ≡ level_after_upgrade e.entry.policy policy e.level → e'.last ≡ e.last
+    → ((s : PendingCall) → IsTrueFor e.entry s → IsTrueFor e'.entry s)
     → AreTied u.conn (Op (Upgrade name label policy) ∷ past) (set es p e') n calls
 upgrades-on stays u past es n calls name label policy p e e' prefix ties is same entry_is level_is last_is true_still = record {
   same_chain =
@@ -252,38 +252,38 @@ upgrades-on stays u past es n calls name label policy p e e' prefix ties is same
       ∙ (ap (λ (x : Entry). set (map (λ (e : EngineParts). e.entry) es) p x) entry_is
       ∙ sym (upgraded-named name policy es p e is_chain.names is same)))
       ∙ ap (λ (c : Chain). changed (Upgrade name label policy) c) ties.same_chain;
-  engines_behind = replaced (IsEngineBehind past) (IsEngineBehind (Op (Upgrade name label policy) ∷ past)) es p e e' is_chain.names is_chain.attachments is own other ties.engines_behind;
-  calls_behind = λ k d inside. call-kept (get_or calls k d) (ties.calls_behind k d inside);
+  engines_of_trace = replaced (IsEngineOfTrace past) (IsEngineOfTrace (Op (Upgrade name label policy) ∷ past)) es p e e' is_chain.names is_chain.attachments is own other ties.engines_of_trace;
+  calls_of_trace = λ k d inside. call-kept (get_or calls k d) (ties.calls_of_trace k d inside);
 }
   where
-    is_chain : IsChain (chain_of es n)
+    is_chain : IsChain (chain_of_engines es n)
     is_chain = chain-there past es n ties.same_chain (chained stays u past prefix)
 
-    old : IsEngineBehind past e
-    old = All-at (IsEngineBehind past) es p e ties.engines_behind is
+    old : IsEngineOfTrace past e
+    old = All-at (IsEngineOfTrace past) es p e ties.engines_of_trace is
 
-    there : policy_of name past ≡ Some e.entry.policy
-    there = subst (λ (m : List ℕ). policy_of m past ≡ Some e.entry.policy) same (policy-there past es n e (chained stays u past prefix) ties.same_chain (contains-at es p e is))
+    there : policy_in_trace name past ≡ Some e.entry.policy
+    there = subst (λ (m : List ℕ). policy_in_trace m past ≡ Some e.entry.policy) same (policy-there past es n e (chained stays u past prefix) ties.same_chain (contains-at es p e is))
 
     named : e'.entry.name ≡ name
     named = ap (λ (x : Entry). x.name) entry_is ∙ same
 
-    own : IsEngineBehind (Op (Upgrade name label policy) ∷ past) e'
+    own : IsEngineOfTrace (Op (Upgrade name label policy) ∷ past) e'
     own = record {
       level =
-          level_is ∙ (ap (λ (l : ℕ). level_under e.entry.policy policy l) (old.level ∙ ap (λ (m : List ℕ). level m past) same)
-          ∙ (ap (λ (found : Option Policy). converted found policy (level name past)) (sym there)
-          ∙ (sym (level-upgraded past name label policy) ∙ ap (λ (m : List ℕ). level m (Op (Upgrade name label policy) ∷ past)) (sym named))));
+          level_is ∙ (ap (λ (l : ℕ). level_after_upgrade e.entry.policy policy l) (old.level ∙ ap (λ (m : List ℕ). level_in_trace m past) same)
+          ∙ (ap (λ (found : Option Policy). converted found policy (level_in_trace name past)) (sym there)
+          ∙ (sym (level-upgraded past name label policy) ∙ ap (λ (m : List ℕ). level_in_trace m (Op (Upgrade name label policy) ∷ past)) (sym named))));
       last = last_is ∙ old.last;
     }
 
-    other : (x : EngineParts) → x.entry.name ≢ e.entry.name → x.entry.attach ≢ e.entry.attach → IsEngineBehind past x → IsEngineBehind (Op (Upgrade name label policy) ∷ past) x
+    other : (x : EngineParts) → x.entry.name ≢ e.entry.name → x.entry.attach ≢ e.entry.attach → IsEngineOfTrace past x → IsEngineOfTrace (Op (Upgrade name label policy) ∷ past) x
     other x names attaches was = record {
       level = was.level ∙ sym (level-upgraded_other past name x.entry.name label policy (λ equal. names (sym equal ∙ sym same)));
       last = was.last;
     }
 
-    call-kept : (s : StandingCall) → IsCallBehind u.conn past es n s → IsCallBehind u.conn (Op (Upgrade name label policy) ∷ past) (set es p e') n s
+    call-kept : (s : PendingCall) → IsCallOfTrace u.conn past es n s → IsCallOfTrace u.conn (Op (Upgrade name label policy) ∷ past) (set es p e') n s
     call-kept s was = record {
       is_form = was.is_form;
       notes = All-set (λ e. past_of s.marks e.entry.attach ≡ noted e.entry.name s.call.seq past) es p e'
@@ -299,13 +299,13 @@ same-entries : (now : ℕ) (es : List EngineParts) → map (λ e. e.entry) (map 
 same-entries now [] = refl
 same-entries now (e ∷ es) = let rest = same-entries now es in cc
 
-pub shows-on : StaysChain → (u : Under) (past : Behind) (es : List EngineParts) (n : ℕ) (calls : List StandingCall) (now : ℕ) → IsPrefix u past → AreTied u.conn past es n calls
-    → moment past < now → AreTied u.conn (Moment now ∷ past) (map (λ e. clocked now e) es) n calls
+pub shows-on : StaysChain → (u : JudgeContext) (past : Trace) (es : List EngineParts) (n : ℕ) (calls : List PendingCall) (now : ℕ) → IsLegalPrefix u past → AreTied u.conn past es n calls
+    → timestamp past < now → AreTied u.conn (Moment now ∷ past) (map (λ e. clocked now e) es) n calls
 shows-on stays u past es n calls now prefix ties later = record {
   same_chain = ap (λ (xs : List Entry). let c : Chain = record { entries = xs; attached = n } in c) (same-entries now es) ∙ ties.same_chain;
-  engines_behind = All-map (IsEngineBehind (Moment now ∷ past)) (λ (e : EngineParts). clocked now e) es
-      (all-step (IsEngineBehind past) (λ e. IsEngineBehind (Moment now ∷ past) (clocked now e)) es engine-kept ties.engines_behind);
-  calls_behind = λ k d inside. (let was = ties.calls_behind k d inside in record {
+  engines_of_trace = All-map (IsEngineOfTrace (Moment now ∷ past)) (λ (e : EngineParts). clocked now e) es
+      (all-step (IsEngineOfTrace past) (λ e. IsEngineOfTrace (Moment now ∷ past) (clocked now e)) es engine-kept ties.engines_of_trace);
+  calls_of_trace = λ k d inside. (let was = ties.calls_of_trace k d inside in record {
     is_form = was.is_form;
     notes = All-map (λ e. past_of (get_or calls k d).marks e.entry.attach ≡ noted e.entry.name (get_or calls k d).call.seq past) (λ (e : EngineParts). clocked now e) es was.notes;
     marked = was.marked;
@@ -313,20 +313,20 @@ shows-on stays u past es n calls now prefix ties later = record {
   });
 }
   where
-    engine-kept : (e : EngineParts) → Contains es e → IsEngineBehind past e → IsEngineBehind (Moment now ∷ past) (clocked now e)
+    engine-kept : (e : EngineParts) → Contains es e → IsEngineOfTrace past e → IsEngineOfTrace (Moment now ∷ past) (clocked now e)
     engine-kept e has was = record {
       level =
-          ap (λ (l : ℕ). level_at e.entry.policy l (now - e.last)) was.level
-          ∙ (ap (λ (m : ℕ). level_at e.entry.policy (level e.entry.name past) (now - m)) was.last
-          ∙ ap (λ (found : Option Policy). filled found (now - moment past) (level e.entry.name past))
+          ap (λ (l : ℕ). level_after_time e.entry.policy l (now - e.last)) was.level
+          ∙ (ap (λ (m : ℕ). level_after_time e.entry.policy (level_in_trace e.entry.name past) (now - m)) was.last
+          ∙ ap (λ (found : Option Policy). filled found (now - timestamp past) (level_in_trace e.entry.name past))
           (sym (policy-there past es n e (chained stays u past prefix) ties.same_chain has)));
       last = ap (λ (m : ℕ). max m now) was.last ∙ omega (arith, later);
     }
 
-pub leaves-on : (conn : ℕ) (past : Behind) (es : List EngineParts) (n : ℕ) (calls : List StandingCall) (place : ℕ) → AreTied conn past es n calls
+pub leaves-on : (conn : ℕ) (past : Trace) (es : List EngineParts) (n : ℕ) (calls : List PendingCall) (place : ℕ) → AreTied conn past es n calls
     → AreTied conn past es n (remove calls place)
 leaves-on conn past es n calls place ties = record {
   same_chain = ties.same_chain;
-  engines_behind = ties.engines_behind;
-  calls_behind = All-remove (IsCallBehind conn past es n) calls place ties.calls_behind;
+  engines_of_trace = ties.engines_of_trace;
+  calls_of_trace = All-remove (IsCallOfTrace conn past es n) calls place ties.calls_of_trace;
 }

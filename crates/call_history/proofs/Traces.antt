@@ -8,7 +8,7 @@ use Rattle.mrpc_table.specs.declared.table.Label.TheVariants.{Plain}
 use Rattle.wire_base.specs.Encoding.{varint, groups}
 use Rattle.mrpc_table.specs.declared.call.Call.{Call}
 use Rattle.engine_core.specs.Answers as answers
-use Rattle.engine_core.specs.Chains.{Changes, Entry, names_of, new_entry, Refusal, IsAgainst, detaches_none, upgrades_none, is_taken, is_past, is_full, is_other}
+use Rattle.engine_core.specs.Chains.{HasChanged, Entry, names_of, new_entry, Refusal, IsReasonToReject, detaches_none, upgrades_none, is_taken, is_past, is_full, is_other}
 use Rattle.engine_core.specs.Chains as chains
 use Rattle.engine_core.specs.Turns as turns
 use Rattle.engine_core.specs.declared.op.Op.TheVariants.{Attach}
@@ -17,20 +17,20 @@ use Rattle.engine_core.specs.declared.outcome.Outcome.TheVariants as outcomes
 use Rattle.engine_core.specs.declared.outcome.Why.TheVariants.{Denied}
 use Rattle.engine_core.specs.declared.policy.Policy.{Policy}
 use Rattle.engine_core.specs.declared.policy.Policy.TheVariants.{Access}
-use Rattle.call_history.specs.Behind.{Behind, chain, form, standing, taken}
+use Rattle.call_history.specs.Trace.{Trace, chain, form, pending_calls, taken}
 use Rattle.engine_core.specs.Chains.{changed}
-use Rattle.call_history.specs.Events.{Course, Event, IsReady, accepts, operates, turns as has_turn_of, sends, fails, takes, changes, has_turn, is_sent, link_failed, Lead, beginning}
+use Rattle.call_history.specs.Transitions.{ConnState, Transition, IsReady, accepts, operates, turns as has_turn_of, sends, fails, takes, changes, has_turn, is_sent, link_failed, AreTransitions, initial_state}
 use Rattle.engine_core.specs.Moves.{first_at}
-use Rattle.call_history.specs.Legal.{IsLegalBehind}
+use Rattle.call_history.specs.Legal.{IsLegalTrace}
 use Rattle.frame_transport.specs.declared.format.TheConstants.{HEADER_LEN}
-use Rattle.call_history.specs.Rules.{Under, MayTake, payload}
+use Rattle.call_history.specs.Rules.{JudgeContext, MayTake, payload}
 use Rattle.call_history.specs.declared.happening.Cause.TheVariants as cause
 use Rattle.call_history.specs.declared.happening.Happening.TheVariants.{Refused}
 use Rattle.call_history.proofs.Keeping.{course-begins, events-keep}
 use Rattle.call_history.proofs.Prefixes.{StaysChain}
 use Rattle.call_history.proofs.Rows.{table, with_number, acl, but_150, seven, call_150, denied, failing}
 
-abbrev pub under : Under
+abbrev pub under : JudgeContext
 under = record { conn = 1; table = table; limit = 1024 }
 
 -- ---- facts about calls and operations
@@ -52,7 +52,7 @@ none-in x has = omega (arith, has.1)
 -- an operation that the chain accepts
 free-attach : (entries : List Entry) (at : ℕ) (name label : List ℕ) (policy : Policy) (refusal : Refusal)
     → (Contains (names_of entries) name → ⊥) → at ≤ length entries → length entries < 8
-    → IsAgainst entries (Attach at name label policy) refusal → ⊥
+    → IsReasonToReject entries (Attach at name label policy) refusal → ⊥
 free-attach entries at name label policy refusal none within few (detaches_none n is not r) = cc
 free-attach entries at name label policy refusal none within few (upgrades_none n l p is not r) = cc
 free-attach entries at name label policy refusal none within few (is_taken a n l p is some r) =
@@ -67,21 +67,21 @@ pub attached : (entries : List Entry) (many at : ℕ) (front back : List Entry) 
     → changed (Attach at name label policy) (record { entries = entries; attached = many })
     ≡ record { entries = front ++ new_entry name (many + 1) policy ∷ back; attached = many + 1 }
     → at ≤ length entries
-    → Changes (record { entries = entries; attached = many }) (Attach at name label policy) (changed (Attach at name label policy) (record { entries = entries; attached = many }))
+    → HasChanged (record { entries = entries; attached = many }) (Attach at name label policy) (changed (Attach at name label policy) (record { entries = entries; attached = many }))
 attached entries many at front back name label policy none few whole place makes within = record {
   free = λ refusal. free-attach entries at name label policy refusal none within few;
-  makes = chains.attaches at name label policy front back refl whole place makes;
+  effect = chains.attaches at name label policy front back refl whole place makes;
 }
 
 -- ---- a call with 150, which the policy denies: a later store doesn't help
 
-abbrev denied_events : List Event
+abbrev denied_events : List Transition
 denied_events = operates (Attach 0 acl acl (Access but_150)) ∷ accepts call_150 ∷ has_turn_of 0 1 (outcomes.Refused notes.Nothing (Denied 0)) ∷ []
 
-pub taken_150 : (past : Behind) → length (standing past) < 64 → length (taken past) ≡ 0 → MayTake under past call_150
+pub taken_150 : (past : Trace) → length (pending_calls past) < 64 → length (taken past) ≡ 0 → MayTake under past call_150
 taken_150 past few none = record { number = omega (arith, none); few = few; loads = omega arith; copy = (omega arith, normal_number 150 (omega arith) (omega arith)) }
 
-lead-denied : Lead under beginning denied_events (record { past = denied; row = []; ended = false })
+lead-denied : AreTransitions under initial_state denied_events (record { past = denied; row = []; ended = false })
 lead-denied = (
   _,
   changes (Attach 0 acl acl (Access but_150)) refl (attached [] 0 0 [] [] acl acl (Access but_150) (none-in acl) (omega arith) refl refl refl (omega arith)) refl,
@@ -102,21 +102,21 @@ lead-denied = (
   ),
 )
 
-legal-denied : StaysChain → IsLegalBehind under denied
-legal-denied stays = (events-keep stays under beginning (record { past = denied; row = []; ended = false }) denied_events (course-begins under) lead-denied).legal
+legal-denied : StaysChain → IsLegalTrace under denied
+legal-denied stays = (events-keep stays under initial_state (record { past = denied; row = []; ended = false }) denied_events (course-begins under) lead-denied).legal
 
 -- ---- three calls of which one is sent before the link fails
 
-abbrev failed_events : List Event
+abbrev failed_events : List Transition
 failed_events = accepts (seven 1) ∷ accepts (seven 2) ∷ accepts (seven 3) ∷ sends 1 18 ∷ fails ∷ []
 
-abbrev failed : Behind
+abbrev failed : Trace
 failed = Refused 3 cause.Transport ∷ failing
 
-pub taken_7 : (past : Behind) (seq : ℕ) → length (standing past) < 64 → seq ≡ length (taken past) + 1 → MayTake under past (seven seq)
+pub taken_7 : (past : Trace) (seq : ℕ) → length (pending_calls past) < 64 → seq ≡ length (taken past) + 1 → MayTake under past (seven seq)
 taken_7 past seq few next = record { number = next; few = few; loads = omega arith; copy = (omega arith, normal_number 7 (omega arith) (omega arith)) }
 
-pub ready : (c : Course) (seq v : ℕ) → first_at (length (chain c.past).entries) c.row ≡ Some (seq, length (chain c.past).entries) → form 1 seq c.past ≡ Some (form_of seq v)
+pub ready : (c : ConnState) (seq v : ℕ) → first_at (length (chain c.past).entries) c.row ≡ Some (seq, length (chain c.past).entries) → form 1 seq c.past ≡ Some (form_of seq v)
     → 18 ≡ HEADER_LEN + length (payload table (form_of seq v)) → IsReady under c seq 18
 ready c seq v first is long = record { first = first; sent = form_of seq v; is_form = is; long = long }
 
@@ -124,7 +124,7 @@ pub long-7 : (seq : ℕ) → 18 ≡ HEADER_LEN + length (payload table (form_of 
 unfolding varint groups
 long-7 seq = refl
 
-lead-failed : Lead under beginning failed_events (record { past = failed; row = []; ended = true })
+lead-failed : AreTransitions under initial_state failed_events (record { past = failed; row = []; ended = true })
 lead-failed = (
   _,
   takes (seven 1) refl refl (taken_7 _ 1 (omega arith) refl) refl,
@@ -139,5 +139,5 @@ lead-failed = (
   ),
 )
 
-legal-failed : StaysChain → IsLegalBehind under failed
-legal-failed stays = (events-keep stays under beginning (record { past = failed; row = []; ended = true }) failed_events (course-begins under) lead-failed).legal
+legal-failed : StaysChain → IsLegalTrace under failed
+legal-failed stays = (events-keep stays under initial_state (record { past = failed; row = []; ended = true }) failed_events (course-begins under) lead-failed).legal

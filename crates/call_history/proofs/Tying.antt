@@ -6,9 +6,9 @@ use Rattle.std.proofs.lemmas.List.{map-append, take-map, drop-map}
 use Rattle.std.proofs.lemmas.List.Elements.{All-append, All-cons, All-drop, All-head, All-tail, All-take}
 use Rattle.mrpc_table.specs.Valid.{AreDistinct}
 use Rattle.engine_core.specs.Chains.{Chain, Entry, IsChain, attachments_of, is_named, names_of}
-use Rattle.engine_core.specs.Engines.{EngineParts, chain_of}
-use Rattle.engine_core.specs.Marks.{StandingCall}
-use Rattle.call_history.specs.Behind.{Behind, chain, policy_of}
+use Rattle.engine_core.specs.Engines.{EngineParts, chain_of_engines}
+use Rattle.engine_core.specs.Marks.{PendingCall}
+use Rattle.call_history.specs.Trace.{Trace, chain, policy_in_trace}
 use Rattle.call_history.specs.Ties.{AreNumbersApart}
 use Rattle.call_history.proofs.Chained.{all-step, named-there}
 use Rattle.call_history.proofs.Further.{contains-cases, contains-first, contains-later}
@@ -80,17 +80,17 @@ replaced P Q (x ∷ es) (suc p) e e' names attaches is own others all =
     (replaced P Q es p e e' names.1 attaches.1 is own others (All-tail P x es all))
 
 -- a call is replaced by another with its number
-pub replaced-call : (P Q : StandingCall → Type 0) (calls : List StandingCall) (j : ℕ) (s s' : StandingCall) → AreNumbersApart calls → slice_get calls j ≡ Some s
-    → Q s' → ((x : StandingCall) → x.call.seq ≢ s.call.seq → P x → Q x) → All P calls → All Q (set calls j s')
+pub replaced-call : (P Q : PendingCall → Type 0) (calls : List PendingCall) (j : ℕ) (s s' : PendingCall) → AreNumbersApart calls → slice_get calls j ≡ Some s
+    → Q s' → ((x : PendingCall) → x.call.seq ≢ s.call.seq → P x → Q x) → All P calls → All Q (set calls j s')
 replaced-call P Q [] j s s' apart is own others all = absurd cc
 replaced-call P Q (x ∷ calls) zero s s' apart is own others all =
     let there : x ≡ s = cc in
     All-cons Q s' calls own
     (λ k d inside. others (get_or calls k d)
-    (λ same. apart.0 k d inside (same ∙ ap (λ (s : StandingCall). s.call.seq) (sym there)))
+    (λ same. apart.0 k d inside (same ∙ ap (λ (s : PendingCall). s.call.seq) (sym there)))
     (All-tail P x calls all k d inside))
 replaced-call P Q (x ∷ calls) (suc j) s s' apart is own others all =
-    All-cons Q x (set calls j s') (others x (λ same. All-at (λ (t : StandingCall). t.call.seq ≢ x.call.seq) calls j s apart.0 is (sym same)) (All-head P x calls all))
+    All-cons Q x (set calls j s') (others x (λ same. All-at (λ (t : PendingCall). t.call.seq ≢ x.call.seq) calls j s apart.0 is (sym same)) (All-head P x calls all))
     (replaced-call P Q calls j s s' apart.1 is own others (All-tail P x calls all))
 
 -- looking a name up gives its entry
@@ -104,8 +104,8 @@ find-there (x ∷ es) e apart has = elim (contains-cases x es e has) [
 ]
 
 -- the policy of an engine is that of its name
-pub policy-there : (past : Behind) (es : List EngineParts) (n : ℕ) (e : EngineParts) → IsChain (chain past) → chain_of es n ≡ chain past → Contains es e
-    → policy_of e.entry.name past ≡ Some e.entry.policy
+pub policy-there : (past : Trace) (es : List EngineParts) (n : ℕ) (e : EngineParts) → IsChain (chain past) → chain_of_engines es n ≡ chain past → Contains es e
+    → policy_in_trace e.entry.name past ≡ Some e.entry.policy
 policy-there past es n e chained same has =
     let entries : map (λ (e : EngineParts). e.entry) es ≡ (chain past).entries = ap (λ (c : Chain). c.entries) same in
     let there : Contains (chain past).entries e.entry = subst (λ (xs : List Entry). Contains xs e.entry) entries (contains-map (λ (e : EngineParts). e.entry) es e has) in

@@ -3,14 +3,14 @@ use Rattle.std.proofs.Common.{◌≡◌, ℕ, ◌+◌, ◌≤◌, zero, suc, min
 use Rattle.std.proofs.Common.{length, map, take, refl, sym, ap, subst, arith}
 use Rattle.std.specs.Prelude.{All}
 use Rattle.std.proofs.lemmas.List.Elements.{All-weaker}
-use Rattle.engine_core.specs.Chains.{Changes, Entry, upgraded}
+use Rattle.engine_core.specs.Chains.{HasChanged, Entry, upgraded}
 use Rattle.engine_core.specs.declared.op.Op.TheVariants.{Upgrade}
 use Rattle.engine_core.specs.declared.policy.Policy.{Policy}
-use Rattle.call_history.specs.Behind.{chain}
+use Rattle.call_history.specs.Trace.{chain}
 use Rattle.engine_core.specs.Chains.{changed, is_named}
-use Rattle.call_history.specs.Events.{Course}
-use Rattle.engine_core.specs.Moves.{back_to, place_of}
-use Rattle.call_history.specs.Rules.{Under, Lets}
+use Rattle.call_history.specs.Transitions.{ConnState}
+use Rattle.engine_core.specs.Moves.{returned_to, position_of}
+use Rattle.call_history.specs.Rules.{JudgeContext, IsAllowedInTrace}
 use Rattle.call_history.specs.declared.happening.Happening.TheVariants.{Op}
 use Rattle.call_history.proofs.Holding.{Holds}
 use Rattle.call_history.proofs.Looking.{lets-still}
@@ -25,36 +25,36 @@ length-upgraded : (name : List ℕ) (policy : Policy) (es : List Entry) → leng
 length-upgraded name policy [] = refl
 length-upgraded name policy (e ∷ es) = ap suc (length-upgraded name policy es)
 
-front-same : (name : List ℕ) (policy : Policy) (es : List Entry) (k : ℕ) → k ≤ place_of name es → take k (with_upgraded name policy es) ≡ take k es
+front-same : (name : List ℕ) (policy : Policy) (es : List Entry) (k : ℕ) → k ≤ position_of name es → take k (with_upgraded name policy es) ≡ take k es
 front-same name policy [] k before = refl
 front-same name policy (e ∷ es) zero before = refl
 front-same name policy (e ∷ es) (suc k) before =
-    let given : (b : Bool) → suc k ≤ cond b 0 (place_of name es + 1)
+    let given : (b : Bool) → suc k ≤ cond b 0 (position_of name es + 1)
     → cond b (upgraded e policy) e ∷ take k (with_upgraded name policy es) ≡ e ∷ take k es =
-    λ b. elim b as (λ b. suc k ≤ cond b 0 (place_of name es + 1)
+    λ b. elim b as (λ b. suc k ≤ cond b 0 (position_of name es + 1)
     → cond b (upgraded e policy) e ∷ take k (with_upgraded name policy es) ≡ e ∷ take k es) [
       | true ↦ λ before. absurd (omega (arith, before))
       | false ↦ λ before. ap (λ (xs : List Entry). e ∷ xs) (front-same name policy es k (omega (arith, before)))
     ] in
     given (is_named name e) before
 
-pub upgraded_holds : (u : Under) (c : Course) (name label : List ℕ) (policy : Policy) → Holds u c
-    → Changes (chain c.past) (Upgrade name label policy) (changed (Upgrade name label policy) (chain c.past))
-    → Holds u (record c { past = Op (Upgrade name label policy) ∷ c.past; row = back_to (place_of name (chain c.past).entries) c.row })
-upgraded_holds u c name label policy h changes = moved-holds u c (Upgrade name label policy) (λ p. min p (place_of name (chain c.past).entries)) h changes (record {
+pub upgraded_holds : (u : JudgeContext) (c : ConnState) (name label : List ℕ) (policy : Policy) → Holds u c
+    → HasChanged (chain c.past) (Upgrade name label policy) (changed (Upgrade name label policy) (chain c.past))
+    → Holds u (record c { past = Op (Upgrade name label policy) ∷ c.past; row = returned_to (position_of name (chain c.past).entries) c.row })
+upgraded_holds u c name label policy h changes = moved-holds u c (Upgrade name label policy) (λ p. min p (position_of name (chain c.past).entries)) h changes (record {
   rises = λ p q le. omega (arith, le);
   keeps = keeps;
   bound = omega (arith, length-upgraded name policy (chain c.past).entries);
   ascend = h.notes_ascend;
 })
   where
-    keeps : (seq position : ℕ) → StandsAt u c.past seq position → StandsAt u (Op (Upgrade name label policy) ∷ c.past) seq (min position (place_of name (chain c.past).entries))
+    keeps : (seq position : ℕ) → StandsAt u c.past seq position → StandsAt u (Op (Upgrade name label policy) ∷ c.past) seq (min position (position_of name (chain c.past).entries))
     keeps seq position stands = record {
       within = omega (arith, stands.within, length-upgraded name policy (chain c.past).entries);
-      let_pass = subst (λ (xs : List Entry). All (Lets u (Op (Upgrade name label policy) ∷ c.past) seq) xs)
-          (sym (front-same name policy (chain c.past).entries (min position (place_of name (chain c.past).entries)) (omega arith)))
-          (All-weaker (Lets u c.past seq) (Lets u (Op (Upgrade name label policy) ∷ c.past) seq)
+      allowed = subst (λ (xs : List Entry). All (IsAllowedInTrace u (Op (Upgrade name label policy) ∷ c.past) seq) xs)
+          (sym (front-same name policy (chain c.past).entries (min position (position_of name (chain c.past).entries)) (omega arith)))
+          (All-weaker (IsAllowedInTrace u c.past seq) (IsAllowedInTrace u (Op (Upgrade name label policy) ∷ c.past) seq)
           (λ e. lets-still u c.past (Op (Upgrade name label policy) ∷ c.past) seq e refl refl)
-          (take (min position (place_of name (chain c.past).entries)) (chain c.past).entries)
-          (all-fewer (Lets u c.past seq) (chain c.past).entries (min position (place_of name (chain c.past).entries)) position (omega arith) stands.let_pass));
+          (take (min position (position_of name (chain c.past).entries)) (chain c.past).entries)
+          (all-fewer (IsAllowedInTrace u c.past seq) (chain c.past).entries (min position (position_of name (chain c.past).entries)) position (omega arith) stands.allowed));
     }

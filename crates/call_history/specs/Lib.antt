@@ -1,11 +1,11 @@
-pub mod Behind
+pub mod Trace
 pub mod Clears
 pub mod Draining
-pub mod Events
+pub mod Transitions
 pub mod Frames
 pub mod Legal
 pub mod Loads
-pub mod Places
+pub mod Positions
 pub mod Records
 pub mod Rules
 pub mod Tickets

@@ -21,7 +21,7 @@ pub enum TookCopy {
 
 /// A call that was accepted.
 #[derive(Drop)]
-pub struct Taken {
+pub struct AcceptedCall {
     /// The number of the call among those accepted on its connection, from 1.
     pub seq: u32,
     /// The index of its method in the table.
@@ -68,7 +68,7 @@ pub enum Cause {
 #[derive(Drop)]
 pub enum Happening {
     /// A call was accepted.
-    Took(Taken),
+    Took(AcceptedCall),
     /// A submission was rejected, since `MAX_CALLS` calls were pending.
     Away {
         method: u16,
@@ -81,7 +81,7 @@ pub enum Happening {
     Moment {
         ms: u64,
     },
-    /// A rate policy charged a call; `level` is the level afterwards.
+    /// A rate policy charged a call; `level_in_trace` is the level afterwards.
     Charged {
         seq: u32,
         name: Name,
@@ -119,7 +119,7 @@ pub enum Happening {
 
 /// An event with its connection.
 #[derive(Drop)]
-pub struct Happened {
+pub struct ConnectionEvent {
     /// The number of the connection.
     pub conn: u32,
     pub what: Happening,

@@ -1,10 +1,10 @@
 //! The history of one connection.
 
 ghost use Rattle.std.specs.Prelude.{◌≡◌, ◌↔◌, ◌+◌, ◌<◌, ◌≤◌, ◌++◌, ◌∷◌, [], IsTrue, Some, OnErr, OnOk, length, slice_get};
-ghost use Rattle.call_history.specs.Records.{IsNamed, step_at, told_by};
+ghost use Rattle.call_history.specs.Records.{HasValidReferences, op_at, event_of_record};
 ghost use Rattle.call_history.specs.declared.happening.Happening.TheVariants.{Op as Operated};
 
-use crate::record::Record;
+use crate::record::HistoryRecord;
 use engine_core::Op;
 use mrpc_table::Memory;
 use std::alloc::Global;
@@ -14,7 +14,7 @@ use std::marker::Model;
 /// capacity.
 pub struct History {
     steps: Vec<Op>,
-    records: Vec<Record>,
+    records: Vec<HistoryRecord>,
 }
 
 // By hand, so that each drop is one call, and not a drop of every field.
@@ -29,9 +29,9 @@ impl Drop for History {
 
 impl Model for History {
     ghost use Rattle.std.specs.Prelude.{◌-◌, All, length, map, vec_capacity};
-    ghost use Rattle.call_history.specs.Records.{Kept, IsNamed, told_by};
+    ghost use Rattle.call_history.specs.Records.{StoredHistory, HasValidReferences, event_of_record};
 
-    ghost Value = { Kept };
+    ghost Value = { StoredHistory };
 
     ghost use Rattle.std.specs.Coded.{codes};
     ghost use Rattle.mrpc_table.specs.contracts.tree.Tree as t;
@@ -40,12 +40,12 @@ impl Model for History {
 
     ghost view = { λ h. record {
       steps = h.steps.items;
-      happenings = map (told_by h.steps.items) h.records.items;
+      happenings = map (event_of_record h.steps.items) h.records.items;
       room = vec_capacity h.records - length h.records.items;
       step_room = vec_capacity h.steps - length h.steps.items;
     } };
 
-    ghost invariant = { λ h. All (IsNamed h.steps.items) h.records.items };
+    ghost invariant = { λ h. All (HasValidReferences h.steps.items) h.records.items };
 }
 
 impl History {
@@ -98,15 +98,16 @@ impl History {
     {
         let place = self.steps.len();
         self.steps.push_reserved(step);
-        self.records.push_reserved(Record::Op { step: place });
+        self.records
+            .push_reserved(HistoryRecord::Op { step: place });
     }
 
     /// Appends a record, which needs reserved capacity; nothing is allocated.
-    pub fn push(&mut self, what: Record)
+    pub fn push(&mut self, what: HistoryRecord)
         requires room { 0 < self.old.room }
-        requires named { IsNamed self.old.steps what }
+        requires named { HasValidReferences self.old.steps what }
         ensures steps { self.new.steps ≡ self.old.steps }
-        ensures happenings { self.new.happenings ≡ self.old.happenings ++ told_by self.old.steps what ∷ [] }
+        ensures happenings { self.new.happenings ≡ self.old.happenings ++ event_of_record self.old.steps what ∷ [] }
         ensures room { self.old.room ≤ self.new.room + 1 }
     {
         self.records.push_reserved(what);
@@ -128,10 +129,10 @@ impl History {
 
     /// The record of the event at an index, from 0. The operation and the rule that it names exist, so `step` and that
     /// operation's policy give the names of the event.
-    pub fn at(&self, place: usize) -> &Record
+    pub fn at(&self, place: usize) -> &HistoryRecord
         requires { place < length self.now.happenings }
-        ensures tells { slice_get self.now.happenings place ≡ Some (told_by self.now.steps result.now) }
-        ensures named { IsNamed self.now.steps result.now }
+        ensures tells { slice_get self.now.happenings place ≡ Some (event_of_record self.now.steps result.now) }
+        ensures named { HasValidReferences self.now.steps result.now }
     {
         &self.records[place]
     }
@@ -139,7 +140,7 @@ impl History {
     /// The operation at an index, from 0.
     pub fn step(&self, place: usize) -> &Op
         requires { place < length self.now.steps }
-        ensures { result.now ≡ step_at self.now.steps place }
+        ensures { result.now ≡ op_at self.now.steps place }
     {
         &self.steps[place]
     }

@@ -1,12 +1,12 @@
 //! How events are stored: one record each, which names an entry of the chain by an operation.
 
-use crate::happening::Taken;
+use crate::happening::AcceptedCall;
 
 /// An event as it is stored. It names an entry by the index, from 0, of the operation that set the entry's
 /// policy.
-pub enum Record {
+pub enum HistoryRecord {
     /// A call was accepted.
-    Took(Taken),
+    Took(AcceptedCall),
     /// A submission was rejected, since `MAX_CALLS` calls were pending.
     Away {
         method: u16,
@@ -21,7 +21,7 @@ pub enum Record {
     Moment {
         ms: u64,
     },
-    /// A call was charged; `level` is the level afterwards.
+    /// A call was charged; `level_in_trace` is the level afterwards.
     Charged {
         seq: u32,
         step: usize,
@@ -53,48 +53,48 @@ pub enum Record {
     /// A call was refused.
     Refused {
         seq: u32,
-        by: Refusal,
+        by: RecordedCause,
     },
 }
 
 // By hand, so that each drop is one call, and not a drop of every field.
-impl Drop for Record {
+impl Drop for HistoryRecord {
     fn drop(self) {
         match self {
-            Record::Took(_a) => {}
-            Record::Away {
+            HistoryRecord::Took(_a) => {}
+            HistoryRecord::Away {
                 method: _,
                 number: _,
                 addr: _,
             } => {}
-            Record::Op { step: _ } => {}
-            Record::Moment { ms: _ } => {}
-            Record::Charged {
+            HistoryRecord::Op { step: _ } => {}
+            HistoryRecord::Moment { ms: _ } => {}
+            HistoryRecord::Charged {
                 seq: _,
                 step: _,
                 level: _,
             } => {}
-            Record::Drawn {
+            HistoryRecord::Drawn {
                 seq: _,
                 step: _,
                 window: _,
                 ticket: _,
             } => {}
-            Record::Counted { seq: _, step: _ } => {}
-            Record::Redacted {
+            HistoryRecord::Counted { seq: _, step: _ } => {}
+            HistoryRecord::Redacted {
                 seq: _,
                 step: _,
                 version: _,
             } => {}
-            Record::Sent { seq: _, bytes: _ } => {}
-            Record::Refused { seq: _, by: _by } => {}
+            HistoryRecord::Sent { seq: _, bytes: _ } => {}
+            HistoryRecord::Refused { seq: _, by: _by } => {}
         }
     }
 }
 
 /// Why a call was refused, as it is stored.
 #[derive(Clone, Copy)]
-pub enum Refusal {
+pub enum RecordedCause {
     /// Its graph is malformed.
     Malformed,
     /// An access policy denied it, in this version, by the rule at an index; the number of rules means the default.

@@ -3,12 +3,12 @@ use Rattle.std.proofs.Common.{◌≡◌, ℕ, ◌+◌, ◌<◌, max, zero, suc, 
 use Rattle.std.proofs.Common.{get_or, map, slice_get, All, Some, refl, ap, sym, ◌∙◌, subst, arith, get_or-drop}
 use Rattle.std.proofs.lemmas.List.{drop-drop, drop-set-lt, length-map, map_more, take_at, take_more_set}
 use Rattle.std.proofs.lemmas.List.Elements.{All-map}
-use Rattle.policy_rate.specs.Level.{BucketHappening, moment}
+use Rattle.policy_rate.specs.Level.{BucketEvent, moment}
 use Rattle.policy_rate.specs.declared.rate.Rate.{Rate as RatePolicy}
-use Rattle.engine_core.specs.Engines.{EngineParts, HasPast, clocked}
-use Rattle.engine_core.specs.Marks.{IsTrueFor, StandingCall}
+use Rattle.engine_core.specs.Engines.{EngineParts, IsHistoryOfBucket, clocked}
+use Rattle.engine_core.specs.Marks.{IsTrueFor, PendingCall}
 use Rattle.engine_core.specs.Policies.{IsPolicy}
-use Rattle.chain_upgrade.specs.Chains.{StandsOn}
+use Rattle.chain_upgrade.specs.Chains.{ArePendingOn}
 use Rattle.chain_upgrade.specs.Kept.{IsKept}
 use Rattle.chain_upgrade.proofs.KeepLaws.{short-more}
 
@@ -45,8 +45,8 @@ same-entries : (now : ℕ) (es : List EngineParts) → map (λ e. e.entry) (map 
 same-entries now [] = refl
 same-entries now (e ∷ es) = let rest = same-entries now es in cc
 
-stands-clocked : (now : ℕ) (es : List EngineParts) (n : ℕ) (calls : List StandingCall) → StandsOn es n calls
-    → StandsOn (map (λ e. clocked now e) es) n calls
+stands-clocked : (now : ℕ) (es : List EngineParts) (n : ℕ) (calls : List PendingCall) → ArePendingOn es n calls
+    → ArePendingOn (map (λ e. clocked now e) es) n calls
 stands-clocked now es n calls st = record {
   chain = rw (same-entries now es) st.chain;
   policies = All-map (λ e. IsPolicy e.entry.policy) (λ e. clocked now e) es st.policies;
@@ -56,7 +56,7 @@ stands-clocked now es n calls st = record {
   true_for = All-map (λ e. All (λ s. IsTrueFor e.entry s) calls) (λ e. clocked now e) es st.true_for;
 }
 
-pub kept-clocked : (now : ℕ) (es : List EngineParts) (room n : ℕ) (calls : List StandingCall) (cuts : List ℕ) → IsKept es room n calls cuts
+pub kept-clocked : (now : ℕ) (es : List EngineParts) (room n : ℕ) (calls : List PendingCall) (cuts : List ℕ) → IsKept es room n calls cuts
     → IsKept (map (λ e. clocked now e) es) room n calls cuts
 kept-clocked now es room n calls cuts kept = record {
   stands = stands-clocked now es n calls kept.stands;
@@ -67,8 +67,8 @@ kept-clocked now es room n calls cuts kept = record {
 
 -- ---- the past of a bucket
 
-past-clocked : (now : ℕ) (e : EngineParts) (first : RatePolicy) (start : ℕ) (past : List BucketHappening) → HasPast e first start past
-    → HasPast (clocked now e) first start (moment now ∷ past)
+past-clocked : (now : ℕ) (e : EngineParts) (first : RatePolicy) (start : ℕ) (past : List BucketEvent) → IsHistoryOfBucket e first start past
+    → IsHistoryOfBucket (clocked now e) first start (moment now ∷ past)
 past-clocked now e first start past has = record {
   policy = has.policy;
   level = rw (has.policy, has.level, has.last) refl;
@@ -76,16 +76,16 @@ past-clocked now e first start past has = record {
   paid = has.paid;
 }
 
-pub pasts-clocked : (now : ℕ) (es es' : List EngineParts) (at : ℕ) (e e' : EngineParts) (first : RatePolicy) (start : ℕ) (past : List BucketHappening)
-    → es' ≡ map (λ e. clocked now e) es → slice_get es at ≡ Some e → slice_get es' at ≡ Some e' → HasPast e first start past
-    → HasPast e' first start (moment now ∷ past)
+pub pasts-clocked : (now : ℕ) (es es' : List EngineParts) (at : ℕ) (e e' : EngineParts) (first : RatePolicy) (start : ℕ) (past : List BucketEvent)
+    → es' ≡ map (λ e. clocked now e) es → slice_get es at ≡ Some e → slice_get es' at ≡ Some e' → IsHistoryOfBucket e first start past
+    → IsHistoryOfBucket e' first start (moment now ∷ past)
 pasts-clocked now es [] at e e' first start past all is is' has = absurd cc
 pasts-clocked now [] (x' ∷ xs') at e e' first start past all is is' has = absurd cc
 pasts-clocked now (x ∷ xs) (x' ∷ xs') zero e e' first start past all is is' has =
     let old : x ≡ e = cc in
     let new : x' ≡ e' = cc in
     let moved : x' ≡ clocked now x = cc in
-    subst (λ (e' : EngineParts). HasPast e' first start (moment now ∷ past)) (ap (λ (x : EngineParts). clocked now x) (sym old) ∙ (sym moved ∙ new))
+    subst (λ (e' : EngineParts). IsHistoryOfBucket e' first start (moment now ∷ past)) (ap (λ (x : EngineParts). clocked now x) (sym old) ∙ (sym moved ∙ new))
     (past-clocked now e first start past has)
 pasts-clocked now (x ∷ xs) (x' ∷ xs') (suc at) e e' first start past all is is' has =
     let rest : xs' ≡ map (λ e. clocked now e) xs = cc in

@@ -2,7 +2,7 @@
 use Rattle.std.proofs.Common.{◌≡◌, ◌≢◌, ℕ, ◌+◌, ◌-◌, ◌<◌, ◌≤◌, zero, suc, max, min, inl, inr, List, [], ◌∷◌, ◌++◌, length, get_or, refl, arith}
 use Rattle.std.proofs.lemmas.Bool.{cases_lt}
 use Rattle.std.proofs.lemmas.Bool.Decides.{nat_tests}
-use Rattle.chain_upgrade.specs.Cuts.{position_at, cut_at, IsFalling, IsShort, zeroed, closed_up, raised, taken_out, lowered}
+use Rattle.chain_upgrade.specs.Cuts.{position_at, cut_at, IsFalling, IsShort, zeroed, closed_up, raised_at, taken_out, lowered}
 
 -- ---- positions
 
@@ -106,23 +106,23 @@ position-before k top (suc p) (c ∷ cs) falls before = elim (cases_lt k c) [
   | inr below ↦ omega (arith, under k c cs below, under k c (closed_up p cs) below)
 ]
 
-pub position-raised : (k top p : ℕ) (cs : List ℕ) → IsFalling top cs → p < length cs → k ≡ get_or cs p 0 → k < cut_at top cs p → position_at k (raised p cs) ≡ p + 1
+pub position-raised : (k top p : ℕ) (cs : List ℕ) → IsFalling top cs → p < length cs → k ≡ get_or cs p 0 → k < cut_at top cs p → position_at k (raised_at p cs) ≡ p + 1
 position-raised k top p [] falls within is below = absurd (omega arith)
 position-raised k top zero (c ∷ cs) falls within is below = omega (arith, over k (c + 1) cs (omega arith), bottom k c cs falls.1 (omega arith))
 position-raised k top (suc p) (c ∷ cs) falls within is below =
     let next = cut-next top p c cs in
     let low = cut-low c p cs falls.1 in
-    omega (arith, over k c (raised p cs) (omega arith), position-raised k c p cs falls.1 (omega arith) is (omega arith))
+    omega (arith, over k c (raised_at p cs) (omega arith), position-raised k c p cs falls.1 (omega arith) is (omega arith))
 
-pub position-unraised : (k p : ℕ) (cs : List ℕ) → k ≢ get_or cs p 0 → position_at k (raised p cs) ≡ position_at k cs
+pub position-unraised : (k p : ℕ) (cs : List ℕ) → k ≢ get_or cs p 0 → position_at k (raised_at p cs) ≡ position_at k cs
 position-unraised k p [] other = refl
 position-unraised k zero (c ∷ cs) other = elim (cases_lt k c) [
   | inl above ↦ omega (arith, over k c cs above, over k (c + 1) cs (omega arith))
   | inr below ↦ omega (arith, under k c cs below, under k (c + 1) cs (omega arith))
 ]
 position-unraised k (suc p) (c ∷ cs) other = elim (cases_lt k c) [
-  | inl above ↦ omega (arith, over k c cs above, over k c (raised p cs) above, position-unraised k p cs other)
-  | inr below ↦ omega (arith, under k c cs below, under k c (raised p cs) below)
+  | inl above ↦ omega (arith, over k c cs above, over k c (raised_at p cs) above, position-unraised k p cs other)
+  | inr below ↦ omega (arith, under k c cs below, under k c (raised_at p cs) below)
 ]
 
 pub position-front : (k j : ℕ) (cs : List ℕ) → k < j → position_at k (taken_out j cs) ≡ position_at k cs

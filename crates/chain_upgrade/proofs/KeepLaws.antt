@@ -1,7 +1,7 @@
 -- Moves preserve the invariant of cuts.
 use Rattle.std.proofs.Common.{◌≡◌, ℕ, ◌+◌, ◌-◌, ◌<◌, ◌≤◌, zero, suc, max, min, inl, inr, List, [], ◌∷◌, ◌++◌, map, get_or, refl, arith}
 use Rattle.std.proofs.lemmas.Bool.{cases_lt}
-use Rattle.chain_upgrade.specs.Cuts.{cut_at, IsFalling, IsShort, zeroed, closed_up, raised, taken_out, lowered}
+use Rattle.chain_upgrade.specs.Cuts.{cut_at, IsFalling, IsShort, zeroed, closed_up, raised_at, taken_out, lowered}
 
 pub falls-more : (low top : ℕ) (cs : List ℕ) → low ≤ top → IsFalling low cs → IsFalling top cs
 falls-more low top [] le falls = tt
@@ -25,7 +25,7 @@ falls-closed top p [] falls = tt
 falls-closed top zero (c ∷ cs) falls = falls-end top cs (falls-more c top cs falls.0 falls.1)
 falls-closed top (suc p) (c ∷ cs) falls = (falls.0, falls-closed c p cs falls.1)
 
-pub falls-raised : (top p : ℕ) (cs : List ℕ) → IsFalling top cs → get_or cs p 0 < cut_at top cs p → IsFalling top (raised p cs)
+pub falls-raised : (top p : ℕ) (cs : List ℕ) → IsFalling top cs → get_or cs p 0 < cut_at top cs p → IsFalling top (raised_at p cs)
 falls-raised top p [] falls below = tt
 falls-raised top zero (c ∷ cs) falls below = (omega arith, falls-more c (c + 1) cs (omega arith) falls.1)
 falls-raised top (suc zero) (c ∷ cs) falls below = (falls.0, falls-raised c zero cs falls.1 below)
@@ -88,7 +88,7 @@ short-closed n zero (c ∷ cs) le short = short-end n cs short
 short-closed zero (suc p) (c ∷ cs) le short = absurd (omega arith)
 short-closed (suc n) (suc p) (c ∷ cs) le short = short-closed n p cs (omega arith) short
 
-pub short-raised : (n p : ℕ) (cs : List ℕ) → p < n → IsShort n cs → IsShort n (raised p cs)
+pub short-raised : (n p : ℕ) (cs : List ℕ) → p < n → IsShort n cs → IsShort n (raised_at p cs)
 short-raised n p [] less short = tt
 short-raised zero p (c ∷ cs) less short = absurd (omega arith)
 short-raised (suc n) zero (c ∷ cs) less short = short

@@ -6,9 +6,9 @@ use Rattle.std.proofs.lemmas.Bool.{cases_eq, cases_lt}
 use Rattle.std.proofs.lemmas.Bool.Decides.{nat_tests}
 use Rattle.std.proofs.lemmas.List.{length-map}
 use Rattle.engine_core.specs.Engines.{EngineParts}
-use Rattle.engine_core.specs.Marks.{StandingCall, seqs_of}
+use Rattle.engine_core.specs.Marks.{PendingCall, seqs_of}
 use Rattle.engine_core.specs.Moves.{Row, first_at}
-use Rattle.chain_upgrade.specs.Chains.{ChainParts, IsAscending}
+use Rattle.chain_upgrade.specs.Chains.{ChainParts, AreAscending}
 use Rattle.chain_upgrade.specs.Cuts.{position_at, row_from, cut_at, IsFalling, IsShort, taken_out}
 use Rattle.chain_upgrade.proofs.CutLaws.{cut-low, position-between}
 use Rattle.chain_upgrade.proofs.Keeping.{cut-none, cut-some, same-fall, seen-of}
@@ -23,12 +23,12 @@ short-at n [] short = refl
 short-at zero (c ∷ cs) short = short.0
 short-at (suc n) (c ∷ cs) short = short-at n cs short
 
-top-same : (calls : List StandingCall) (cuts : List ℕ) (p : ℕ) → cut_at (length (seqs_of calls)) cuts p ≡ cut_at (length calls) cuts p
-top-same calls cuts p = ap (λ (top : ℕ). cut_at top cuts p) (length-map calls (λ (s : StandingCall). s.call.seq))
+top-same : (calls : List PendingCall) (cuts : List ℕ) (p : ℕ) → cut_at (length (seqs_of calls)) cuts p ≡ cut_at (length calls) cuts p
+top-same calls cuts p = ap (λ (top : ℕ). cut_at top cuts p) (length-map calls (λ (s : PendingCall). s.call.seq))
 
 -- ---- a chain with its view
 
-module _ (es : List EngineParts) (n : ℕ) (calls : List StandingCall) (cuts : List ℕ) (v : ChainParts) (seen : seen-of es n calls cuts ≡ v)
+module _ (es : List EngineParts) (n : ℕ) (calls : List PendingCall) (cuts : List ℕ) (v : ChainParts) (seen : seen-of es n calls cuts ≡ v)
     (falls : IsFalling (length calls) cuts) where
   -- the number of calls at a position or a later one, as `cut` returns it
   pub cut-is : (p : ℕ) → length (filter (λ call. nat_le p call.1) v.row) ≡ cut_at (length calls) cuts p
@@ -48,32 +48,32 @@ module _ (es : List EngineParts) (n : ℕ) (calls : List StandingCall) (cuts : L
   within-cut p j below = omega (arith, cut-low (length calls) p cuts falls)
 
   -- the call there is the first at the position
-  pub first-there : (p j : ℕ) (s : StandingCall) → j ≡ get_or cuts p 0 → j < cut_at (length calls) cuts p → slice_get calls j ≡ Some s
+  pub first-there : (p j : ℕ) (s : PendingCall) → j ≡ get_or cuts p 0 → j < cut_at (length calls) cuts p → slice_get calls j ≡ Some s
       → first_at p v.row ≡ Some (s.call.seq, p)
   first-there p j s is below there = subst (λ (v : ChainParts). first_at p v.row ≡ Some (s.call.seq, p)) seen
       (row-first j (length calls) p cuts (seqs_of calls) falls is below
-      (omega (arith, within-cut p j below, length-map calls (λ (s : StandingCall). s.call.seq)))
+      (omega (arith, within-cut p j below, length-map calls (λ (s : PendingCall). s.call.seq)))
       ∙ ap (λ (seq : ℕ). Some (seq, p)) (number-at calls j s there))
 
   -- the number and the position of a call
-  pub stands-there : (j : ℕ) (s : StandingCall) → j < length calls → slice_get calls j ≡ Some s
+  pub stands-there : (j : ℕ) (s : PendingCall) → j < length calls → slice_get calls j ≡ Some s
       → slice_get v.row j ≡ Some (s.call.seq, position_at j cuts)
   stands-there j s inside there = subst (λ (v : ChainParts). slice_get v.row j ≡ Some (s.call.seq, position_at j cuts)) seen
-      (row-at j cuts (seqs_of calls) (omega (arith, length-map calls (λ (s : StandingCall). s.call.seq)))
+      (row-at j cuts (seqs_of calls) (omega (arith, length-map calls (λ (s : PendingCall). s.call.seq)))
       ∙ ap (λ (seq : ℕ). Some (seq, position_at j cuts)) (number-at calls j s there))
 
   pub none-stands : (j : ℕ) → length calls ≤ j → slice_get v.row j ≡ None
   none-stands j past = subst (λ (v : ChainParts). slice_get v.row j ≡ None) seen
-      (row-none-at j cuts (seqs_of calls) (omega (arith, length-map calls (λ (s : StandingCall). s.call.seq))))
+      (row-none-at j cuts (seqs_of calls) (omega (arith, length-map calls (λ (s : PendingCall). s.call.seq))))
 
   -- the first call at a position comes after all calls at later ones
   pub within-seen : (p : ℕ) → get_or cuts p 0 < cut_at (length calls) cuts p → get_or cuts p 0 < length v.calls
   within-seen p below = subst (λ (v : ChainParts). get_or cuts p 0 < length v.calls) seen (within-cut p (get_or cuts p 0) below)
 
-  pub first-seen : (p : ℕ) (s : StandingCall) → get_or cuts p 0 < cut_at (length calls) cuts p → slice_get v.calls (get_or cuts p 0) ≡ Some s
+  pub first-seen : (p : ℕ) (s : PendingCall) → get_or cuts p 0 < cut_at (length calls) cuts p → slice_get v.calls (get_or cuts p 0) ≡ Some s
       → first_at p v.row ≡ Some (s.call.seq, p)
   first-seen p s below there = first-there p (get_or cuts p 0) s refl below
-      (subst (λ (xs : List StandingCall). slice_get xs (get_or cuts p 0) ≡ Some s) (sym (ap (λ (v : ChainParts). v.calls) seen)) there)
+      (subst (λ (xs : List PendingCall). slice_get xs (get_or cuts p 0) ≡ Some s) (sym (ap (λ (v : ChainParts). v.calls) seen)) there)
 
   -- for transport that is the first of all
   same-end : length v.engines ≡ length es
@@ -84,7 +84,7 @@ module _ (es : List EngineParts) (n : ℕ) (calls : List StandingCall) (cuts : L
       let many : 0 < length (filter (λ call. nat_le (length es) call.1) v.row) = subst (λ (m : ℕ). 0 < length (filter (λ call. nat_le m call.1) v.row)) same-end below in
       omega (arith, cut-is (length es))
 
-  pub head-there : (s : StandingCall) → IsShort (length es) cuts → 0 < length (filter (λ call. nat_le (length v.engines) call.1) v.row)
+  pub head-there : (s : PendingCall) → IsShort (length es) cuts → 0 < length (filter (λ call. nat_le (length v.engines) call.1) v.row)
       → slice_get calls 0 ≡ Some s → first_at (length v.engines) v.row ≡ Some (s.call.seq, length v.engines)
   head-there s short below there = subst (λ (m : ℕ). first_at m v.row ≡ Some (s.call.seq, m)) (sym same-end)
       (first-there (length es) 0 s (sym (short-at (length es) cuts short)) (head-below below) there)
@@ -111,7 +111,7 @@ none-counted n (x ∷ xs) none = elim (cases_lt x.1 n) [
 ]
 
 -- it is ready for transport, and leaves
-pub row-ready : (es : List EngineParts) (n : ℕ) (calls : List StandingCall) (cuts : List ℕ) (v : ChainParts) (s : StandingCall)
+pub row-ready : (es : List EngineParts) (n : ℕ) (calls : List PendingCall) (cuts : List ℕ) (v : ChainParts) (s : PendingCall)
     → seen-of es n calls cuts ≡ v → IsFalling (length calls) cuts → IsShort (length es) cuts → 0 < cut_at (length calls) cuts (length es)
     → slice_get calls 0 ≡ Some s
     → v.row ≡ (s.call.seq, length es) ∷ row_from 0 (taken_out 0 cuts) (seqs_of (remove calls 0))
@@ -123,17 +123,17 @@ row-ready es n (t ∷ ts) cuts v s seen falls short below there =
     subst (λ (v : ChainParts). v.row ≡ (s.call.seq, length es) ∷ row_from 0 (taken_out 0 cuts) (seqs_of ts)) seen
     (row-rest cuts t.call.seq (seqs_of ts)
     ∙ (ap (λ (q : ℕ). (t.call.seq, q) ∷ row_from 0 (taken_out 0 cuts) (seqs_of ts)) position
-    ∙ ap (λ (t : StandingCall). (t.call.seq, length es) ∷ row_from 0 (taken_out 0 cuts) (seqs_of ts)) same))
+    ∙ ap (λ (t : PendingCall). (t.call.seq, length es) ∷ row_from 0 (taken_out 0 cuts) (seqs_of ts)) same))
 
 -- ---- two calls with one number
 
-numbers-within : (calls : List StandingCall) (k : ℕ) (s : StandingCall) → k < length calls → get_or calls k s ≡ s
+numbers-within : (calls : List PendingCall) (k : ℕ) (s : PendingCall) → k < length calls → get_or calls k s ≡ s
     → get_or (seqs_of calls) k 0 ≡ s.call.seq
 numbers-within [] k s inside at = absurd (omega arith)
-numbers-within (t ∷ ts) zero s inside at = ap (λ (t : StandingCall). t.call.seq) at
+numbers-within (t ∷ ts) zero s inside at = ap (λ (t : PendingCall). t.call.seq) at
 numbers-within (t ∷ ts) (suc k) s inside at = numbers-within ts k s (omega arith) at
 
-same-there : (calls : List StandingCall) (k j : ℕ) (s t : StandingCall) → k ≡ j → k < length calls → get_or calls k s ≡ s → slice_get calls j ≡ Some t → s ≡ t
+same-there : (calls : List PendingCall) (k j : ℕ) (s t : PendingCall) → k ≡ j → k < length calls → get_or calls k s ≡ s → slice_get calls j ≡ Some t → s ≡ t
 same-there [] k j s t same inside at is = absurd (omega arith)
 same-there (u ∷ us) zero zero s t same inside at is = let there : u ≡ t = cc in sym at ∙ there
 same-there (u ∷ us) zero (suc j) s t same inside at is = absurd (omega arith)
@@ -141,12 +141,12 @@ same-there (u ∷ us) (suc k) zero s t same inside at is = absurd (omega arith)
 same-there (u ∷ us) (suc k) (suc j) s t same inside at is = same-there us k j s t (omega arith) (omega arith) at is
 
 -- they are the same call
-pub one-call : (calls : List StandingCall) (j : ℕ) (s t : StandingCall) → IsAscending (seqs_of calls) → slice_get calls j ≡ Some t
+pub one-call : (calls : List PendingCall) (j : ℕ) (s t : PendingCall) → AreAscending (seqs_of calls) → slice_get calls j ≡ Some t
     → Contains calls s → s.call.seq ≡ t.call.seq → s ≡ t
 one-call calls j s t ascends is has same = elim (cases_eq has.0 j) [
   | inl at ↦ same-there calls has.0 j s t at has.1 has.2 is
   | inr other ↦
-      let long = length-map calls (λ (s : StandingCall). s.call.seq) in
+      let long = length-map calls (λ (s : PendingCall). s.call.seq) in
       absurd (apart (seqs_of calls) has.0 j ascends other (omega (arith, has.1)) (omega (arith, inside-at calls j t is))
       (numbers-within calls has.0 s has.1 has.2 ∙ (same ∙ sym (number-at calls j t is))))
 ]

@@ -5,9 +5,9 @@ use Rattle.std.proofs.Common.{get_or, Some, None, slice_get, remove, refl, ap, s
 use Rattle.std.proofs.lemmas.Bool.{cases_lt, cases_eq}
 use Rattle.std.proofs.lemmas.Bool.Decides.{nat_tests}
 use Rattle.std.proofs.lemmas.Grind.{common_steps}
-use Rattle.engine_core.specs.Moves.{Row, first_at, back_to, moved_up, goes_on, begin_again, without_call}
-use Rattle.chain_upgrade.specs.Chains.{IsAbove, IsAscending, IsFallingFrom}
-use Rattle.chain_upgrade.specs.Cuts.{position_at, row_from, cut_at, IsFalling, zeroed, closed_up, raised, taken_out, lowered}
+use Rattle.engine_core.specs.Moves.{Row, first_at, returned_to, moved_up, advanced, restarted, without_call}
+use Rattle.chain_upgrade.specs.Chains.{AreAscendingAbove, AreAscending, IsFallingFrom}
+use Rattle.chain_upgrade.specs.Cuts.{position_at, row_from, cut_at, IsFalling, zeroed, closed_up, raised_at, taken_out, lowered}
 use Rattle.chain_upgrade.proofs.CutLaws.{bottom, position-falls, position-over, position-under, position-between}
 use Rattle.chain_upgrade.proofs.CutLaws.{position-zeroed, position-behind, position-before, position-raised}
 use Rattle.chain_upgrade.proofs.CutLaws.{position-unraised, position-front, position-back, position-kept}
@@ -15,48 +15,48 @@ use Rattle.chain_upgrade.proofs.CutLaws.{position-lowered}
 
 -- ---- numbers that ascend
 
-above-low : (low : ℕ) (seqs : List ℕ) (i : ℕ) → IsAbove low seqs → i < length seqs → low < get_or seqs i 0
+above-low : (low : ℕ) (seqs : List ℕ) (i : ℕ) → AreAscendingAbove low seqs → i < length seqs → low < get_or seqs i 0
 above-low low [] i above within = absurd (omega arith)
 above-low low (s ∷ ss) zero above within = above.0
 above-low low (s ∷ ss) (suc i) above within = omega (arith, above.0, above-low s ss i above.1 (omega arith))
 
-above-lt : (low : ℕ) (seqs : List ℕ) (i j : ℕ) → IsAbove low seqs → i < j → j < length seqs → get_or seqs i 0 < get_or seqs j 0
+above-lt : (low : ℕ) (seqs : List ℕ) (i j : ℕ) → AreAscendingAbove low seqs → i < j → j < length seqs → get_or seqs i 0 < get_or seqs j 0
 above-lt low [] i j above lt within = absurd (omega arith)
 above-lt low (s ∷ ss) zero (suc j) above lt within = above-low s ss j above.1 (omega arith)
 above-lt low (s ∷ ss) (suc i) (suc j) above lt within = above-lt s ss i j above.1 (omega arith) (omega arith)
 above-lt low (s ∷ ss) zero zero above lt within = absurd (omega arith)
 above-lt low (s ∷ ss) (suc i) zero above lt within = absurd (omega arith)
 
-above-from : (seqs : List ℕ) → IsAscending seqs → (i j : ℕ) → i < j → j < length seqs → get_or seqs i 0 < get_or seqs j 0
+above-from : (seqs : List ℕ) → AreAscending seqs → (i j : ℕ) → i < j → j < length seqs → get_or seqs i 0 < get_or seqs j 0
 above-from [] ascends i j lt within = absurd (omega arith)
 above-from (s ∷ ss) ascends zero zero lt within = absurd (omega arith)
 above-from (s ∷ ss) ascends (suc i) zero lt within = absurd (omega arith)
 above-from (s ∷ ss) ascends zero (suc j) lt within = above-low s ss j ascends (omega arith)
 above-from (s ∷ ss) ascends (suc i) (suc j) lt within = above-lt s ss i j ascends (omega arith) (omega arith)
 
-pub above-end : (low : ℕ) (seqs : List ℕ) (s : ℕ) → IsAbove low seqs → low < s → ((i : ℕ) → i < length seqs → get_or seqs i 0 < s) → IsAbove low (seqs ++ s ∷ [])
+pub above-end : (low : ℕ) (seqs : List ℕ) (s : ℕ) → AreAscendingAbove low seqs → low < s → ((i : ℕ) → i < length seqs → get_or seqs i 0 < s) → AreAscendingAbove low (seqs ++ s ∷ [])
 above-end low [] s above less all = (less, tt)
 above-end low (t ∷ ts) s above less all = (above.0, above-end t ts s above.1 (all 0 (omega arith)) (λ i within. all (suc i) (omega arith)))
 
-pub ascends-end : (seqs : List ℕ) (s : ℕ) → IsAscending seqs → ((i : ℕ) → i < length seqs → get_or seqs i 0 < s) → IsAscending (seqs ++ s ∷ [])
+pub ascends-end : (seqs : List ℕ) (s : ℕ) → AreAscending seqs → ((i : ℕ) → i < length seqs → get_or seqs i 0 < s) → AreAscending (seqs ++ s ∷ [])
 ascends-end [] s ascends all = tt
 ascends-end (t ∷ ts) s ascends all = above-end t ts s ascends (all 0 (omega arith)) (λ i within. all (suc i) (omega arith))
 
-above-more : (low below : ℕ) (seqs : List ℕ) → below ≤ low → IsAbove low seqs → IsAbove below seqs
+above-more : (low below : ℕ) (seqs : List ℕ) → below ≤ low → AreAscendingAbove low seqs → AreAscendingAbove below seqs
 above-more low below [] le above = tt
 above-more low below (s ∷ ss) le above = (omega (arith, above.0), above.1)
 
-above-without : (low : ℕ) (seqs : List ℕ) (i : ℕ) → IsAbove low seqs → IsAbove low (remove seqs i)
+above-without : (low : ℕ) (seqs : List ℕ) (i : ℕ) → AreAscendingAbove low seqs → AreAscendingAbove low (remove seqs i)
 above-without low [] zero above = tt
 above-without low [] (suc i) above = tt
 above-without low (s ∷ ss) zero above = above-more s low ss (omega (arith, above.0)) above.1
 above-without low (s ∷ ss) (suc i) above = (above.0, above-without s ss i above.1)
 
-ascends-above : (s : ℕ) (ss : List ℕ) → IsAbove s ss → IsAscending ss
+ascends-above : (s : ℕ) (ss : List ℕ) → AreAscendingAbove s ss → AreAscending ss
 ascends-above s [] above = tt
 ascends-above s (t ∷ ts) above = above.1
 
-pub ascends-without : (seqs : List ℕ) (i : ℕ) → IsAscending seqs → IsAscending (remove seqs i)
+pub ascends-without : (seqs : List ℕ) (i : ℕ) → AreAscending seqs → AreAscending (remove seqs i)
 ascends-without [] zero ascends = tt
 ascends-without [] (suc i) ascends = tt
 ascends-without (s ∷ ss) zero ascends = ascends-above s ss ascends
@@ -74,7 +74,7 @@ row-by g k cs ds (s ∷ ss) moves =
     row-by g (k + 1) cs ds ss (λ i place within is. moves (suc i) place (omega arith) (omega arith)) in
     cc
 
-pub row-back : (p : ℕ) (cs seqs : List ℕ) → row_from 0 (zeroed p cs) seqs ≡ back_to p (row_from 0 cs seqs)
+pub row-back : (p : ℕ) (cs seqs : List ℕ) → row_from 0 (zeroed p cs) seqs ≡ returned_to p (row_from 0 cs seqs)
 row-back p cs seqs = row-by (λ s q. min q p) 0 cs (zeroed p cs) seqs (λ i place within is. position-zeroed place p cs)
 
 up-behind : (p q m : ℕ) → p < q → m + 1 ≡ q → m ≡ (if nat_lt p q then q - 1 else q)
@@ -99,15 +99,15 @@ itself-on s seq q same = grind (arith, nat_tests)
 other-on : (s seq q : ℕ) → s ≢ seq → (if s == seq then q + 1 else q) ≡ q
 other-on s seq q other = grind (arith, nat_tests)
 
-pub apart : (seqs : List ℕ) (i j : ℕ) → IsAscending seqs → i ≢ j → i < length seqs → j < length seqs → get_or seqs i 0 ≢ get_or seqs j 0
+pub apart : (seqs : List ℕ) (i j : ℕ) → AreAscending seqs → i ≢ j → i < length seqs → j < length seqs → get_or seqs i 0 ≢ get_or seqs j 0
 apart seqs i j ascends other within there same = elim (cases_lt i j) [
   | inl less ↦ omega (arith, above-from seqs ascends i j less there)
   | inr more ↦ omega (arith, above-from seqs ascends j i (omega arith) within)
 ]
 
 one-on : (top p j i place : ℕ) (cs seqs : List ℕ) → IsFalling top cs → p < length cs → j ≡ get_or cs p 0 → j < cut_at top cs p
-    → j < length seqs → IsAscending seqs → i < length seqs → place ≡ i
-    → position_at place (raised p cs)
+    → j < length seqs → AreAscending seqs → i < length seqs → place ≡ i
+    → position_at place (raised_at p cs)
     ≡ (if get_or seqs i 0 == get_or seqs j 0 then position_at place cs + 1 else position_at place cs)
 one-on top p j i place cs seqs falls within is below there ascends inside at = elim (cases_eq i j) [
   | inl same ↦
@@ -128,9 +128,9 @@ one-on top p j i place cs seqs falls within is below there ascends inside at = e
 ]
 
 pub row-on : (top p j : ℕ) (cs seqs : List ℕ) → IsFalling top cs → p < length cs → j ≡ get_or cs p 0 → j < cut_at top cs p
-    → j < length seqs → IsAscending seqs → row_from 0 (raised p cs) seqs ≡ goes_on (get_or seqs j 0) (row_from 0 cs seqs)
+    → j < length seqs → AreAscending seqs → row_from 0 (raised_at p cs) seqs ≡ advanced (get_or seqs j 0) (row_from 0 cs seqs)
 row-on top p j cs seqs falls within is below there ascends =
-    row-by (λ s q. if s == get_or seqs j 0 then q + 1 else q) 0 cs (raised p cs) seqs
+    row-by (λ s q. if s == get_or seqs j 0 then q + 1 else q) 0 cs (raised_at p cs) seqs
     (λ i place inside at. one-on top p j i place cs seqs falls within is below there ascends inside (omega arith))
 
 before-again : (s seq q : ℕ) → s < seq → (if nat_lt s seq then q else 0) ≡ q
@@ -139,13 +139,13 @@ before-again s seq q less = grind (arith, nat_tests)
 behind-again : (s seq q : ℕ) → seq ≤ s → (if nat_lt s seq then q else 0) ≡ 0
 behind-again s seq q more = grind (arith, nat_tests)
 
-least : (seqs : List ℕ) (i j : ℕ) → IsAscending seqs → j ≤ i → i < length seqs → get_or seqs j 0 ≤ get_or seqs i 0
+least : (seqs : List ℕ) (i j : ℕ) → AreAscending seqs → j ≤ i → i < length seqs → get_or seqs j 0 ≤ get_or seqs i 0
 least seqs i j ascends le inside = elim (cases_lt j i) [
   | inl less ↦ omega (arith, above-from seqs ascends j i less inside)
   | inr more ↦ let same : i ≡ j = omega arith in omega (arith, ap (λ (n : ℕ). get_or seqs n 0) same)
 ]
 
-one-again : (j i place : ℕ) (cs seqs : List ℕ) → j < length seqs → IsAscending seqs → i < length seqs → place ≡ i
+one-again : (j i place : ℕ) (cs seqs : List ℕ) → j < length seqs → AreAscending seqs → i < length seqs → place ≡ i
     → position_at place (lowered j cs) ≡ (if nat_lt (get_or seqs i 0) (get_or seqs j 0) then position_at place cs else 0)
 one-again j i place cs seqs there ascends inside at = elim (cases_lt i j) [
   | inl less ↦ omega (
@@ -160,8 +160,8 @@ one-again j i place cs seqs there ascends inside at = elim (cases_lt i j) [
   )
 ]
 
-pub row-again : (j : ℕ) (cs seqs : List ℕ) → j < length seqs → IsAscending seqs
-    → row_from 0 (lowered j cs) seqs ≡ begin_again (get_or seqs j 0) (row_from 0 cs seqs)
+pub row-again : (j : ℕ) (cs seqs : List ℕ) → j < length seqs → AreAscending seqs
+    → row_from 0 (lowered j cs) seqs ≡ restarted (get_or seqs j 0) (row_from 0 cs seqs)
 row-again j cs seqs there ascends =
     row-by (λ s q. if nat_lt s (get_or seqs j 0) then q else 0) 0 cs (lowered j cs) seqs
     (λ i place inside at. one-again j i place cs seqs there ascends inside (omega arith))
@@ -201,13 +201,13 @@ unlike-below a b less = grind (arith, nat_tests, common_steps)
 alike : (a : ℕ) → not (a == a) ≡ false
 alike a = grind (arith, nat_tests, common_steps)
 
-row-kept : (seq low k : ℕ) (cs seqs : List ℕ) → seq ≤ low → IsAbove low seqs → without_call seq (row_from k cs seqs) ≡ row_from k cs seqs
+row-kept : (seq low k : ℕ) (cs seqs : List ℕ) → seq ≤ low → AreAscendingAbove low seqs → without_call seq (row_from k cs seqs) ≡ row_from k cs seqs
 row-kept seq low k cs [] le above = refl
 row-kept seq low k cs (s ∷ ss) le above =
     let here = filter-in (λ call. not (seq == call.0)) (s, position_at k cs) (row_from (k + 1) cs ss) (unlike seq s (omega (arith, above.0))) in
     here ∙ ap (λ (row : Row). (s, position_at k cs) ∷ row) (row-kept seq s (k + 1) cs ss (omega (arith, above.0)) above.1)
 
-row-less : (k j i low : ℕ) (cs seqs : List ℕ) → j ≡ k + i → i < length seqs → IsAbove low seqs
+row-less : (k j i low : ℕ) (cs seqs : List ℕ) → j ≡ k + i → i < length seqs → AreAscendingAbove low seqs
     → row_from k (taken_out j cs) (remove seqs i) ≡ without_call (get_or seqs i 0) (row_from k cs seqs)
 row-less k j i low cs [] at inside above = absurd (omega arith)
 row-less k j zero low cs (s ∷ ss) at inside above =
@@ -223,7 +223,7 @@ row-less k j (suc i) low cs (s ∷ ss) at inside above =
     ap (λ (n : ℕ). (s, n) ∷ row_from (k + 1) (taken_out j cs) (remove ss i)) front
     ∙ (ap (λ (row : Row). (s, position_at k cs) ∷ row) rest ∙ sym here)
 
-pub row-without : (j : ℕ) (cs seqs : List ℕ) → j < length seqs → IsAscending seqs
+pub row-without : (j : ℕ) (cs seqs : List ℕ) → j < length seqs → AreAscending seqs
     → row_from 0 (taken_out j cs) (remove seqs j) ≡ without_call (get_or seqs j 0) (row_from 0 cs seqs)
 row-without j cs [] inside ascends = absurd (omega arith)
 row-without zero cs (s ∷ ss) inside ascends =

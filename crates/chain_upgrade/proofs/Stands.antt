@@ -7,9 +7,9 @@ use Rattle.std.proofs.lemmas.List.Elements.{All-append, All-cons, All-drop, All-
 use Rattle.std.proofs.lemmas.Option.{slice_get-get_or}
 use Rattle.engine_core.specs.Chains.{Entry, IsChain}
 use Rattle.engine_core.specs.Engines.{EngineParts}
-use Rattle.engine_core.specs.Marks.{HasMarksUpTo, IsTrueFor, StandingCall, note_of, seqs_of}
+use Rattle.engine_core.specs.Marks.{HasMarksUpTo, IsTrueFor, PendingCall, note_of, seqs_of}
 use Rattle.engine_core.specs.Policies.{IsPolicy}
-use Rattle.chain_upgrade.specs.Chains.{StandsOn}
+use Rattle.chain_upgrade.specs.Chains.{ArePendingOn}
 use Rattle.chain_upgrade.proofs.RowLaws.{ascends-end, ascends-without}
 
 pub insert-map : {X Y : Type 0} (f : X → Y) (xs : List X) (i : ℕ) (x : X) → map f (insert xs i x) ≡ insert (map f xs) i (f x)
@@ -24,37 +24,37 @@ All-insert P xs i x all it = All-append P (take i xs) (x ∷ drop i xs) (All-tak
 All-remove : {X : Type 0} (P : X → Type 0) (xs : List X) (i : ℕ) → All P xs → All P (remove xs i)
 All-remove P xs i all = All-append P (take i xs) (drop (suc i) xs) (All-take P i xs all) (All-drop P (suc i) xs all)
 
-pub number-below : (calls : List StandingCall) (i top : ℕ) → All (λ t. t.call.seq < top) calls → i < length (seqs_of calls) → get_or (seqs_of calls) i 0 < top
+pub number-below : (calls : List PendingCall) (i top : ℕ) → All (λ t. t.call.seq < top) calls → i < length (seqs_of calls) → get_or (seqs_of calls) i 0 < top
 number-below [] i top all inside = absurd (omega arith)
 number-below (t ∷ ts) zero top all inside = All-head (λ t. t.call.seq < top) t ts all
 number-below (t ∷ ts) (suc i) top all inside = number-below ts i top (All-tail (λ t. t.call.seq < top) t ts all) (omega arith)
 
 -- ---- calls
 
-pub stands-push : (es : List EngineParts) (n : ℕ) (calls : List StandingCall) (s : StandingCall)
-    → ((e : Entry) (s : StandingCall) → note_of s.marks e.attach ≡ None → IsTrueFor e s)
-    → StandsOn es n calls → length calls < 64 → s.marks ≡ [] → All (λ t. t.call.seq < s.call.seq) calls → StandsOn es n (calls ++ s ∷ [])
+pub stands-push : (es : List EngineParts) (n : ℕ) (calls : List PendingCall) (s : PendingCall)
+    → ((e : Entry) (s : PendingCall) → note_of s.marks e.attach ≡ None → IsTrueFor e s)
+    → ArePendingOn es n calls → length calls < 64 → s.marks ≡ [] → All (λ t. t.call.seq < s.call.seq) calls → ArePendingOn es n (calls ++ s ∷ [])
 stands-push es n calls s law st few none less = record {
   chain = st.chain;
   policies = st.policies;
   few = omega (arith, length-append calls (s ∷ []));
-  ascend = rw (map-append (λ (t : StandingCall). t.call.seq) calls (s ∷ []))
+  ascend = rw (map-append (λ (t : PendingCall). t.call.seq) calls (s ∷ []))
       (ascends-end (seqs_of calls) s.call.seq st.ascend (λ i inside. number-below calls i s.call.seq less inside));
   marks = All-push (λ t. HasMarksUpTo n t) calls s st.marks (λ attach above. rw none refl);
   true_for = λ k d inside. All-push (λ t. IsTrueFor (get_or es k d).entry t) calls s (st.true_for k d inside) (law (get_or es k d).entry s (rw none refl));
 }
 
-pub stands-without : (es : List EngineParts) (n : ℕ) (calls : List StandingCall) (i : ℕ) → StandsOn es n calls → StandsOn es n (remove calls i)
+pub stands-without : (es : List EngineParts) (n : ℕ) (calls : List PendingCall) (i : ℕ) → ArePendingOn es n calls → ArePendingOn es n (remove calls i)
 stands-without es n calls i st = record {
   chain = st.chain;
   policies = st.policies;
   few = let few = st.few in omega (arith, length-append (take i calls) (drop (suc i) calls), length-take i calls, length-drop (suc i) calls);
-  ascend = rw (remove-map (λ (t : StandingCall). t.call.seq) calls i) (ascends-without (seqs_of calls) i st.ascend);
+  ascend = rw (remove-map (λ (t : PendingCall). t.call.seq) calls i) (ascends-without (seqs_of calls) i st.ascend);
   marks = All-remove (λ t. HasMarksUpTo n t) calls i st.marks;
   true_for = λ k d inside. All-remove (λ t. IsTrueFor (get_or es k d).entry t) calls i (st.true_for k d inside);
 }
 
-pub stands-cleared : (es : List EngineParts) (n : ℕ) (calls : List StandingCall) → StandsOn es n calls → StandsOn es n []
+pub stands-cleared : (es : List EngineParts) (n : ℕ) (calls : List PendingCall) → ArePendingOn es n calls → ArePendingOn es n []
 stands-cleared es n calls st = record {
   chain = st.chain;
   policies = st.policies;
@@ -66,10 +66,10 @@ stands-cleared es n calls st = record {
 
 -- ---- operations
 
-pub stands-attach : (es : List EngineParts) (n p : ℕ) (calls : List StandingCall) (e : EngineParts)
-    → ((e : Entry) (s : StandingCall) → note_of s.marks e.attach ≡ None → IsTrueFor e s)
-    → StandsOn es n calls → IsChain (record { entries = map (λ e. e.entry) (insert es p e); attached = n + 1 })
-    → IsPolicy e.entry.policy → e.entry.attach ≡ n + 1 → StandsOn (insert es p e) (n + 1) calls
+pub stands-attach : (es : List EngineParts) (n p : ℕ) (calls : List PendingCall) (e : EngineParts)
+    → ((e : Entry) (s : PendingCall) → note_of s.marks e.attach ≡ None → IsTrueFor e s)
+    → ArePendingOn es n calls → IsChain (record { entries = map (λ e. e.entry) (insert es p e); attached = n + 1 })
+    → IsPolicy e.entry.policy → e.entry.attach ≡ n + 1 → ArePendingOn (insert es p e) (n + 1) calls
 stands-attach es n p calls e law st chain policy is = record {
   chain = chain;
   policies = All-insert (λ e. IsPolicy e.entry.policy) es p e st.policies policy;
@@ -80,8 +80,8 @@ stands-attach es n p calls e law st chain policy is = record {
       (All-weaker (λ s. HasMarksUpTo n s) (λ s. IsTrueFor e.entry s) (λ s has. law e.entry s (has e.entry.attach (omega arith))) calls st.marks);
 }
 
-pub stands-detach : (es : List EngineParts) (n p : ℕ) (calls : List StandingCall) → StandsOn es n calls
-    → IsChain (record { entries = map (λ e. e.entry) (remove es p); attached = n }) → StandsOn (remove es p) n calls
+pub stands-detach : (es : List EngineParts) (n p : ℕ) (calls : List PendingCall) → ArePendingOn es n calls
+    → IsChain (record { entries = map (λ e. e.entry) (remove es p); attached = n }) → ArePendingOn (remove es p) n calls
 stands-detach es n p calls st chain = record {
   chain = chain;
   policies = All-remove (λ e. IsPolicy e.entry.policy) es p st.policies;
@@ -91,11 +91,11 @@ stands-detach es n p calls st chain = record {
   true_for = All-remove (λ e. All (λ s. IsTrueFor e.entry s) calls) es p st.true_for;
 }
 
-pub stands-upgrade : (es : List EngineParts) (n p : ℕ) (calls : List StandingCall) (e e' : EngineParts) → StandsOn es n calls
+pub stands-upgrade : (es : List EngineParts) (n p : ℕ) (calls : List PendingCall) (e e' : EngineParts) → ArePendingOn es n calls
     → slice_get es p ≡ Some e
     → IsChain (record { entries = map (λ e. e.entry) (set es p e'); attached = n }) → IsPolicy e'.entry.policy
-    → ((s : StandingCall) → IsTrueFor e.entry s → IsTrueFor e'.entry s) → All (λ s. IsTrueFor e.entry s) calls
-    → StandsOn (set es p e') n calls
+    → ((s : PendingCall) → IsTrueFor e.entry s → IsTrueFor e'.entry s) → All (λ s. IsTrueFor e.entry s) calls
+    → ArePendingOn (set es p e') n calls
 stands-upgrade es n p calls e e' st is chain policy stays true_there = record {
   chain = chain;
   policies = All-set (λ e. IsPolicy e.entry.policy) es p e' policy st.policies;
@@ -113,9 +113,9 @@ same-map f [] p x y is same = refl
 same-map f (z ∷ zs) zero x y is same = let there : z ≡ x = cc in cc
 same-map f (z ∷ zs) (suc p) x y is same = let rest = same-map f zs p x y is same in cc
 
-pub number-at : (calls : List StandingCall) (j : ℕ) (s : StandingCall) → slice_get calls j ≡ Some s → get_or (seqs_of calls) j 0 ≡ s.call.seq
+pub number-at : (calls : List PendingCall) (j : ℕ) (s : PendingCall) → slice_get calls j ≡ Some s → get_or (seqs_of calls) j 0 ≡ s.call.seq
 number-at [] j s is = absurd cc
-number-at (t ∷ ts) zero s is = let there : t ≡ s = cc in ap (λ (t : StandingCall). t.call.seq) there
+number-at (t ∷ ts) zero s is = let there : t ≡ s = cc in ap (λ (t : PendingCall). t.call.seq) there
 number-at (t ∷ ts) (suc j) s is = number-at ts j s is
 
 pub split-at : {X : Type 0} (xs : List X) (j : ℕ) (x : X) → slice_get xs j ≡ Some x → xs ≡ take j xs ++ x ∷ drop (suc j) xs

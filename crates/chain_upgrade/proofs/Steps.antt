@@ -7,9 +7,9 @@ use Rattle.std.proofs.lemmas.Slice.Eq.{bytes_eq-Decides}
 use Rattle.mrpc_table.specs.Valid.{AreDistinct}
 use Rattle.chain_upgrade.proofs.Stands.{insert-map}
 use Rattle.engine_core.specs.Policies.{is_same_kind}
-use Rattle.engine_core.specs.Chains.{IsChain, new_entry, Changes, changed, Entry, Chain, Refusal, no_such, taken}
-use Rattle.engine_core.specs.Chains.{no_place, full, other_kind, order_of, IsAgainst, detaches_none, upgrades_none}
-use Rattle.engine_core.specs.Chains.{is_taken, is_past, is_full, is_other, Refuses, names_of, upgraded, is_named}
+use Rattle.engine_core.specs.Chains.{IsChain, new_entry, HasChanged, changed, Entry, Chain, Refusal, no_such, taken}
+use Rattle.engine_core.specs.Chains.{no_place, full, other_kind, refusal_rank, IsReasonToReject, detaches_none, upgrades_none}
+use Rattle.engine_core.specs.Chains.{is_taken, is_past, is_full, is_other, IsRejection, names_of, upgraded, is_named}
 use Rattle.engine_core.specs.Engines.{EngineParts}
 use Rattle.engine_core.specs.declared.policy.Policy.{Policy}
 use Rattle.engine_core.specs.declared.op.Op.{Op}
@@ -18,21 +18,21 @@ use Rattle.engine_core.specs.declared.op.Op.TheVariants.{Attach, Detach, Upgrade
 -- ---- an attachment
 
 -- the reasons against one, by their order
-pub attach-order : (es : List Entry) (at : ℕ) (name label : List ℕ) (policy : Policy) (r : Refusal) → IsAgainst es (Attach at name label policy) r
-    → ((order_of r ≡ 2) × Contains (names_of es) name) ⊎ (((order_of r ≡ 3) × (length es < at)) ⊎ ((order_of r ≡ 4) × (8 ≤ length es)))
+pub attach-order : (es : List Entry) (at : ℕ) (name label : List ℕ) (policy : Policy) (r : Refusal) → IsReasonToReject es (Attach at name label policy) r
+    → ((refusal_rank r ≡ 2) × Contains (names_of es) name) ⊎ (((refusal_rank r ≡ 3) × (length es < at)) ⊎ ((refusal_rank r ≡ 4) × (8 ≤ length es)))
 attach-order es at name label policy r (detaches_none name' is none s) = absurd cc
 attach-order es at name label policy r (upgrades_none name' label' policy' is none s) = absurd cc
 attach-order es at name label policy r (is_taken at' name' label' policy' is has s) =
     let same : name ≡ name' = cc in
-    inl (ap order_of s, rw same has)
+    inl (ap refusal_rank s, rw same has)
 attach-order es at name label policy r (is_past at' name' label' policy' is past s) =
     let same : at ≡ at' = cc in
-    inr (inl (ap order_of s, omega arith))
-attach-order es at name label policy r (is_full at' name' label' policy' is many s) = inr (inr (ap order_of s, many))
+    inr (inl (ap refusal_rank s, omega arith))
+attach-order es at name label policy r (is_full at' name' label' policy' is many s) = inr (inr (ap refusal_rank s, many))
 attach-order es at name label policy r (is_other name' label' policy' e is there named other s) = absurd cc
 
 pub refuses-taken : (c : Chain) (at : ℕ) (name label : List ℕ) (policy : Policy) → Contains (names_of c.entries) name
-    → Refuses c (Attach at name label policy) (taken name)
+    → IsRejection c (Attach at name label policy) (taken name)
 refuses-taken c at name label policy has = record {
   against = is_taken at name label policy refl has refl;
   first = λ other less against. elim (attach-order c.entries at name label policy other against) [
@@ -42,7 +42,7 @@ refuses-taken c at name label policy has = record {
 }
 
 pub refuses-place : (c : Chain) (at : ℕ) (name label : List ℕ) (policy : Policy) → (Contains (names_of c.entries) name → ⊥) → length c.entries < at
-    → Refuses c (Attach at name label policy) (no_place at)
+    → IsRejection c (Attach at name label policy) (no_place at)
 refuses-place c at name label policy none past = record {
   against = is_past at name label policy refl past refl;
   first = λ other less against. elim (attach-order c.entries at name label policy other against) [
@@ -52,7 +52,7 @@ refuses-place c at name label policy none past = record {
 }
 
 pub refuses-full : (c : Chain) (at : ℕ) (name label : List ℕ) (policy : Policy) → (Contains (names_of c.entries) name → ⊥) → at ≤ length c.entries
-    → 8 ≤ length c.entries → Refuses c (Attach at name label policy) (full (length c.entries))
+    → 8 ≤ length c.entries → IsRejection c (Attach at name label policy) (full (length c.entries))
 refuses-full c at name label policy none within many = record {
   against = is_full at name label policy refl many refl;
   first = λ other less against. elim (attach-order c.entries at name label policy other against) [
@@ -62,7 +62,7 @@ refuses-full c at name label policy none within many = record {
 }
 
 pub free-attach : (es : List Entry) (at : ℕ) (name label : List ℕ) (policy : Policy) (r : Refusal) → (Contains (names_of es) name → ⊥) → at ≤ length es
-    → length es < 8 → IsAgainst es (Attach at name label policy) r → ⊥
+    → length es < 8 → IsReasonToReject es (Attach at name label policy) r → ⊥
 free-attach es at name label policy r none within few against = elim (attach-order es at name label policy r against) [
   | inl is ↦ none is.1
   | inr rest ↦ elim rest [ inl is ↦ omega (arith, is.1) | inr is ↦ omega (arith, is.1) ]
@@ -70,20 +70,20 @@ free-attach es at name label policy r none within few against = elim (attach-ord
 
 -- ---- an operation on the entry with a name
 
-order-least : (r : Refusal) → 1 ≤ order_of r
+order-least : (r : Refusal) → 1 ≤ refusal_rank r
 order-least (no_such name) = omega arith
 order-least (taken name) = omega arith
 order-least (no_place at) = omega arith
 order-least (full entries) = omega arith
 order-least (other_kind name) = omega arith
 
-pub refuses-detach : (c : Chain) (name : List ℕ) → (Contains (names_of c.entries) name → ⊥) → Refuses c (Detach name) (no_such name)
+pub refuses-detach : (c : Chain) (name : List ℕ) → (Contains (names_of c.entries) name → ⊥) → IsRejection c (Detach name) (no_such name)
 refuses-detach c name none = record {
   against = detaches_none name refl none refl;
   first = λ other less against. omega (arith, order-least other);
 }
 
-pub free-detach : (es : List Entry) (name : List ℕ) (r : Refusal) → Contains (names_of es) name → IsAgainst es (Detach name) r → ⊥
+pub free-detach : (es : List Entry) (name : List ℕ) (r : Refusal) → Contains (names_of es) name → IsReasonToReject es (Detach name) r → ⊥
 free-detach es name r has (detaches_none name' is none s) = let same : name ≡ name' = cc in none (rw same at has)
 free-detach es name r has (upgrades_none name' label' policy' is none s) = absurd cc
 free-detach es name r has (is_taken at' name' label' policy' is has' s) = absurd cc
@@ -92,7 +92,7 @@ free-detach es name r has (is_full at' name' label' policy' is many s) = absurd 
 free-detach es name r has (is_other name' label' policy' e is there named other s) = absurd cc
 
 pub refuses-upgrade : (c : Chain) (name label : List ℕ) (policy : Policy) → (Contains (names_of c.entries) name → ⊥)
-    → Refuses c (Upgrade name label policy) (no_such name)
+    → IsRejection c (Upgrade name label policy) (no_such name)
 refuses-upgrade c name label policy none = record {
   against = upgrades_none name label policy refl none refl;
   first = λ other less against. omega (arith, order-least other);
@@ -100,8 +100,8 @@ refuses-upgrade c name label policy none = record {
 
 -- the reason against an upgrade of an existing name: its entry is of another kind
 upgrade-other : (es : List Entry) (name label : List ℕ) (policy : Policy) (r : Refusal) → Contains (names_of es) name
-    → IsAgainst es (Upgrade name label policy) r
-    → (order_of r ≡ 5) × ((e : Entry) × Contains es e × (e.name ≡ name) × (is_same_kind e.policy policy ≡ false))
+    → IsReasonToReject es (Upgrade name label policy) r
+    → (refusal_rank r ≡ 5) × ((e : Entry) × Contains es e × (e.name ≡ name) × (is_same_kind e.policy policy ≡ false))
 upgrade-other es name label policy r has (detaches_none name' is none s) = absurd cc
 upgrade-other es name label policy r has (upgrades_none name' label' policy' is none s) = let same : name ≡ name' = cc in absurd (none (rw same at has))
 upgrade-other es name label policy r has (is_taken at' name' label' policy' is has' s) = absurd cc
@@ -110,10 +110,10 @@ upgrade-other es name label policy r has (is_full at' name' label' policy' is ma
 upgrade-other es name label policy r has (is_other name' label' policy' e is there named other s) =
     let same : name ≡ name' = cc in
     let kind : policy ≡ policy' = cc in
-    (ap order_of s, (e, there, named ∙ sym same, rw kind other))
+    (ap refusal_rank s, (e, there, named ∙ sym same, rw kind other))
 
 pub refuses-kind : (c : Chain) (name label : List ℕ) (policy : Policy) (e : Entry) → Contains (names_of c.entries) name → Contains c.entries e → e.name ≡ name
-    → is_same_kind e.policy policy ≡ false → Refuses c (Upgrade name label policy) (other_kind name)
+    → is_same_kind e.policy policy ≡ false → IsRejection c (Upgrade name label policy) (other_kind name)
 refuses-kind c name label policy e has there named other = record {
   against = is_other name label policy e refl there named other refl;
   first = λ r less against. omega (arith, (upgrade-other c.entries name label policy r has against).0);
@@ -206,7 +206,7 @@ pub one-named : (es : List Entry) (p : ℕ) (e f : Entry) → AreDistinct (names
 one-named es p e f apart is there same = one-at es p there.0 e f apart is there.1 there.2 same
 
 pub free-upgrade : (es : List Entry) (name label : List ℕ) (policy : Policy) (r : Refusal) (p : ℕ) (e : Entry) → AreDistinct (names_of es) → slice_get es p ≡ Some e
-    → e.name ≡ name → is_same_kind e.policy policy ≡ true → IsAgainst es (Upgrade name label policy) r → ⊥
+    → e.name ≡ name → is_same_kind e.policy policy ≡ true → IsReasonToReject es (Upgrade name label policy) r → ⊥
 free-upgrade es name label policy r p e apart is same kind against =
     let other = upgrade-other es name label policy r (has-name es p e name is same) against in
     let one : other.1.0 ≡ e = one-named es p e other.1.0 apart is other.1.1 (other.1.2 ∙ sym same) in
@@ -233,13 +233,13 @@ inserted-at (y ∷ ys) (suc p) x le = inserted-at ys p x (omega arith)
 
 -- an attachment
 pub attach-changes : (es : List EngineParts) (n at : ℕ) (name label : List ℕ) (policy : Policy) (e : EngineParts)
-    → ((before : Chain) (op : Op) → IsChain before → ((r : Refusal) → Refuses before op r → ⊥) → Changes before op (changed op before))
+    → ((before : Chain) (op : Op) → IsChain before → ((r : Refusal) → IsRejection before op r → ⊥) → HasChanged before op (changed op before))
     → IsChain (record { entries = map (λ e. e.entry) es; attached = n })
-    → ((r : Refusal) → IsAgainst (map (λ e. e.entry) es) (Attach at name label policy) r → ⊥) → e.entry ≡ new_entry name (n + 1) policy
-    → Changes (record { entries = map (λ e. e.entry) es; attached = n }) (Attach at name label policy)
+    → ((r : Refusal) → IsReasonToReject (map (λ e. e.entry) es) (Attach at name label policy) r → ⊥) → e.entry ≡ new_entry name (n + 1) policy
+    → HasChanged (record { entries = map (λ e. e.entry) es; attached = n }) (Attach at name label policy)
     (record { entries = map (λ e. e.entry) (insert es at e); attached = n + 1 })
 attach-changes es n at name label policy e law chain free is =
     let same : insert (map (λ e. e.entry) es) at (new_entry name (n + 1) policy) ≡ map (λ e. e.entry) (insert es at e) =
     ap (λ (x : Entry). insert (map (λ e. e.entry) es) at x) (sym is) ∙ sym (insert-map (λ (e : EngineParts). e.entry) es at e) in
-    subst (λ (entries : List Entry). Changes (record { entries = map (λ e. e.entry) es; attached = n }) (Attach at name label policy) (record { entries = entries; attached = n + 1 })) same
+    subst (λ (entries : List Entry). HasChanged (record { entries = map (λ e. e.entry) es; attached = n }) (Attach at name label policy) (record { entries = entries; attached = n + 1 })) same
     (law (record { entries = map (λ e. e.entry) es; attached = n }) (Attach at name label policy) chain (λ r refuses. free r refuses.against))

@@ -7,15 +7,15 @@ use Rattle.mrpc_table.specs.Valid.{AreDistinct}
 use Rattle.mrpc_table.specs.declared.call.Call.{Call}
 use Rattle.engine_core.specs.Chains.{Entry, attachments_of}
 use Rattle.engine_core.specs.Engines.{EngineParts}
-use Rattle.engine_core.specs.Marks.{HasMarksUpTo, IsAllowing, IsTrueFor, StandingCall, is_allowed, note_of, past_of, seqs_of}
+use Rattle.engine_core.specs.Marks.{HasMarksUpTo, IsAllowing, IsTrueFor, PendingCall, is_allowed, note_of, past_of, seqs_of}
 use Rattle.engine_core.specs.Policies.{IsPolicy}
-use Rattle.engine_core.specs.Turns.{ComesOut, form_after}
-use Rattle.engine_core.specs.Working.{LeavesCall, Works}
+use Rattle.engine_core.specs.Turns.{IsTurnOutcome, form_after}
+use Rattle.engine_core.specs.Working.{IsCallAfter, HasWorked}
 use Rattle.engine_core.specs.declared.outcome.Outcome.{Outcome}
 use Rattle.engine_core.specs.declared.outcome.Outcome.TheVariants.{Passed, Held, Refused, Redacted}
 use Rattle.engine_core.specs.declared.policy.Policy.{Policy}
 use Rattle.engine_core.specs.declared.policy.Policy.TheVariants.{Access, Rate, Quota, Count, Redact}
-use Rattle.chain_upgrade.specs.Chains.{StandsOn}
+use Rattle.chain_upgrade.specs.Chains.{ArePendingOn}
 use Rattle.chain_upgrade.proofs.Stands.{same-map}
 
 pub All-at : {X : Type 0} (P : X → Type 0) (xs : List X) (p : ℕ) (x : X) → All P xs → slice_get xs p ≡ Some x → P x
@@ -35,12 +35,12 @@ same-seq Redacted (Quota tenant per cap) call = refl
 same-seq Redacted Count call = refl
 same-seq Redacted (Redact clears) call = refl
 
-pub number-kept : (policy : Policy) (outcome : Outcome) (before after : Call) → LeavesCall policy outcome before after → after.seq ≡ before.seq
+pub number-kept : (policy : Policy) (outcome : Outcome) (before after : Call) → IsCallAfter policy outcome before after → after.seq ≡ before.seq
 number-kept policy outcome before after leaves = ap (λ (call : Call). call.seq) leaves.form ∙ same-seq outcome policy before
 
 -- ---- marks remain true
 
-true-same : (e : Entry) (s t : StandingCall) → t.call ≡ s.call → note_of t.marks e.attach ≡ note_of s.marks e.attach → IsTrueFor e s → IsTrueFor e t
+true-same : (e : Entry) (s t : PendingCall) → t.call ≡ s.call → note_of t.marks e.attach ≡ note_of s.marks e.attach → IsTrueFor e s → IsTrueFor e t
 true-same e s t calls marks holds = record {
   silent = rw marks holds.silent;
   present = λ version allowed. holds.present version (rw marks at allowed);
@@ -80,8 +80,8 @@ numbered-of (x ∷ xs) n zero e all is =
 numbered-of (x ∷ xs) n (suc p) e all is = numbered-of xs n p e (All-tail (λ attach. attach ≤ n) x.entry.attach (attachments_of (map (λ e. e.entry) xs)) all) is
 
 -- of the call that was worked on
-module _ (es : List EngineParts) (n p j moment : ℕ) (calls : List StandingCall) (outcome : Outcome) (es' : List EngineParts) (calls' : List StandingCall)
-    (st : StandsOn es n calls) (w : Works es calls p j moment outcome es' calls') where
+module _ (es : List EngineParts) (n p j moment : ℕ) (calls : List PendingCall) (outcome : Outcome) (es' : List EngineParts) (calls' : List PendingCall)
+    (st : ArePendingOn es n calls) (w : HasWorked es calls p j moment outcome es' calls') where
   true-met : (k : ℕ) (d : EngineParts) → k < length es → IsTrueFor (get_or es k d).entry w.met
   true-met k d inside = true-same (get_or es k d).entry w.call w.met w.keeps.call (w.keeps.kept k d inside)
       (All-at (λ s. IsTrueFor (get_or es k d).entry s) calls j w.call (st.true_for k d inside) w.is_call)
@@ -101,7 +101,7 @@ module _ (es : List EngineParts) (n p j moment : ℕ) (calls : List StandingCall
   same-entries = ap (λ (xs : List EngineParts). map (λ e. e.entry) xs) w.others ∙ same-map (λ (e : EngineParts). e.entry) es p w.engine w.engine' w.is_engine w.leaves_engine.entry
 
   pub same-numbers : seqs_of calls' ≡ seqs_of calls
-  same-numbers = ap seqs_of w.other_calls ∙ same-map (λ (s : StandingCall). s.call.seq) calls j w.call w.call'
+  same-numbers = ap seqs_of w.other_calls ∙ same-map (λ (s : PendingCall). s.call.seq) calls j w.call w.call'
       w.is_call (number-kept w.engine.entry.policy outcome w.call.call w.call'.call w.leaves_call)
 
   policy-left : IsPolicy w.engine'.entry.policy
@@ -113,11 +113,11 @@ module _ (es : List EngineParts) (n p j moment : ℕ) (calls : List StandingCall
   true-own : All (λ s. IsTrueFor w.engine'.entry s) calls'
   true-own = rw w.leaves_engine.entry (All-at (λ e. All (λ s. IsTrueFor e.entry s) calls') es p w.engine true-all w.is_engine)
 
-  pub stands-turn : StandsOn es' n calls'
+  pub stands-turn : ArePendingOn es' n calls'
   stands-turn = record {
     chain = rw same-entries st.chain;
     policies = rw w.others (All-set (λ e. IsPolicy e.entry.policy) es p w.engine' policy-left st.policies);
-    few = let few = st.few in omega (arith, ap (λ (xs : List StandingCall). length xs) w.other_calls, length-set calls j w.call');
+    few = let few = st.few in omega (arith, ap (λ (xs : List PendingCall). length xs) w.other_calls, length-set calls j w.call');
     ascend = rw same-numbers st.ascend;
     marks = rw w.other_calls (All-set (λ s. HasMarksUpTo n s) calls j w.call' marks-left st.marks);
     true_for = rw w.others (All-set (λ e. All (λ s. IsTrueFor e.entry s) calls') es p w.engine' true-own true-all);
@@ -129,5 +129,5 @@ module _ (es : List EngineParts) (n p j moment : ℕ) (calls : List StandingCall
   allowed-met : is_allowed w.met.marks w.engine.entry.attach w.engine.entry.version ≡ true → IsAllowing w.engine.entry.policy w.met.call
   allowed-met = (All-at (λ e. IsTrueFor e.entry w.met) es p w.engine true-met w.is_engine).allowing
 
-  pub comes-out : ComesOut w.engine.entry.policy w.engine.level moment w.call.call (past_of w.call.marks w.engine.entry.attach) outcome
+  pub comes-out : IsTurnOutcome w.engine.entry.policy w.engine.level moment w.call.call (past_of w.call.marks w.engine.entry.attach) outcome
   comes-out = rw (sym w.keeps.call, sym met-past) (w.turn.comes allowed-met)

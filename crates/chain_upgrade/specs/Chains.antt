@@ -4,11 +4,11 @@ use Rattle.engine_core.specs.Chains.{Chain, IsChain, Refusal, no_such, taken, no
 use Rattle.engine_core.specs.Engines as parts
 use Rattle.engine_core.specs.Engines.{EngineParts}
 use Rattle.engine_core.specs.declared.call_row.TheConstants.{MAX_CALLS}
-use Rattle.engine_core.specs.Marks.{HasMarksUpTo, IsTrueFor, StandingCall, past_of, seqs_of}
-use Rattle.engine_core.specs.Moves.{Row, first_at, goes_on, without_call, begin_again}
+use Rattle.engine_core.specs.Marks.{HasMarksUpTo, IsTrueFor, PendingCall, past_of, seqs_of}
+use Rattle.engine_core.specs.Moves.{Row, first_at, advanced, without_call, restarted}
 use Rattle.engine_core.specs.Policies.{IsPolicy}
-use Rattle.engine_core.specs.Turns.{ComesOut}
-use Rattle.engine_core.specs.Working.{IsTurn, KeepsMarksOf, LeavesCall, LeavesEngine, LeavesMarks}
+use Rattle.engine_core.specs.Turns.{IsTurnOutcome}
+use Rattle.engine_core.specs.Working.{IsTurn, HasKeptMarksOf, IsCallAfter, IsEngineAfter, AreMarksAfterTurn}
 use Rattle.engine_core.specs.declared.outcome.Noted.TheVariants.{Nothing}
 use Rattle.engine_core.specs.declared.outcome.Outcome.{Outcome}
 use Rattle.engine_core.specs.declared.outcome.Outcome.TheVariants as outcomes
@@ -23,22 +23,22 @@ use Rattle.chain_upgrade.specs.declared.fault.ChainFault.TheVariants.{NoSuch, Ta
 pub record ChainParts : Type 0 where
   pub engines : List EngineParts
   pub attached : ℕ
-  pub calls : List StandingCall
+  pub calls : List PendingCall
   pub row : Row
 
 -- the entries of the engines, with the number of attachments
-abbrev pub chain_of : ChainParts → Chain
-chain_of c = parts.chain_of c.engines c.attached
+abbrev pub chain_of_state : ChainParts → Chain
+chain_of_state c = parts.chain_of_engines c.engines c.attached
 
 -- numbers ascend, and all are above a number
-abbrev pub IsAbove : ℕ → List ℕ → Type 0
-IsAbove low [] = Unit {0}
-IsAbove low (number ∷ numbers) = (low < number) × IsAbove number numbers
+abbrev pub AreAscendingAbove : ℕ → List ℕ → Type 0
+AreAscendingAbove low [] = Unit {0}
+AreAscendingAbove low (number ∷ numbers) = (low < number) × AreAscendingAbove number numbers
 
 -- numbers ascend
-abbrev pub IsAscending : List ℕ → Type 0
-IsAscending [] = Unit {0}
-IsAscending (number ∷ numbers) = IsAbove number numbers
+abbrev pub AreAscending : List ℕ → Type 0
+AreAscending [] = Unit {0}
+AreAscending (number ∷ numbers) = AreAscendingAbove number numbers
 
 -- positions never rise, and all are at most this
 abbrev pub IsFallingFrom : ℕ → Row → Type 0
@@ -46,20 +46,20 @@ IsFallingFrom position [] = Unit {0}
 IsFallingFrom position (call ∷ row) = (call.1 ≤ position) × IsFallingFrom call.1 row
 
 -- these calls may be pending on these engines, after `attached` attachments
-pub record StandsOn (engines : List EngineParts) (attached : ℕ) (calls : List StandingCall) : Type 0 where
+pub record ArePendingOn (engines : List EngineParts) (attached : ℕ) (calls : List PendingCall) : Type 0 where
   -- at most eight entries, whose names and attachments are distinct
-  pub chain : IsChain (parts.chain_of engines attached)
+  pub chain : IsChain (parts.chain_of_engines engines attached)
   pub policies : All (λ e. IsPolicy e.entry.policy) engines
   -- at most 64 calls, by ascending number
   pub few : length calls ≤ MAX_CALLS
-  pub ascend : IsAscending (seqs_of calls)
+  pub ascend : AreAscending (seqs_of calls)
   -- marks are of past attachments alone, and true for each entry
   pub marks : All (λ s. HasMarksUpTo attached s) calls
   pub true_for : All (λ e. All (λ s. IsTrueFor e.entry s) calls) engines
 
 -- the invariant of chains
-pub record IsStandingChain (c : ChainParts) : Type 0 where
-  pub stands : StandsOn c.engines c.attached c.calls
+pub record IsChainState (c : ChainParts) : Type 0 where
+  pub stands : ArePendingOn c.engines c.attached c.calls
   -- the row has these calls, and no call is at a later position than one with a smaller number
   pub row : map (λ call. call.0) c.row ≡ seqs_of c.calls
   pub falls : IsFallingFrom (length c.engines) c.row
@@ -77,47 +77,47 @@ OnTurn (Redacted seq) Holds = Holds seq outcomes.Redacted
 -- The row after a turn with this outcome for the call with a number. One that passed advances, and a refused one is
 -- removed. After a redaction it starts over, with the calls of greater numbers.
 abbrev pub row_after : ℕ → Outcome → Row → Row
-row_after seq (outcomes.Passed noted) row = goes_on seq row
+row_after seq (outcomes.Passed noted) row = advanced seq row
 row_after seq (outcomes.Held level cost) row = row
 row_after seq (outcomes.Refused noted why) row = without_call seq row
-row_after seq outcomes.Redacted row = begin_again seq row
+row_after seq outcomes.Redacted row = restarted seq row
 
 -- the calls after a turn with this outcome for one of them: a refused one is removed
-abbrev pub calls_after : Outcome → List StandingCall → StandingCall → List StandingCall → List StandingCall
+abbrev pub calls_after : Outcome → List PendingCall → PendingCall → List PendingCall → List PendingCall
 calls_after (outcomes.Refused noted why) front call back = front ++ back
 calls_after _ front call back = front ++ call ∷ back
 
 -- the engine at a position has a turn with the call with a number; `call'` and `engine'` are their states afterwards
-pub record HasTurn (before : ChainParts) (position moment seq : ℕ) (outcome : Outcome)
+pub record IsEngineTurn (before : ChainParts) (position moment seq : ℕ) (outcome : Outcome)
     (after : ChainParts) : Type 0 where
   pub engine : EngineParts
   pub engine' : EngineParts
   pub is_engine : slice_get before.engines position ≡ Some engine
   pub engines : after.engines ≡ set before.engines position engine'
-  pub call : StandingCall
-  pub call' : StandingCall
+  pub call : PendingCall
+  pub call' : PendingCall
   pub number : call.call.seq ≡ seq
-  pub front : List StandingCall
-  pub back : List StandingCall
-  pub stood : before.calls ≡ front ++ call ∷ back
+  pub front : List PendingCall
+  pub back : List PendingCall
+  pub calls_before : before.calls ≡ front ++ call ∷ back
   pub calls : after.calls ≡ calls_after outcome front call' back
   -- the turn is that of an entry with the notes of the marks
-  pub comes : ComesOut engine.entry.policy engine.level moment call.call
+  pub comes : IsTurnOutcome engine.entry.policy engine.level moment call.call
       (past_of call.marks engine.entry.attach) outcome
   -- the call as the engine gets it, with its marks of the chain's engines alone
-  pub met : StandingCall
-  pub keeps : KeepsMarksOf before.engines call met
+  pub met : PendingCall
+  pub keeps : HasKeptMarksOf before.engines call met
   pub turn : IsTurn engine moment met outcome
-  pub leaves_engine : LeavesEngine outcome engine engine'
-  pub leaves_call : LeavesCall engine.entry.policy outcome call.call call'.call
-  pub leaves_marks : LeavesMarks engine.entry outcome met call'
+  pub leaves_engine : IsEngineAfter outcome engine engine'
+  pub leaves_call : IsCallAfter engine.entry.policy outcome call.call call'.call
+  pub leaves_marks : AreMarksAfterTurn engine.entry outcome met call'
 
 -- the first call at a position advances, by a turn that notes nothing
-pub record PassesUnnoted (before : ChainParts) (position : ℕ) (after : ChainParts) : Type 0 where
+pub record IsUnnotedPass (before : ChainParts) (position : ℕ) (after : ChainParts) : Type 0 where
   pub seq : ℕ
   pub first : first_at position before.row ≡ Some (seq, position)
-  pub turn : (moment : ℕ) → HasTurn before position moment seq (outcomes.Passed Nothing) after
-  pub row : after.row ≡ goes_on seq before.row
+  pub turn : (moment : ℕ) → IsEngineTurn before position moment seq (outcomes.Passed Nothing) after
+  pub row : after.row ≡ advanced seq before.row
   pub attached : after.attached ≡ before.attached
 
 -- ---- faults

@@ -45,8 +45,8 @@ closed_up zero (cut ∷ cuts) = cuts ++ 0 ∷ []
 closed_up (suc position) (cut ∷ cuts) = cut ∷ closed_up position cuts
 
 -- the first call at a position advances
-abbrev pub raised : ℕ → List ℕ → List ℕ
-raised position cuts = set cuts position (slice_index cuts position + 1)
+abbrev pub raised_at : ℕ → List ℕ → List ℕ
+raised_at position cuts = set cuts position (slice_index cuts position + 1)
 
 -- the call at an index leaves the row: cuts above the index fall by one
 abbrev pub taken_out : ℕ → List ℕ → List ℕ

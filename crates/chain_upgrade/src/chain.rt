@@ -10,8 +10,9 @@ use crate::cuts::{Cuts, without};
 use crate::fault::{ChainFault, PushFault};
 use crate::turned::Turned;
 use engine_core::{
-    CallRow, Engine, MAX_CALLS, MAX_ENGINES, Noted, Outcome, Policy, Standing, change_is_changed,
-    clock_all, place_of, put, stays_chain, unmarked_is_true,
+    CallRow, Engine, MAX_CALLS, MAX_ENGINES, Noted, Outcome, Policy, Standing,
+    change_preserves_chain, changed_is_the_change, clock_all, insert_within_capacity, position_of,
+    unmarked_is_true,
 };
 use mrpc_base::Tickets;
 use mrpc_table::{Memory, Name, Table};
@@ -35,7 +36,7 @@ impl Model for Chain {
     ghost use Rattle.engine_core.specs.Marks.{seqs_of};
     ghost use Rattle.chain_upgrade.specs.Chains.{ChainParts};
     ghost use Rattle.chain_upgrade.specs.Cuts.{row_from};
-    ghost use Rattle.chain_upgrade.specs.Kept.{RestHasOnlyMarksOf, IsKept};
+    ghost use Rattle.chain_upgrade.specs.Kept.{HasOnlyMarksInSuffix, IsKept};
 
     ghost Value = { ChainParts };
 
@@ -52,25 +53,25 @@ impl Model for Chain {
     } };
 
     ghost invariant = { λ c. IsKept c.engines.items (vec_capacity c.engines) c.attached c.row c.cuts.behind
-        × RestHasOnlyMarksOf c.engines.items c.stale c.row };
+        × HasOnlyMarksInSuffix c.engines.items c.stale c.row };
 }
 
 impl Chain {
     ghost use Rattle.policy_rate.specs.declared.rate.Rate.{Rate as RatePolicy};
-    ghost use Rattle.policy_rate.specs.Level.{BucketHappening, moment, upgrade};
+    ghost use Rattle.policy_rate.specs.Level.{BucketEvent, moment, upgrade};
     ghost use Rattle.engine_core.specs.declared.call_row.TheConstants.{MAX_CALLS};
-    ghost use Rattle.engine_core.specs.Answers.{Answers, hold};
-    ghost use Rattle.engine_core.specs.Chains.{Changes, Refuses, new_entry, upgraded};
-    ghost use Rattle.engine_core.specs.Engines.{EngineParts, HasPast, clocked};
-    ghost use Rattle.engine_core.specs.Marks.{StandingCall, past_of};
-    ghost use Rattle.engine_core.specs.Moves.{back_to, first_at, moved_up, place_of as place_in};
-    ghost use Rattle.engine_core.specs.Policies.{IsPolicy, KnowsTenantOf, first_level, level_under};
+    ghost use Rattle.engine_core.specs.Answers.{IsEntryAnswer, hold};
+    ghost use Rattle.engine_core.specs.Chains.{HasChanged, IsRejection, new_entry, upgraded};
+    ghost use Rattle.engine_core.specs.Engines.{EngineParts, IsHistoryOfBucket, clocked};
+    ghost use Rattle.engine_core.specs.Marks.{PendingCall, past_of};
+    ghost use Rattle.engine_core.specs.Moves.{returned_to, first_at, moved_up, position_of as place_in};
+    ghost use Rattle.engine_core.specs.Policies.{IsPolicy, KnowsTenantOf, initial_level, level_after_upgrade};
     ghost use Rattle.engine_core.specs.Turns.{noted_in};
     ghost use Rattle.engine_core.specs.declared.outcome.Noted.TheVariants.{Nothing};
     ghost use Rattle.engine_core.specs.declared.outcome.Outcome.TheVariants.{Passed};
-    ghost use Rattle.engine_core.specs.Working.{LeavesTickets, Works};
-    ghost use Rattle.chain_upgrade.specs.Kept.{calls_left};
-    ghost use Rattle.chain_upgrade.specs.Chains.{HasTurn, IsStandingChain, OnTurn, PassesUnnoted, chain_of, refusal_in, row_after};
+    ghost use Rattle.engine_core.specs.Working.{AreTicketsAfterTurn, HasWorked};
+    ghost use Rattle.chain_upgrade.specs.Kept.{remaining_calls};
+    ghost use Rattle.chain_upgrade.specs.Chains.{IsEngineTurn, IsChainState, OnTurn, IsUnnotedPass, chain_of_state, refusal_in, row_after};
 
     /// A chain without engines and without calls. It allocates room for all of them, so no later call of a chain
     /// allocates.
@@ -87,8 +88,8 @@ impl Chain {
     }
 
     /// A law; the function has no effect. The invariant of chains.
-    pub fn is_chain(&self)
-        ensures { IsStandingChain self.now }
+    pub fn is_chain_state(&self)
+        ensures { IsChainState self.now }
     {
         let _ = &self.cuts;
     }
@@ -171,7 +172,7 @@ impl Chain {
         if self.cut(self.engines()) == 0 {
             return None;
         }
-        self.cuts.take_out(0);
+        self.cuts.remove_call(0);
         self.stale = without(self.stale, 0);
         Some(self.row.take(0))
     }
@@ -206,17 +207,17 @@ impl Chain {
     /// The level and the cost for which the engine at a position holds the first call there, or `None`.
     pub fn held(&self, at: u32) -> Option<(u64, u64)>
         requires { at < length self.now.engines }
-        ensures holds { IfSome result (λ h. (e : EngineParts) (s : StandingCall) (moment : ℕ)
+        ensures holds { IfSome result (λ h. (e : EngineParts) (s : PendingCall) (moment : ℕ)
             → slice_get self.now.engines at ≡ Some e → first_at at self.now.row ≡ Some (s.call.seq, at)
             → Contains self.now.calls s
-            → Answers e.entry.policy e.level moment s.call (past_of s.marks e.entry.attach) (hold h.0 h.1)) }
+            → IsEntryAnswer e.entry.policy e.level moment s.call (past_of s.marks e.entry.attach) (hold h.0 h.1)) }
         ensures stands { IfSome result (λ _. first_at at self.now.row ≡ None → ⊥) }
-        ensures none { IfNone result ((e : EngineParts) (s : StandingCall) (moment level cost : ℕ)
+        ensures none { IfNone result ((e : EngineParts) (s : PendingCall) (moment level cost : ℕ)
             → slice_get self.now.engines at ≡ Some e → first_at at self.now.row ≡ Some (s.call.seq, at)
             → Contains self.now.calls s
-            → Answers e.entry.policy e.level moment s.call (past_of s.marks e.entry.attach) (hold level cost) → ⊥) }
+            → IsEntryAnswer e.entry.policy e.level moment s.call (past_of s.marks e.entry.attach) (hold level cost) → ⊥) }
     {
-        let place = self.first_place(at)?;
+        let place = self.first_index(at)?;
         self.engines[at as usize].held(self.row.at(place as usize))
     }
 
@@ -224,9 +225,9 @@ impl Chain {
     pub fn clock(&mut self, now: u64)
         ensures engines { self.new.engines ≡ map (λ e. clocked now e) self.old.engines }
         ensures past { (at : ℕ) (before after : EngineParts) (first : RatePolicy) (start : ℕ)
-            (past : List BucketHappening)
+            (past : List BucketEvent)
             → slice_get self.old.engines at ≡ Some before → slice_get self.new.engines at ≡ Some after
-            → HasPast before first start past → HasPast after first start (moment now ∷ past) }
+            → IsHistoryOfBucket before first start past → IsHistoryOfBucket after first start (moment now ∷ past) }
         ensures attached { self.new.attached ≡ self.old.attached }
         ensures calls { self.new.calls ≡ self.old.calls }
         ensures row { self.new.row ≡ self.old.row }
@@ -248,51 +249,51 @@ impl Chain {
         requires ranges { IsPolicy policy }
         requires number { self.old.attached + 1 < 2 ^ 32 }
         ensures refused { IfErr result (λ fault. (label : List ℕ) → IsSomeAnd (refusal_in fault) (λ refusal.
-            Refuses (chain_of self.old) (Op.Attach at name label policy) refusal)) }
+            IsRejection (chain_of_state self.old) (Op.Attach at name label policy) refusal)) }
         ensures as_before { OnErr result (self.new ≡ self.old) }
         ensures changes { OnOk result ((label : List ℕ)
-            → Changes (chain_of self.old) (Op.Attach at name label policy) (chain_of self.new)) }
+            → HasChanged (chain_of_state self.old) (Op.Attach at name label policy) (chain_of_state self.new)) }
         ensures engines { OnOk result (self.new.engines ≡ insert self.old.engines at (record {
           entry = new_entry name (self.old.attached + 1) policy;
-          level = first_level policy;
+          level = initial_level policy;
           last = now;
         })) }
         ensures past { OnOk result ((e : EngineParts) (rate : RatePolicy) → slice_get self.new.engines at ≡ Some e
-            → policy ≡ Policy.Rate rate → HasPast e rate now []) }
+            → policy ≡ Policy.Rate rate → IsHistoryOfBucket e rate now []) }
         ensures attached { OnOk result (self.new.attached ≡ self.old.attached + 1) }
         ensures calls { self.new.calls ≡ self.old.calls }
-        ensures row { OnOk result (self.new.row ≡ back_to at self.old.row) }
+        ensures row { OnOk result (self.new.row ≡ returned_to at self.old.row) }
     {
         unmarked_is_true();
-        change_is_changed();
-        stays_chain();
+        changed_is_the_change();
+        change_preserves_chain();
         let name = may_attach(&self.engines, at, name)?;
         let attached = self.attached + 1;
-        put(
+        insert_within_capacity(
             &mut self.engines,
             at as usize,
             Engine::new(name, attached, policy, now),
         );
         self.attached = attached;
-        self.cuts.zero_behind(at as usize);
+        self.cuts.zero_after(at as usize);
         Ok(())
     }
 
     /// Detaches the policy with a name. Calls past it move up by one.
     pub fn detach(&mut self, name: Name) -> Result<(), ChainFault>
         ensures refused { IfErr result (λ fault. IsSomeAnd (refusal_in fault) (λ refusal.
-            Refuses (chain_of self.old) (Op.Detach name) refusal)) }
+            IsRejection (chain_of_state self.old) (Op.Detach name) refusal)) }
         ensures as_before { OnErr result (self.new ≡ self.old) }
-        ensures changes { OnOk result (Changes (chain_of self.old) (Op.Detach name) (chain_of self.new)) }
+        ensures changes { OnOk result (HasChanged (chain_of_state self.old) (Op.Detach name) (chain_of_state self.new)) }
         ensures engines { OnOk result
-            (self.new.engines ≡ remove self.old.engines (place_in name (chain_of self.old).entries)) }
+            (self.new.engines ≡ remove self.old.engines (place_in name (chain_of_state self.old).entries)) }
         ensures attached { self.new.attached ≡ self.old.attached }
         ensures calls { self.new.calls ≡ self.old.calls }
-        ensures row { OnOk result (self.new.row ≡ moved_up (place_in name (chain_of self.old).entries) self.old.row) }
+        ensures row { OnOk result (self.new.row ≡ moved_up (place_in name (chain_of_state self.old).entries) self.old.row) }
     {
-        change_is_changed();
-        stays_chain();
-        let Some(place) = place_of(&self.engines, &name) else {
+        changed_is_the_change();
+        change_preserves_chain();
+        let Some(place) = position_of(&self.engines, &name) else {
             return Err(ChainFault::NoSuch { name });
         };
         let _ = self.engines.remove(place);
@@ -307,38 +308,38 @@ impl Chain {
         requires ranges { IsPolicy policy }
         requires number { All (λ e. e.entry.version + 1 < 2 ^ 32) self.old.engines }
         ensures refused { IfErr result (λ fault. (label : List ℕ) → IsSomeAnd (refusal_in fault) (λ refusal.
-            Refuses (chain_of self.old) (Op.Upgrade name label policy) refusal)) }
+            IsRejection (chain_of_state self.old) (Op.Upgrade name label policy) refusal)) }
         ensures as_before { OnErr result (self.new ≡ self.old) }
         ensures changes { OnOk result ((label : List ℕ)
-            → Changes (chain_of self.old) (Op.Upgrade name label policy) (chain_of self.new)) }
+            → HasChanged (chain_of_state self.old) (Op.Upgrade name label policy) (chain_of_state self.new)) }
         ensures engines { OnOk result ((e : EngineParts)
-            → slice_get self.old.engines (place_in name (chain_of self.old).entries) ≡ Some e
-            → self.new.engines ≡ set self.old.engines (place_in name (chain_of self.old).entries) (record {
+            → slice_get self.old.engines (place_in name (chain_of_state self.old).entries) ≡ Some e
+            → self.new.engines ≡ set self.old.engines (place_in name (chain_of_state self.old).entries) (record {
               entry = upgraded e.entry policy;
-              level = level_under e.entry.policy policy e.level;
+              level = level_after_upgrade e.entry.policy policy e.level;
               last = e.last;
             })) }
         ensures past { OnOk result ((before after : EngineParts) (first rate : RatePolicy) (start : ℕ)
-            (past : List BucketHappening)
-            → slice_get self.old.engines (place_in name (chain_of self.old).entries) ≡ Some before
-            → slice_get self.new.engines (place_in name (chain_of self.old).entries) ≡ Some after
-            → policy ≡ Policy.Rate rate → HasPast before first start past
-            → HasPast after first start (upgrade rate ∷ past)) }
+            (past : List BucketEvent)
+            → slice_get self.old.engines (place_in name (chain_of_state self.old).entries) ≡ Some before
+            → slice_get self.new.engines (place_in name (chain_of_state self.old).entries) ≡ Some after
+            → policy ≡ Policy.Rate rate → IsHistoryOfBucket before first start past
+            → IsHistoryOfBucket after first start (upgrade rate ∷ past)) }
         ensures attached { self.new.attached ≡ self.old.attached }
         ensures calls { self.new.calls ≡ self.old.calls }
-        ensures row { OnOk result (self.new.row ≡ back_to (place_in name (chain_of self.old).entries) self.old.row) }
+        ensures row { OnOk result (self.new.row ≡ returned_to (place_in name (chain_of_state self.old).entries) self.old.row) }
     {
-        change_is_changed();
-        stays_chain();
-        let Some(place) = place_of(&self.engines, &name) else {
+        changed_is_the_change();
+        change_preserves_chain();
+        let Some(place) = position_of(&self.engines, &name) else {
             return Err(ChainFault::NoSuch { name });
         };
         if !self.engines[place].policy().is_same_kind(&policy) {
             return Err(ChainFault::OtherKind { name });
         }
         let state = self.engines.remove(place).decompose();
-        put(&mut self.engines, place, Engine::restore(policy, state));
-        self.cuts.zero_behind(place);
+        insert_within_capacity(&mut self.engines, place, Engine::restore(policy, state));
+        self.cuts.zero_after(place);
         Ok(())
     }
 
@@ -351,13 +352,13 @@ impl Chain {
     pub fn pass_unnoted(&mut self, at: u32, table: &Table) -> bool
         requires at { at < length self.old.engines }
         requires calls { All (λ s. IsCallOf table.now s.call) self.old.calls }
-        ensures passed { OnTrue result (PassesUnnoted self.old at self.new) }
+        ensures passed { OnTrue result (IsUnnotedPass self.old at self.new) }
         ensures as_before { OnFalse result (self.new ≡ self.old) }
     {
-        let Some(place) = self.first_place(at) else {
+        let Some(place) = self.first_index(at) else {
             return false;
         };
-        self.is_chain();
+        self.is_chain_state();
         if !self.passes_unnoted(place, at, table) {
             return false;
         }
@@ -374,30 +375,30 @@ impl Chain {
         ensures idle { (result ≡ Turned.Idle) ↔ (first_at at self.old.row ≡ None) }
         ensures as_before { result ≡ Turned.Idle → (self.new ≡ self.old) × (tickets.new ≡ tickets.old) }
         ensures first { OnTurn result (λ seq outcome. first_at at self.old.row ≡ Some (seq, at)) }
-        ensures turn { OnTurn result (λ seq outcome. HasTurn self.old at now seq outcome self.new) }
+        ensures turn { OnTurn result (λ seq outcome. IsEngineTurn self.old at now seq outcome self.new) }
         ensures row { OnTurn result (λ seq outcome. self.new.row ≡ row_after seq outcome self.old.row) }
         ensures attached { self.new.attached ≡ self.old.attached }
         ensures tickets { OnTurn result (λ seq outcome. (e : EngineParts) → slice_get self.old.engines at ≡ Some e
-            → LeavesTickets Q.knows Q.drawn Q.since e.entry.policy (noted_in outcome) tickets.old tickets.new) }
+            → AreTicketsAfterTurn Q.knows Q.drawn Q.since e.entry.policy (noted_in outcome) tickets.old tickets.new) }
     {
-        let Some(place) = self.first_place(at) else {
+        let Some(place) = self.first_index(at) else {
             return Turned::Idle;
         };
-        self.is_chain();
+        self.is_chain_state();
         let seq = self.row.at(place as usize).call().seq;
         let outcome = self.work(place, at, table, now, tickets);
         self.settle(place, at, outcome);
-        Turned::told(seq, outcome)
+        Turned::turned_as(seq, outcome)
     }
 
     // The index of the first call at a position, if there is one: after all calls at later positions.
-    fn first_place(&self, at: u32) -> Option<u32>
+    fn first_index(&self, at: u32) -> Option<u32>
         requires { at < length self.now.engines }
         ensures none { IfNone result (first_at at self.now.row ≡ None) }
         ensures place { IfSome result (λ place. place ≡ length (filter (λ call. nat_le (at + 1) call.1) self.now.row)) }
         ensures below { IfSome result (λ place. place < length (filter (λ call. nat_le at call.1) self.now.row)) }
         ensures within { IfSome result (λ place. place < length self.now.calls) }
-        ensures first { IfSome result (λ place. (s : StandingCall) → slice_get self.now.calls place ≡ Some s
+        ensures first { IfSome result (λ place. (s : PendingCall) → slice_get self.now.calls place ≡ Some s
             → first_at at self.now.row ≡ Some (s.call.seq, at)) }
     {
         let place = self.cuts.behind[at as usize];
@@ -413,7 +414,7 @@ impl Chain {
         requires place { place < length self.old.calls }
         requires at { at < length self.old.engines }
         requires calls { All (λ s. IsCallOf table.now s.call) self.old.calls }
-        ensures works { OnTrue result ((moment : ℕ) → Works self.old.engines self.old.calls at place moment
+        ensures works { OnTrue result ((moment : ℕ) → HasWorked self.old.engines self.old.calls at place moment
             (Passed Nothing) self.new.engines self.new.calls) }
         ensures as_before { OnFalse result (self.new ≡ self.old) }
         ensures attached { self.new.attached ≡ self.old.attached }
@@ -440,11 +441,11 @@ impl Chain {
         requires at { at < length self.old.engines }
         requires calls { All (λ s. IsCallOf table.now s.call) self.old.calls }
         requires known { All (λ e. KnowsTenantOf (Q.knows tickets.old) e.entry.policy) self.old.engines }
-        ensures works { Works self.old.engines self.old.calls at place now result self.new.engines self.new.calls }
+        ensures works { HasWorked self.old.engines self.old.calls at place now result self.new.engines self.new.calls }
         ensures attached { self.new.attached ≡ self.old.attached }
         ensures row { self.new.row ≡ self.old.row }
         ensures tickets { (e : EngineParts) → slice_get self.old.engines at ≡ Some e
-            → LeavesTickets Q.knows Q.drawn Q.since e.entry.policy (noted_in result) tickets.old tickets.new }
+            → AreTicketsAfterTurn Q.knows Q.drawn Q.since e.entry.policy (noted_in result) tickets.old tickets.new }
     {
         let alone = place >= self.stale;
         self.row.work(
@@ -463,9 +464,9 @@ impl Chain {
         requires at { at < length self.old.engines }
         requires place { place ≡ length (filter (λ call. nat_le (at + 1) call.1) self.old.row) }
         requires below { place < length (filter (λ call. nat_le at call.1) self.old.row) }
-        ensures row { (s : StandingCall) → slice_get self.old.calls place ≡ Some s
+        ensures row { (s : PendingCall) → slice_get self.old.calls place ≡ Some s
             → self.new.row ≡ row_after s.call.seq outcome self.old.row }
-        ensures calls { self.new.calls ≡ calls_left outcome place self.old.calls }
+        ensures calls { self.new.calls ≡ remaining_calls outcome place self.old.calls }
         ensures engines { self.new.engines ≡ self.old.engines }
         ensures attached { self.new.attached ≡ self.old.attached }
     {
@@ -473,7 +474,7 @@ impl Chain {
             Outcome::Passed(_) => self.cuts.raise(at as usize),
             Outcome::Held { .. } => {}
             Outcome::Refused(..) => {
-                self.cuts.take_out(place);
+                self.cuts.remove_call(place);
                 self.stale = without(self.stale, place);
                 self.row.drop_at(place as usize);
             }

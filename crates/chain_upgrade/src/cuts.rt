@@ -1,7 +1,7 @@
 //! The positions of the calls of a row: nine cuts instead of a queue for each engine.
 
 ghost use Rattle.std.specs.Prelude.{◌≡◌, ◌-◌, ◌<◌, ◌≤◌, length, max, min, replicate, slice_index};
-ghost use Rattle.chain_upgrade.specs.Cuts.{position_at, zeroed, closed_up, raised, taken_out, lowered};
+ghost use Rattle.chain_upgrade.specs.Cuts.{position_at, zeroed, closed_up, raised_at, taken_out, lowered};
 
 use engine_core::MAX_ENGINES;
 
@@ -37,7 +37,7 @@ impl Cuts {
     }
 
     // All calls past a position return to it.
-    pub(crate) fn zero_behind(&mut self, at: usize)
+    pub(crate) fn zero_after(&mut self, at: usize)
         requires { at ≤ 8 }
         ensures { self.new.behind ≡ zeroed at self.old.behind }
     {
@@ -57,14 +57,14 @@ impl Cuts {
     pub(crate) fn raise(&mut self, at: usize)
         requires at { at < 8 }
         requires room { slice_index self.old.behind at < 64 }
-        ensures raised { self.new.behind ≡ raised at self.old.behind }
+        ensures raised { self.new.behind ≡ raised_at at self.old.behind }
         ensures within { at < length self.old.behind }
     {
         self.behind[at] += 1;
     }
 
     // The call at an index leaves the row.
-    pub(crate) fn take_out(&mut self, place: u32)
+    pub(crate) fn remove_call(&mut self, place: u32)
         ensures { self.new.behind ≡ taken_out place self.old.behind }
     {
         for cut in self.behind.iter_mut() {

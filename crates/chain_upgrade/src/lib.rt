@@ -5,7 +5,7 @@
 //! one with a smaller number. `specs/Chains.antt` defines the chain as contracts see it. The crate depends on
 //! `engine_core` for engines and their policies, on `policy_rate` for the levels of rates, on `mrpc_base` for the
 //! tickets of quotas, and on `mrpc_table` for names and tables. The layers above use one contract: the invariant of
-//! chains (`IsStandingChain`).
+//! chains (`IsChainState`).
 #![tactic(auto)]
 
 mod attaching;

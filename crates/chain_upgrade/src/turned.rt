@@ -23,7 +23,7 @@ impl Turned {
     ghost use Rattle.chain_upgrade.specs.Kept.{turned_as};
 
     // The result of an outcome for the call with a number.
-    pub(crate) fn told(seq: u32, outcome: Outcome) -> Turned
+    pub(crate) fn turned_as(seq: u32, outcome: Outcome) -> Turned
         ensures { result ≡ turned_as seq outcome }
     {
         match outcome {

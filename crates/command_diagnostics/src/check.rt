@@ -1,17 +1,17 @@
 //! The faults of a proto file.
 
 ghost use Rattle.std.specs.Prelude.{List, ℕ, ◌≡◌, ◌<◌, ◌^◌, length, IfOk};
-ghost use Rattle.diagnostics.specs.Findings.{PointsInto};
-ghost use Rattle.diagnostics.specs.Said.{IsTextOf};
-ghost use Rattle.proto_schema.specs.Faults.{IsFaultOf, IsTextOf as IsTextOfFile};
+ghost use Rattle.diagnostics.specs.Locations.{IsLocatedIn};
+ghost use Rattle.diagnostics.specs.Diagnostics.{IsSourceOf};
+ghost use Rattle.proto_schema.specs.Faults.{IsFaultOf, IsProtoTextOf as IsTextOfFile};
 ghost use Rattle.proto_grammar.specs.declared.fault.ProtoFault.TheVariants.{At};
 
 use crate::commands::only;
 use crate::expected::say_expected;
 use crate::fault_line::FaultLine;
-use crate::offence::found_offence;
 use crate::set::explain_set;
-use diagnostics::{Around, Finding, Part, Sentence};
+use crate::violations::violation_diagnostic;
+use diagnostics::{Diagnostic, DiagnosticText, QuotedPhrase, SourceSpan};
 use mrpc_table::Memory;
 use proto_ast::{File, Span};
 use proto_grammar::{ProtoFault, ProtoReason};
@@ -28,9 +28,9 @@ pub(crate) fn explain_check<'a>(
     alloc: Global,
     input: &'a [u8],
     fault: &FaultLine<'_>,
-    front: &mut Sentence,
-) -> Result<Finding<'a>, Memory>
-    ensures { IfOk result (λ f. PointsInto input.now f.part) }
+    front: &mut DiagnosticText,
+) -> Result<Diagnostic<'a>, Memory>
+    ensures { IfOk result (λ f. IsLocatedIn input.now f.part) }
 {
     if input.len() > TOO_LONG {
         return only(alloc, b"the input has a fault");
@@ -43,9 +43,9 @@ pub(crate) fn explain_check<'a>(
 }
 
 // The fault of a single file.
-fn explain_file<'a>(alloc: Global, text: &'a [u8]) -> Result<Finding<'a>, Memory>
+fn explain_file<'a>(alloc: Global, text: &'a [u8]) -> Result<Diagnostic<'a>, Memory>
     requires short { length text.now < 2 ^ 62 }
-    ensures { IfOk result (λ f. PointsInto text.now f.part) }
+    ensures { IfOk result (λ f. IsLocatedIn text.now f.part) }
 {
     match read_proto(alloc, text) {
         Ok(file) => explain_resolved(alloc, text, &file),
@@ -56,15 +56,19 @@ fn explain_file<'a>(alloc: Global, text: &'a [u8]) -> Result<Finding<'a>, Memory
                 end,
                 ..
             },
-        ) => found_token(alloc, text, reason, start, end),
+        ) => token_diagnostic(alloc, text, reason, start, end),
         Err(ProtoFault::Memory) => Err(Memory),
     }
 }
 
 // The fault of the names and numbers of a file that was read.
-fn explain_resolved<'a>(alloc: Global, text: &'a [u8], file: &File) -> Result<Finding<'a>, Memory>
+fn explain_resolved<'a>(
+    alloc: Global,
+    text: &'a [u8],
+    file: &File,
+) -> Result<Diagnostic<'a>, Memory>
     requires read { IsTextOfFile text.now file.now }
-    ensures { IfOk result (λ f. PointsInto text.now f.part) }
+    ensures { IfOk result (λ f. IsLocatedIn text.now f.part) }
 {
     alone_is_ordered();
     match resolve(alloc, file) {
@@ -75,28 +79,28 @@ fn explain_resolved<'a>(alloc: Global, text: &'a [u8], file: &File) -> Result<Fi
                 end,
                 line,
             },
-        ) => found_offence(alloc, text, file, reason, Span { start, end, line }),
+        ) => violation_diagnostic(alloc, text, file, reason, Span { start, end, line }),
         Err(ResolveFault::Memory) => Err(Memory),
         Ok(_) => only(alloc, b"the input has a fault"),
     }
 }
 
 // What is wrong with the first token at fault of a text.
-pub(crate) fn found_token<'a>(
+pub(crate) fn token_diagnostic<'a>(
     alloc: Global,
     text: &'a [u8],
     reason: ProtoReason,
     start: usize,
     end: usize,
-) -> Result<Finding<'a>, Memory>
-    ensures { (input : List ℕ) (line : ℕ) → IsTextOf input text.now → IsFaultOf text.now (At reason start end line)
-        → IfOk result (λ f. PointsInto input f.part) }
+) -> Result<Diagnostic<'a>, Memory>
+    ensures { (input : List ℕ) (line : ℕ) → IsSourceOf input text.now → IsFaultOf text.now (At reason start end line)
+        → IfOk result (λ f. IsLocatedIn input f.part) }
 {
-    let mut sentence = Sentence::new(alloc);
+    let mut sentence = DiagnosticText::new(alloc);
     say_token(alloc, text, reason, start, end, &mut sentence)?;
-    Ok(Finding {
+    Ok(Diagnostic {
         sentence,
-        part: Some(Part::of(text, start, end)),
+        part: Some(SourceSpan::of(text, start, end)),
     })
 }
 
@@ -106,38 +110,38 @@ fn say_token(
     reason: ProtoReason,
     start: usize,
     end: usize,
-    sentence: &mut Sentence,
+    sentence: &mut DiagnosticText,
 ) -> Result<(), Memory> {
     match token_words(reason) {
         None => say_expected(alloc, text, start, end, sentence),
-        Some(words) => sentence.say_around(words, text, start, end),
+        Some(words) => sentence.append_phrase(words, text, start, end),
     }
 }
 
 // The words before the token and after it; `None` if the diagnostic lists the tokens that can be there.
-fn token_words(reason: ProtoReason) -> Option<Around> {
+fn token_words(reason: ProtoReason) -> Option<QuotedPhrase> {
     match reason {
-        ProtoReason::Token => Some(Around::quoted("no token begins with ", "")),
+        ProtoReason::Token => Some(QuotedPhrase::quoted("no token begins with ", "")),
         ProtoReason::Expected => None,
-        ProtoReason::Import => Some(Around::quoted(
+        ProtoReason::Import => Some(QuotedPhrase::quoted(
             "expected a path in quotation marks or \"public\" behind \"import\", found ",
             "",
         )),
-        ProtoReason::Stream => Some(Around::alone(
+        ProtoReason::Stream => Some(QuotedPhrase::alone(
             "an rpc of this profile has one request and one reply: \"stream\" can't stand here",
         )),
-        ProtoReason::Group => Some(Around::alone(
+        ProtoReason::Group => Some(QuotedPhrase::alone(
             "\"group\" isn't part of proto3: a message's name stands here",
         )),
-        ProtoReason::Extend => Some(Around::quoted(
+        ProtoReason::Extend => Some(QuotedPhrase::quoted(
             "extensions aren't part of this profile: ",
             " can't stand here",
         )),
-        ProtoReason::Syntax2 => Some(Around::quoted(
+        ProtoReason::Syntax2 => Some(QuotedPhrase::quoted(
             "expected syntax = \"proto3\"; as the first statement, found ",
             "",
         )),
-        ProtoReason::Nesting => Some(Around::alone(
+        ProtoReason::Nesting => Some(QuotedPhrase::alone(
             "at most 32 messages stand in one another, and this is the 33rd",
         )),
     }

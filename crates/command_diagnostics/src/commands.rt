@@ -1,30 +1,30 @@
 //! The fault of a command.
 
 ghost use Rattle.std.specs.Prelude.{List, ℕ, IfOk};
-ghost use Rattle.diagnostics.specs.Said.{Explains, IsPlain};
-ghost use Rattle.diagnostics.specs.Findings.{PointsInto};
+ghost use Rattle.diagnostics.specs.Diagnostics.{IsDiagnosticOf, IsPlain};
+ghost use Rattle.diagnostics.specs.Locations.{IsLocatedIn};
 
 use crate::check::explain_check;
 use crate::fault_line::{FAULT, FaultLine};
 use crate::frames::explain_decode;
 use crate::lines::{Format, explain_line};
 use crate::run::explain_run;
-use diagnostics::{Finding, Sentence};
+use diagnostics::{Diagnostic, DiagnosticText};
 use mrpc_table::{Bytes, Memory, is_word};
 use std::alloc::Global;
 
 /// The fault of a command's input, in lines for a person, given the line `fault ..` that the command wrote.
 /// Lines of the input are cut to `width` bytes.
-pub fn explained(
+pub fn explain_fault(
     alloc: Global,
     command: &[u8],
     input: &[u8],
     fault: &[u8],
     width: usize,
 ) -> Result<Bytes, Memory>
-    ensures { IfOk result (Explains input.now width) }
+    ensures { IfOk result (IsDiagnosticOf input.now width) }
 {
-    let mut front = Sentence::new(alloc);
+    let mut front = DiagnosticText::new(alloc);
     say_failed(input, &mut front)?;
     match found(alloc, command, input, fault, &mut front) {
         Ok(finding) => lines_of(alloc, &front, &finding, width),
@@ -33,22 +33,22 @@ pub fn explained(
 }
 
 // Appends that the input is the output of a command that failed, if it is.
-fn say_failed(input: &[u8], front: &mut Sentence) -> Result<(), Memory> {
+fn say_failed(input: &[u8], front: &mut DiagnosticText) -> Result<(), Memory> {
     if !input.starts_with(FAULT) {
         return Ok(());
     }
-    front.say(b"the input is what a command wrote that failed: it begins with \"fault \"")?;
+    front.append(b"the input is what a command wrote that failed: it begins with \"fault \"")?;
     front.end_line()
 }
 
 // The lines of a diagnostic.
 fn lines_of(
     alloc: Global,
-    front: &Sentence,
-    finding: &Finding<'_>,
+    front: &DiagnosticText,
+    finding: &Diagnostic<'_>,
     width: usize,
 ) -> Result<Bytes, Memory>
-    ensures { (input : List ℕ) → PointsInto input finding.now.part → IfOk result (Explains input width) }
+    ensures { (input : List ℕ) → IsLocatedIn input finding.now.part → IfOk result (IsDiagnosticOf input width) }
 {
     let mut out = Bytes::from_slice(alloc, front.as_slice())?;
     finding.put(width, &mut out)?;
@@ -56,28 +56,28 @@ fn lines_of(
 }
 
 /// Says which words are no command line, in a line for a person.
-pub fn no_command(alloc: Global, words: &[String]) -> Result<Bytes, Memory>
+pub fn explain_usage(alloc: Global, words: &[String]) -> Result<Bytes, Memory>
     ensures { IfOk result IsPlain }
 {
-    let mut line = Sentence::new(alloc);
+    let mut line = DiagnosticText::new(alloc);
     say_no_command(words, &mut line)?;
     Ok(Bytes::from_slice(alloc, line.as_slice())?)
 }
 
-fn say_no_command(words: &[String], line: &mut Sentence) -> Result<(), Memory> {
-    line.say(b"mrpc: \"")?;
+fn say_no_command(words: &[String], line: &mut DiagnosticText) -> Result<(), Memory> {
+    line.append(b"mrpc: \"")?;
     say_words(words, line)?;
-    line.say(b"\" is no command")?;
+    line.append(b"\" is no command")?;
     line.end_line()
 }
 
 // Appends the words, with a blank between two.
-fn say_words(words: &[String], line: &mut Sentence) -> Result<(), Memory> {
+fn say_words(words: &[String], line: &mut DiagnosticText) -> Result<(), Memory> {
     for (place, word) in words.iter().enumerate() {
         if place > 0 {
-            line.say(b" ")?;
+            line.append(b" ")?;
         }
-        line.say(word.as_bytes())?;
+        line.append(word.as_bytes())?;
     }
     Ok(())
 }
@@ -88,9 +88,9 @@ fn found<'a>(
     command: &[u8],
     input: &'a [u8],
     fault: &[u8],
-    front: &mut Sentence,
-) -> Result<Finding<'a>, Memory>
-    ensures { IfOk result (λ f. PointsInto input.now f.part) }
+    front: &mut DiagnosticText,
+) -> Result<Diagnostic<'a>, Memory>
+    ensures { IfOk result (λ f. IsLocatedIn input.now f.part) }
 {
     let Some(fault) = FaultLine::of(fault) else {
         return only(alloc, b"the input has a fault");
@@ -116,10 +116,10 @@ fn found<'a>(
 }
 
 // A sentence alone.
-pub(crate) fn only<'a>(alloc: Global, words: &[u8]) -> Result<Finding<'a>, Memory>
-    ensures { (input : List ℕ) → IfOk result (λ f. PointsInto input f.part) }
+pub(crate) fn only<'a>(alloc: Global, words: &[u8]) -> Result<Diagnostic<'a>, Memory>
+    ensures { (input : List ℕ) → IfOk result (λ f. IsLocatedIn input f.part) }
 {
-    let mut sentence = Sentence::new(alloc);
-    sentence.say(words)?;
-    Ok(Finding::alone(sentence))
+    let mut sentence = DiagnosticText::new(alloc);
+    sentence.append(words)?;
+    Ok(Diagnostic::alone(sentence))
 }

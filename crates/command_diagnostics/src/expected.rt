@@ -2,7 +2,7 @@
 
 ghost use Rattle.std.specs.Prelude.{◌≡◌, ◌<◌, ◌^◌, ◌∷◌, ◌++◌, [], length, OnOk};
 
-use diagnostics::{Row, Sentence, text_for};
+use diagnostics::{DiagnosticText, WordText, text_for};
 use mrpc_table::{Bytes, Memory};
 use proto_grammar::ProtoFault;
 use proto_schema::read_proto;
@@ -10,7 +10,7 @@ use std::alloc::Global;
 
 // The longest text before a token for which possible tokens are tried. The text is read again for each token
 // that is tried.
-const LONGEST: usize = 0x10_0000;
+const MAX_TRIED_TEXT: usize = 0x10_0000;
 
 // The tokens that are tried: names, numbers, strings and punctuators, and then words. Words are tried only if
 // not every name is possible.
@@ -21,7 +21,7 @@ const TOKENS: [&[u8]; 24] = [
 ];
 
 // The tokens that represent all of their kind.
-const SORTS: [Row; 3] = [("x", "a name"), ("1", "a number"), ("'x'", "a string")];
+const SORTS: [WordText; 3] = [("x", "a name"), ("1", "a number"), ("'x'", "a string")];
 
 // The index of the first word among them.
 const FIRST_WORD: usize = 14;
@@ -33,27 +33,27 @@ pub(crate) fn say_expected(
     text: &[u8],
     start: usize,
     end: usize,
-    sentence: &mut Sentence,
+    sentence: &mut DiagnosticText,
 ) -> Result<(), Memory> {
     let front = &text[..start.min(text.len())];
-    sentence.say(b"expected ")?;
-    if front.len() > LONGEST {
-        sentence.say(b"another token")?;
+    sentence.append(b"expected ")?;
+    if front.len() > MAX_TRIED_TEXT {
+        sentence.append(b"another token")?;
     } else {
-        let places = standing(alloc, front)?;
+        let places = possible_tokens(alloc, front)?;
         say_list(places.as_slice(), sentence)?;
     }
-    sentence.say(b", found ")?;
-    sentence.quote_part(text, start, end)
+    sentence.append(b", found ")?;
+    sentence.append_quoted_span(text, start, end)
 }
 
 // The indices of the tokens that are possible after a prefix of a text.
-fn standing(alloc: Global, front: &[u8]) -> Result<Vec<usize>, Memory> {
+fn possible_tokens(alloc: Global, front: &[u8]) -> Result<Vec<usize>, Memory> {
     let mut places = Vec::new(alloc);
-    let any_name = can_stand(alloc, front, b"x")?;
+    let any_name = is_possible(alloc, front, b"x")?;
     let tried = if any_name { FIRST_WORD } else { TOKENS.len() };
     for place in 0..tried {
-        if can_stand(alloc, front, token_at(place))? {
+        if is_possible(alloc, front, token_at(place))? {
             places.push(place)?;
         }
     }
@@ -70,8 +70,8 @@ fn token_at(place: usize) -> &'static [u8] {
 
 // Whether a token is possible after a prefix of a text: the first fault of the two together is after the
 // token.
-fn can_stand(alloc: Global, front: &[u8], token: &[u8]) -> Result<bool, Memory> {
-    let mut text = Bytes::from_slice(alloc, &front[..front.len().min(LONGEST)])?;
+fn is_possible(alloc: Global, front: &[u8], token: &[u8]) -> Result<bool, Memory> {
+    let mut text = Bytes::from_slice(alloc, &front[..front.len().min(MAX_TRIED_TEXT)])?;
     put_token(&mut text, &token[..token.len().min(8)])?;
     is_read(alloc, text.as_slice())
 }
@@ -97,13 +97,13 @@ fn is_read(alloc: Global, text: &[u8]) -> Result<bool, Memory>
 }
 
 // Appends the names of tokens, with `or` before the last one.
-fn say_list(places: &[usize], sentence: &mut Sentence) -> Result<(), Memory> {
+fn say_list(places: &[usize], sentence: &mut DiagnosticText) -> Result<(), Memory> {
     if places.is_empty() {
-        return sentence.say(b"another token");
+        return sentence.append(b"another token");
     }
     for (i, place) in places.iter().enumerate() {
         if i > 0 {
-            sentence.say(joint(i, places.len()))?;
+            sentence.append(joint(i, places.len()))?;
         }
         say_token(token_at(*place), sentence)?;
     }
@@ -119,9 +119,9 @@ fn joint(place: usize, count: usize) -> &'static [u8] {
     }
 }
 
-fn say_token(token: &[u8], sentence: &mut Sentence) -> Result<(), Memory> {
+fn say_token(token: &[u8], sentence: &mut DiagnosticText) -> Result<(), Memory> {
     match text_for(&SORTS, token) {
-        Some(words) => sentence.say(words.as_bytes()),
-        None => sentence.quote(token),
+        Some(words) => sentence.append(words.as_bytes()),
+        None => sentence.append_quotation(token),
     }
 }

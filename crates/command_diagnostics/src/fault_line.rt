@@ -1,6 +1,6 @@
 //! The line of a fault, as a command prints it.
 
-use mrpc_table::{Decimal, cut, number_of};
+use mrpc_table::{Decimal, number_of, split_once};
 
 // The start of the line of a fault.
 pub(crate) const FAULT: &[u8] = b"fault ";
@@ -23,8 +23,8 @@ impl<'a> FaultLine<'a> {
             Some(line) => line,
             None => line,
         };
-        let (spot, reason) = cut(line.strip_prefix(FAULT)?, b' ')?;
-        match cut(spot, b':') {
+        let (spot, reason) = split_once(line.strip_prefix(FAULT)?, b' ')?;
+        match split_once(spot, b':') {
             Some((file, place)) => Some(FaultLine {
                 file: Some(small(file)?),
                 place: small(place)?,

@@ -3,7 +3,7 @@
 ghost use Rattle.std.specs.Prelude.{◌≤◌, length, IfSome};
 ghost use Rattle.mrpc_table.specs.Valid.{IsValid};
 
-use diagnostics::Sentence;
+use diagnostics::DiagnosticText;
 use frame_transport::{FrameRef, HEADER_LEN};
 use mrpc_table::{Kind, MAX_DEPTH, Memory, Table};
 use wire_base::{read_delimited, read_record, read_tag};
@@ -13,11 +13,11 @@ pub(crate) fn say_path(
     table: &Table,
     frame: &FrameRef<'_>,
     at: usize,
-    sentence: &mut Sentence,
+    sentence: &mut DiagnosticText,
 ) -> Result<(), Memory>
     requires valid { IsValid table.now }
 {
-    let Some(sort) = frame.sort() else {
+    let Some(sort) = frame.call_kind() else {
         return Ok(());
     };
     if table.methods.len() <= frame.method as usize || at < HEADER_LEN {
@@ -33,7 +33,7 @@ fn say_fields(
     message: u32,
     payload: &[u8],
     place: usize,
-    sentence: &mut Sentence,
+    sentence: &mut DiagnosticText,
 ) -> Result<(), Memory>
     requires valid { IsValid table.now }
 {
@@ -41,10 +41,10 @@ fn say_fields(
     let mut rest = payload;
     let mut place = place;
     for depth in 0..MAX_DEPTH {
-        let Some(record) = record_around(rest, place) else {
+        let Some(record) = enclosing_record(rest, place) else {
             return Ok(());
         };
-        sentence.say_numbered(
+        sentence.append_numbered(
             if depth == 0 { b", field " } else { b"." },
             u64::from(record.number),
         )?;
@@ -73,7 +73,7 @@ fn inner_message(table: &Table, message: u32, number: u32) -> Option<u32>
 
 // A record that contains a byte.
 #[derive(Clone, Copy)]
-struct Around {
+struct EnclosingRecord {
     // The number of its field.
     number: u32,
     // The start of its own payload if it has a length, and else the end of all.
@@ -83,12 +83,12 @@ struct Around {
 }
 
 // The record of a payload that contains a byte; `None` if there is no tag.
-fn record_around(payload: &[u8], place: usize) -> Option<Around>
+fn enclosing_record(payload: &[u8], place: usize) -> Option<EnclosingRecord>
     ensures { IfSome result (λ r. (r.from ≤ r.to) × (r.to ≤ length payload.now)) }
 {
     let mut at = 0;
     for _ in 0..payload.len() {
-        match record_behind(payload, at, place) {
+        match record_end(payload, at, place) {
             Some(next) => at = next,
             None => return record_at(payload, at),
         }
@@ -97,7 +97,7 @@ fn record_around(payload: &[u8], place: usize) -> Option<Around>
 }
 
 // The end of the record at an offset, if that is at or before the byte.
-fn record_behind(payload: &[u8], at: usize, place: usize) -> Option<usize> {
+fn record_end(payload: &[u8], at: usize, place: usize) -> Option<usize> {
     if at > payload.len() {
         return None;
     }
@@ -108,7 +108,7 @@ fn record_behind(payload: &[u8], at: usize, place: usize) -> Option<usize> {
 }
 
 // The record at an offset; `None` if there is no tag.
-fn record_at(payload: &[u8], at: usize) -> Option<Around>
+fn record_at(payload: &[u8], at: usize) -> Option<EnclosingRecord>
     ensures { IfSome result (λ r. (r.from ≤ r.to) × (r.to ≤ length payload.now)) }
 {
     if at > payload.len() {
@@ -117,15 +117,15 @@ fn record_at(payload: &[u8], at: usize) -> Option<Around>
     let (tag, start) = read_tag(payload, at).ok()?;
     let number = tag / 8;
     if tag % 8 != 2 || start > payload.len() {
-        return Some(Around {
+        return Some(EnclosingRecord {
             number,
             from: payload.len(),
             to: payload.len(),
         });
     }
     match read_delimited(payload, start) {
-        Ok((from, to)) => Some(Around { number, from, to }),
-        Err(_) => Some(Around {
+        Ok((from, to)) => Some(EnclosingRecord { number, from, to }),
+        Err(_) => Some(EnclosingRecord {
             number,
             from: payload.len(),
             to: payload.len(),

@@ -2,12 +2,12 @@
 
 ghost use Rattle.std.specs.Prelude.{◌≤◌, ℕ, List, length, IfOk};
 ghost use Rattle.mrpc_table.specs.Valid.{IsValid};
-ghost use Rattle.diagnostics.specs.Findings.{PointsInto};
+ghost use Rattle.diagnostics.specs.Locations.{IsLocatedIn};
 
 use crate::fault_line::FaultLine;
 use crate::frame_path::say_path;
 use crate::lines::{Format, explain_line};
-use diagnostics::{Finding, Row, Sentence, text_or};
+use diagnostics::{Diagnostic, DiagnosticText, WordText, text_or};
 use frame_transport::{HEADER_LEN, frame_at};
 use mrpc_table::{Memory, Table, is_word};
 use std::alloc::Global;
@@ -20,7 +20,7 @@ const HEAD: &[u8] = b"mrpc-decode 1\ntable\n";
 const AROUND: usize = 12;
 
 // Sentences for reasons. The last ones are about frames that no replay can send.
-const SENTENCES: [Row; 18] = [
+const SENTENCES: [WordText; 18] = [
     ("Version", "the version of a frame is 1, of a hello 1 or 2"),
     (
         "Kind",
@@ -67,32 +67,32 @@ pub(crate) fn explain_decode<'a>(
     alloc: Global,
     input: &'a [u8],
     fault: &FaultLine<'_>,
-) -> Result<Finding<'a>, Memory>
-    ensures { IfOk result (λ f. PointsInto input.now f.part) }
+) -> Result<Diagnostic<'a>, Memory>
+    ensures { IfOk result (λ f. IsLocatedIn input.now f.part) }
 {
     let Some((text, stream)) = split_table(input, HEAD) else {
         return explain_line(alloc, input, fault, Format::Decode);
     };
     match read_table(alloc, text) {
-        Ok(table) => found_frames(alloc, &table, stream, fault),
+        Ok(table) => frames_diagnostic(alloc, &table, stream, fault),
         Err(TableFault::Memory) => Err(Memory),
         Err(TableFault::At { .. }) => explain_line(alloc, input, fault, Format::Decode),
     }
 }
 
 // The fault of the frames, as a sentence alone.
-fn found_frames<'a>(
+fn frames_diagnostic<'a>(
     alloc: Global,
     table: &Table,
     stream: &[u8],
     fault: &FaultLine<'_>,
-) -> Result<Finding<'a>, Memory>
+) -> Result<Diagnostic<'a>, Memory>
     requires valid { IsValid table.now }
-    ensures { (input : List ℕ) → IfOk result (λ f. PointsInto input f.part) }
+    ensures { (input : List ℕ) → IfOk result (λ f. IsLocatedIn input f.part) }
 {
-    let mut sentence = Sentence::new(alloc);
+    let mut sentence = DiagnosticText::new(alloc);
     say_frames(table, stream, fault, &mut sentence)?;
-    Ok(Finding::alone(sentence))
+    Ok(Diagnostic::alone(sentence))
 }
 
 // Appends the location and the fault of the frames, and prints the bytes there.
@@ -100,7 +100,7 @@ fn say_frames(
     table: &Table,
     stream: &[u8],
     fault: &FaultLine<'_>,
-    sentence: &mut Sentence,
+    sentence: &mut DiagnosticText,
 ) -> Result<(), Memory>
     requires valid { IsValid table.now }
 {
@@ -110,8 +110,8 @@ fn say_frames(
         stream.len()
     };
     say_where(table, stream, at, byte_within(at, fault.reason), sentence)?;
-    sentence.say(b": ")?;
-    sentence.say(text_or(&SENTENCES, fault.reason, "the frame is at fault").as_bytes())?;
+    sentence.append(b": ")?;
+    sentence.append(text_or(&SENTENCES, fault.reason, "the frame is at fault").as_bytes())?;
     sentence.end_line()?;
     say_around(stream, at, sentence)
 }
@@ -134,15 +134,15 @@ fn say_where(
     stream: &[u8],
     at: usize,
     byte: usize,
-    sentence: &mut Sentence,
+    sentence: &mut DiagnosticText,
 ) -> Result<(), Memory>
     requires valid { IsValid table.now }
     requires within { byte ≤ length stream.now }
 {
-    let (count, from) = frame_around(stream, byte);
-    sentence.say_numbered(b"byte ", at as u64)?;
-    sentence.say_numbered(b" of the frames, in frame ", count)?;
-    sentence.say_numbered(b" at byte ", from as u64)?;
+    let (count, from) = enclosing_frame(stream, byte);
+    sentence.append_numbered(b"byte ", at as u64)?;
+    sentence.append_numbered(b" of the frames, in frame ", count)?;
+    sentence.append_numbered(b" at byte ", from as u64)?;
     match frame_at(0, &stream[from..]) {
         Ok(Some(frame)) => say_path(table, &frame, byte - from, sentence),
         _ => Ok(()),
@@ -150,7 +150,7 @@ fn say_where(
 }
 
 // The number of the frame, from 1, that contains a byte of a stream, and the offset of that frame.
-fn frame_around(stream: &[u8], at: usize) -> (u64, usize)
+fn enclosing_frame(stream: &[u8], at: usize) -> (u64, usize)
     ensures before { result.1 ≤ at }
 {
     let mut from = 0;
@@ -183,18 +183,18 @@ fn frame_end(stream: &[u8], from: usize) -> Option<usize> {
 }
 
 // Prints the bytes around an offset in hexadecimal digits, with a mark under its own.
-fn say_around(stream: &[u8], at: usize, sentence: &mut Sentence) -> Result<(), Memory>
+fn say_around(stream: &[u8], at: usize, sentence: &mut DiagnosticText) -> Result<(), Memory>
     requires within { at ≤ length stream.now }
 {
     let from = at - at.min(AROUND);
     let to = at + (stream.len() - at).min(AROUND);
     for byte in &stream[from..to] {
-        sentence.say_digits(*byte)?;
-        sentence.say(b" ")?;
+        sentence.append_digits(*byte)?;
+        sentence.append(b" ")?;
     }
     sentence.end_line()?;
     for _ in from..at {
-        sentence.say(b"   ")?;
+        sentence.append(b"   ")?;
     }
-    sentence.say(b"^^")
+    sentence.append(b"^^")
 }

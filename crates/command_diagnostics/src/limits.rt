@@ -1,6 +1,6 @@
 //! Which limit of tables a name of a proto file exceeds.
 
-use crate::named::{name_at, stands_at};
+use crate::named::{is_at_span, name_at};
 use mrpc_table::{MAX_ENUMS, MAX_FIELDS, MAX_MESSAGES, MAX_METHODS, MAX_NAME, MAX_VALUES};
 use proto_ast::{EnumDecl, File, MessageDecl, ServiceDecl, Span};
 
@@ -35,11 +35,11 @@ pub(crate) fn limit_words(file: &File, span: Span) -> &'static str {
 }
 
 fn is_message_past(messages: &[MessageDecl], span: Span) -> bool {
-    messages.len() > MAX_MESSAGES && stands_at(&messages[MAX_MESSAGES].name, span)
+    messages.len() > MAX_MESSAGES && is_at_span(&messages[MAX_MESSAGES].name, span)
 }
 
 fn is_enum_past(enums: &[EnumDecl], span: Span) -> bool {
-    enums.len() > MAX_ENUMS && stands_at(&enums[MAX_ENUMS].name, span)
+    enums.len() > MAX_ENUMS && is_at_span(&enums[MAX_ENUMS].name, span)
 }
 
 // Whether the first rpc past the limit is at the span. The rpcs of all services count together.
@@ -48,7 +48,7 @@ fn is_rpc_past(services: &[ServiceDecl], span: Span) -> bool {
     for service in services {
         let rpcs = service.rpcs.as_slice();
         if rpcs.len() > left {
-            return stands_at(&rpcs[left].name, span);
+            return is_at_span(&rpcs[left].name, span);
         }
         left -= rpcs.len();
     }
@@ -58,7 +58,7 @@ fn is_rpc_past(services: &[ServiceDecl], span: Span) -> bool {
 fn is_field_past(messages: &[MessageDecl], span: Span) -> bool {
     for message in messages {
         let fields = message.fields.as_slice();
-        if fields.len() > MAX_FIELDS && stands_at(&fields[MAX_FIELDS].name, span) {
+        if fields.len() > MAX_FIELDS && is_at_span(&fields[MAX_FIELDS].name, span) {
             return true;
         }
     }
@@ -68,7 +68,7 @@ fn is_field_past(messages: &[MessageDecl], span: Span) -> bool {
 fn is_value_past(enums: &[EnumDecl], span: Span) -> bool {
     for choices in enums {
         let values = choices.values.as_slice();
-        if values.len() > MAX_VALUES && stands_at(&values[MAX_VALUES].name, span) {
+        if values.len() > MAX_VALUES && is_at_span(&values[MAX_VALUES].name, span) {
             return true;
         }
     }

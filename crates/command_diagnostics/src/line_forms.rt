@@ -1,10 +1,10 @@
 //! The forms of lines, by their first words.
 
 use crate::lines::Format;
-use diagnostics::{Row, text_for};
+use diagnostics::{WordText, text_for};
 
 // The lines of a table, and the lines around it.
-const TABLE: [Row; 7] = [
+const TABLE: [WordText; 7] = [
     ("table", "table"),
     ("enum", "enum FULLNAME"),
     ("value", "value NUMBER NAME"),
@@ -15,7 +15,7 @@ const TABLE: [Row; 7] = [
 ];
 
 // The declaring lines of scripts and audits.
-const FRONT: [Row; 6] = [
+const FRONT: [WordText; 6] = [
     ("loads", "loads N"),
     ("tenant", "tenant NAME PER"),
     ("policy", "policy NAME access|redact|rate|quota|count .."),
@@ -28,7 +28,7 @@ const FRONT: [Row; 6] = [
 ];
 
 // The acting lines of scripts.
-const SCRIPT: [Row; 12] = [
+const SCRIPT: [WordText; 12] = [
     ("conn", "conn CONN WORDS"),
     ("store", "store CONN PLACE VALUE"),
     ("race", "race CONN K PLACE VALUE"),
@@ -44,7 +44,7 @@ const SCRIPT: [Row; 12] = [
 ];
 
 // The lines of an audit.
-const AUDIT: [Row; 12] = [
+const AUDIT: [WordText; 12] = [
     ("audit", "audit"),
     (
         "took",

@@ -1,11 +1,11 @@
 //! The fault of a line, by the word of the reason.
 
 use crate::limits::LIMITS;
-use diagnostics::{Row, text_for};
+use diagnostics::{WordText, text_for};
 use mrpc_table::is_word;
 
 // The sentence for a reason about a line whose words have the right form.
-const SENTENCES: [Row; 18] = [
+const SENTENCES: [WordText; 18] = [
     (
         "Number",
         "a number is out of its range: of a field 1 to 536870911 without 19000 to 19999, of a value 32 bits, \
@@ -64,7 +64,7 @@ const SENTENCES: [Row; 18] = [
 ];
 
 // The numbers that are allowed in a line outside a table, by the line's first word.
-const NUMBERS: [Row; 4] = [
+const NUMBERS: [WordText; 4] = [
     ("loads", "the limit of loads is 1 to 16384"),
     ("tenant", "there are 16 tenants at the most"),
     (

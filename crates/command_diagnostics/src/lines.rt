@@ -1,19 +1,19 @@
 //! The faults of texts of lines: scripts, the text before frames, and audits.
 
 ghost use Rattle.std.specs.Prelude.{IfOk};
-ghost use Rattle.diagnostics.specs.Findings.{PointsInto};
+ghost use Rattle.diagnostics.specs.Locations.{IsLocatedIn};
 
 use crate::fault_line::{FAULT, FaultLine};
 use crate::line_forms::line_form;
 use crate::line_reasons::reason_sentence;
-use crate::script_words_at_fault::{WordAtFault, word_at_fault};
-use diagnostics::{Finding, Row, Sentence, TextLine, text_or};
+use crate::word_at_fault::{WordAtFault, word_at_fault};
+use diagnostics::{Diagnostic, DiagnosticText, TextLine, WordText, text_or};
 use mrpc_table::{Memory, is_word};
 use script_grammar::first_word;
 use std::alloc::Global;
 
 // What is missing at the end of a text, by the reason.
-const MISSING: [Row; 3] = [
+const MISSING: [WordText; 3] = [
     ("Default", "the default of a policy"),
     ("Syntax", "the value 0 of an enum"),
     ("Number", "the value 0 of an enum"),
@@ -54,18 +54,18 @@ pub(crate) fn explain_line<'a>(
     text: &'a [u8],
     fault: &FaultLine<'_>,
     format: Format,
-) -> Result<Finding<'a>, Memory>
-    ensures { IfOk result (λ f. PointsInto text.now f.part) }
+) -> Result<Diagnostic<'a>, Memory>
+    ensures { IfOk result (λ f. IsLocatedIn text.now f.part) }
 {
-    let mut sentence = Sentence::new(alloc);
+    let mut sentence = DiagnosticText::new(alloc);
     let line = TextLine::of(text, fault.place);
     let found = word_at_fault(&line, fault.reason, format);
     say_line(&line, fault.reason, format, found, &mut sentence)?;
     let part = match found {
         Some(word) => line.word(word.place),
-        None => line.whole(),
+        None => line.trimmed(),
     };
-    Ok(Finding::in_line(sentence, part))
+    Ok(Diagnostic::in_line(sentence, part))
 }
 
 // Appends the fault of a line, and how the line ends.
@@ -74,7 +74,7 @@ fn say_line(
     reason: &[u8],
     format: Format,
     found: Option<WordAtFault>,
-    sentence: &mut Sentence,
+    sentence: &mut DiagnosticText,
 ) -> Result<(), Memory> {
     say_fault(line, reason, format, found, sentence)?;
     say_end(line, sentence)
@@ -85,13 +85,13 @@ fn say_fault(
     reason: &[u8],
     format: Format,
     found: Option<WordAtFault>,
-    sentence: &mut Sentence,
+    sentence: &mut DiagnosticText,
 ) -> Result<(), Memory> {
     if line.bytes.is_empty() {
         return say_missing(line, reason, format, sentence);
     }
     if is_word(reason, b"Header") {
-        return sentence.say_quoted(
+        return sentence.append_quoted(
             b"expected the first line to be ",
             format.first_line().as_bytes(),
         );
@@ -104,13 +104,13 @@ fn say_missing(
     line: &TextLine<'_>,
     reason: &[u8],
     format: Format,
-    sentence: &mut Sentence,
+    sentence: &mut DiagnosticText,
 ) -> Result<(), Memory> {
     if line.start < line.text.len() {
-        return sentence.say(b"an empty line can't stand here");
+        return sentence.append(b"an empty line can't stand here");
     }
-    sentence.say(b"the text ends here, and a line is missing: ")?;
-    sentence.say(missing_line(line.text, reason, format).as_bytes())
+    sentence.append(b"the text ends here, and a line is missing: ")?;
+    sentence.append(missing_line(line.text, reason, format).as_bytes())
 }
 
 fn missing_line(text: &[u8], reason: &[u8], format: Format) -> &'static str {
@@ -137,15 +137,15 @@ fn say_reason(
     reason: &[u8],
     format: Format,
     found: Option<WordAtFault>,
-    sentence: &mut Sentence,
+    sentence: &mut DiagnosticText,
 ) -> Result<(), Memory> {
     match found {
-        Some(word) => word.say(line, sentence)?,
+        Some(word) => word.append(line, sentence)?,
         None if is_of_form(reason) => return say_form(line, reason, format, sentence),
-        None => sentence.say(reason_sentence(reason, first_word(line.bytes).0).as_bytes())?,
+        None => sentence.append(reason_sentence(reason, first_word(line.bytes).0).as_bytes())?,
     }
     match line_form(first_word(line.bytes).0, format) {
-        Some(form) => sentence.say_quoted(b", in ", form.as_bytes()),
+        Some(form) => sentence.append_quoted(b", in ", form.as_bytes()),
         None => Ok(()),
     }
 }
@@ -160,17 +160,17 @@ fn say_form(
     line: &TextLine<'_>,
     reason: &[u8],
     format: Format,
-    sentence: &mut Sentence,
+    sentence: &mut DiagnosticText,
 ) -> Result<(), Memory> {
     let word = first_word(line.bytes).0;
     match line_form(word, format) {
         Some(form) => {
-            sentence.say_quoted(b"expected ", form.as_bytes())?;
-            sentence.say(form_rule(reason).as_bytes())
+            sentence.append_quoted(b"expected ", form.as_bytes())?;
+            sentence.append(form_rule(reason).as_bytes())
         }
         None => {
-            sentence.say_quoted(b"no line begins with ", word)?;
-            sentence.say(b" here")
+            sentence.append_quoted(b"no line begins with ", word)?;
+            sentence.append(b" here")
         }
     }
 }
@@ -185,15 +185,15 @@ fn form_rule(reason: &[u8]) -> &'static str {
 }
 
 // Appends that a command wrote the line, or how the line ends if that isn't a single line feed.
-fn say_end(line: &TextLine<'_>, sentence: &mut Sentence) -> Result<(), Memory> {
+fn say_end(line: &TextLine<'_>, sentence: &mut DiagnosticText) -> Result<(), Memory> {
     if line.start > 0 && line.bytes.starts_with(FAULT) {
-        return sentence.say(b"; this is what a command wrote that failed");
+        return sentence.append(b"; this is what a command wrote that failed");
     }
     if line.bytes.ends_with(b"\r") {
-        return sentence.say(b"; the line ends in CR and LF, and lines end in LF alone");
+        return sentence.append(b"; the line ends in CR and LF, and lines end in LF alone");
     }
-    if line.is_unended() && !line.bytes.is_empty() {
-        return sentence.say(b"; no line feed stands behind the line");
+    if line.is_unterminated() && !line.bytes.is_empty() {
+        return sentence.append(b"; no line feed stands behind the line");
     }
     Ok(())
 }

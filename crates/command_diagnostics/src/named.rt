@@ -1,6 +1,6 @@
 //! Names and numbers that are used already in a file.
 
-use diagnostics::{Around, Sentence};
+use diagnostics::{DiagnosticText, QuotedPhrase};
 use mrpc_table::{Decimal, Memory};
 use proto_ast::{EnumDecl, FieldDecl, File, MessageDecl, ServiceDecl, Span, Word};
 
@@ -9,18 +9,18 @@ pub(crate) fn say_earlier_number(
     text: &[u8],
     file: &File,
     span: Span,
-    sentence: &mut Sentence,
+    sentence: &mut DiagnosticText,
 ) -> Result<(), Memory> {
     match earlier_number(file, span) {
         Some(field) => {
-            let words = Around::quoted("number ", " is used by ");
-            sentence.say_around(words, text, span.start, span.end)?;
-            sentence.quote(field.name.name.as_slice())?;
+            let words = QuotedPhrase::quoted("number ", " is used by ");
+            sentence.append_phrase(words, text, span.start, span.end)?;
+            sentence.append_quotation(field.name.name.as_slice())?;
             say_line(field.number.span, sentence)
         }
         None => {
-            let words = Around::quoted("number ", " is used already");
-            sentence.say_around(words, text, span.start, span.end)
+            let words = QuotedPhrase::quoted("number ", " is used already");
+            sentence.append_phrase(words, text, span.start, span.end)
         }
     }
 }
@@ -30,19 +30,19 @@ pub(crate) fn say_earlier_name(
     text: &[u8],
     file: &File,
     span: Span,
-    sentence: &mut Sentence,
+    sentence: &mut DiagnosticText,
 ) -> Result<(), Memory> {
-    let words = Around::quoted("the name ", " is used");
-    sentence.say_around(words, text, span.start, span.end)?;
+    let words = QuotedPhrase::quoted("the name ", " is used");
+    sentence.append_phrase(words, text, span.start, span.end)?;
     match earlier_name(file, span) {
         Some(earlier) => say_line(earlier, sentence),
-        None => sentence.say(b" already in this scope"),
+        None => sentence.append(b" already in this scope"),
     }
 }
 
-fn say_line(span: Span, sentence: &mut Sentence) -> Result<(), Memory> {
-    sentence.say_numbered(b" in line ", span.line)?;
-    sentence.say(b" already")
+fn say_line(span: Span, sentence: &mut DiagnosticText) -> Result<(), Memory> {
+    sentence.append_numbered(b" in line ", span.line)?;
+    sentence.append(b" already")
 }
 
 // The first field that has the number at the span and is before the field there.
@@ -126,7 +126,7 @@ fn named_at(file: &File, span: Span) -> Option<(Scope, &Word)> {
 
 fn named_in_messages(messages: &[MessageDecl], span: Span) -> Option<(Scope, &Word)> {
     for (place, message) in messages.iter().enumerate() {
-        if stands_at(&message.name, span) {
+        if is_at_span(&message.name, span) {
             return Some((scope_of(message.parent), &message.name));
         }
         if let Some(own) = named_in_message(message, span) {
@@ -138,12 +138,12 @@ fn named_in_messages(messages: &[MessageDecl], span: Span) -> Option<(Scope, &Wo
 
 fn named_in_message(message: &MessageDecl, span: Span) -> Option<&Word> {
     for field in message.fields.as_slice() {
-        if stands_at(&field.name, span) {
+        if is_at_span(&field.name, span) {
             return Some(&field.name);
         }
     }
     for oneof in message.oneofs.as_slice() {
-        if stands_at(oneof, span) {
+        if is_at_span(oneof, span) {
             return Some(oneof);
         }
     }
@@ -152,11 +152,11 @@ fn named_in_message(message: &MessageDecl, span: Span) -> Option<&Word> {
 
 fn named_in_enums(enums: &[EnumDecl], span: Span) -> Option<(Scope, &Word)> {
     for choices in enums {
-        if stands_at(&choices.name, span) {
+        if is_at_span(&choices.name, span) {
             return Some((scope_of(choices.parent), &choices.name));
         }
         for value in choices.values.as_slice() {
-            if stands_at(&value.name, span) {
+            if is_at_span(&value.name, span) {
                 return Some((scope_of(choices.parent), &value.name));
             }
         }
@@ -166,11 +166,11 @@ fn named_in_enums(enums: &[EnumDecl], span: Span) -> Option<(Scope, &Word)> {
 
 fn named_in_services(services: &[ServiceDecl], span: Span) -> Option<(Scope, &Word)> {
     for (place, service) in services.iter().enumerate() {
-        if stands_at(&service.name, span) {
+        if is_at_span(&service.name, span) {
             return Some((Scope::File, &service.name));
         }
         for rpc in service.rpcs.as_slice() {
-            if stands_at(&rpc.name, span) {
+            if is_at_span(&rpc.name, span) {
                 return Some((Scope::Service(place), &rpc.name));
             }
         }
@@ -179,7 +179,7 @@ fn named_in_services(services: &[ServiceDecl], span: Span) -> Option<(Scope, &Wo
 }
 
 // Whether the name is at the span.
-pub(crate) fn stands_at(word: &Word, span: Span) -> bool {
+pub(crate) fn is_at_span(word: &Word, span: Span) -> bool {
     word.span.start == span.start
 }
 

@@ -1,31 +1,31 @@
 //! The faults of a set of files.
 
 ghost use Rattle.std.specs.Prelude.{List, ℕ, ◌≡◌, ◌<◌, ◌≤◌, ◌^◌, length, Contains, IfOk, IfSome};
-ghost use Rattle.diagnostics.specs.Findings.{PointsInto};
-ghost use Rattle.diagnostics.specs.Said.{IsTextOf};
+ghost use Rattle.diagnostics.specs.Locations.{IsLocatedIn};
+ghost use Rattle.diagnostics.specs.Diagnostics.{IsSourceOf};
 ghost use Rattle.proto_set.specs.Bundle.{IsBundle};
 
-use crate::check::{TOO_LONG, found_token};
+use crate::check::{TOO_LONG, token_diagnostic};
 use crate::commands::only;
 use crate::fault_line::FaultLine;
 use crate::limits::LIMITS;
-use diagnostics::{Finding, Part, Row, Sentence, TextLine, text_for, text_or};
+use diagnostics::{Diagnostic, DiagnosticText, SourceSpan, TextLine, WordText, text_for, text_or};
 use mrpc_table::Memory;
 use proto_ast::{File, Import};
 use proto_grammar::ProtoFault;
 use proto_schema::read_proto;
-use proto_set::{BundleFault, Packed, read_bundle};
+use proto_set::{BundleFault, Named, read_bundle};
 use std::alloc::Global;
 
 // The words for a reason, before the path of an import.
-const IMPORTS: [Row; 3] = [
+const IMPORTS: [WordText; 3] = [
     ("Missing", "no file of the set has the path "),
     ("Twice", "an import before this one has the path "),
     ("Cycle", "imports lead back to this file from "),
 ];
 
 // The words for a reason about something in a line.
-const LINES: [Row; 12] = [
+const LINES: [WordText; 12] = [
     (
         "Missing",
         "no file of the set has the path of an import of this line",
@@ -72,10 +72,10 @@ pub(crate) fn explain_set<'a>(
     alloc: Global,
     input: &'a [u8],
     fault: &FaultLine<'_>,
-    front: &mut Sentence,
-) -> Result<Finding<'a>, Memory>
+    front: &mut DiagnosticText,
+) -> Result<Diagnostic<'a>, Memory>
     requires { IsBundle input.now }
-    ensures { IfOk result (λ f. PointsInto input.now f.part) }
+    ensures { IfOk result (λ f. IsLocatedIn input.now f.part) }
 {
     let files = match read_bundle(alloc, input) {
         Ok(files) => files,
@@ -83,14 +83,14 @@ pub(crate) fn explain_set<'a>(
         Err(BundleFault::Memory) => return Err(Memory),
     };
     let number = fault.file.unwrap_or(fault.place);
-    match member(files.as_slice(), number) {
-        Some(file) => explain_member(alloc, file, fault, front),
+    match nth_file(files.as_slice(), number) {
+        Some(file) => explain_set_file(alloc, file, fault, front),
         None => only(alloc, b"the input has a fault"),
     }
 }
 
 // The file with this number, from 1.
-fn member<'a, 'b>(files: &'b [Packed<'a>], number: u64) -> Option<&'b Packed<'a>>
+fn nth_file<'a, 'b>(files: &'b [Named<'a>], number: u64) -> Option<&'b Named<'a>>
     ensures { IfSome result (λ file. Contains files.now file.now) }
 {
     if number == 0 || number > files.len() as u64 {
@@ -100,35 +100,35 @@ fn member<'a, 'b>(files: &'b [Packed<'a>], number: u64) -> Option<&'b Packed<'a>
 }
 
 // The diagnostic for a file that isn't there.
-fn missing_file<'a>(alloc: Global, file: u32) -> Result<Finding<'a>, Memory>
-    ensures { (input : List ℕ) → IfOk result (λ f. PointsInto input f.part) }
+fn missing_file<'a>(alloc: Global, file: u32) -> Result<Diagnostic<'a>, Memory>
+    ensures { (input : List ℕ) → IfOk result (λ f. IsLocatedIn input f.part) }
 {
-    let mut sentence = Sentence::new(alloc);
-    sentence.say_numbered(b"file ", u64::from(file))?;
-    sentence.say(
+    let mut sentence = DiagnosticText::new(alloc);
+    sentence.append_numbered(b"file ", u64::from(file))?;
+    sentence.append(
         b" of the set: expected a line \"file PATH BYTES\" with as many bytes behind it, for 1 to 64 files",
     )?;
-    Ok(Finding::alone(sentence))
+    Ok(Diagnostic::alone(sentence))
 }
 
 // The fault of a file of a set.
-fn explain_member<'a>(
+fn explain_set_file<'a>(
     alloc: Global,
-    file: &Packed<'a>,
+    file: &Named<'a>,
     fault: &FaultLine<'_>,
-    front: &mut Sentence,
-) -> Result<Finding<'a>, Memory>
-    ensures { (input : List ℕ) → IsTextOf input file.now.text.now → IfOk result (λ f. PointsInto input f.part) }
+    front: &mut DiagnosticText,
+) -> Result<Diagnostic<'a>, Memory>
+    ensures { (input : List ℕ) → IsSourceOf input file.now.text.now → IfOk result (λ f. IsLocatedIn input f.part) }
 {
     if fault.file.is_none() {
-        front.quote(file.path)?;
+        front.append_quotation(file.path)?;
         return only(
             alloc,
             b": expected a path that no file before has, 1 to 255 letters, digits, \"_\", \"-\", \".\" or \"/\"",
         );
     }
-    front.say(file.path)?;
-    front.say(b":")?;
+    front.append(file.path)?;
+    front.append(b":")?;
     if file.text.len() > TOO_LONG {
         return only(alloc, b"the file has a fault");
     }
@@ -141,7 +141,7 @@ fn explain_member<'a>(
                 end,
                 ..
             },
-        ) => found_token(alloc, file.text, reason, start, end),
+        ) => token_diagnostic(alloc, file.text, reason, start, end),
         Err(ProtoFault::Memory) => Err(Memory),
     }
 }
@@ -152,41 +152,44 @@ fn explain_read<'a>(
     text: &'a [u8],
     file: &File,
     fault: &FaultLine<'_>,
-) -> Result<Finding<'a>, Memory>
-    ensures { (input : List ℕ) → IsTextOf input text.now → IfOk result (λ f. PointsInto input f.part) }
+) -> Result<Diagnostic<'a>, Memory>
+    ensures { (input : List ℕ) → IsSourceOf input text.now → IfOk result (λ f. IsLocatedIn input f.part) }
 {
     let words = text_for(&IMPORTS, fault.reason);
     match (words, import_at(file.imports.as_slice(), fault.place)) {
-        (Some(words), Some(import)) => found_import(alloc, text, import, words),
-        _ => found_line(alloc, text, fault),
+        (Some(words), Some(import)) => import_diagnostic(alloc, text, import, words),
+        _ => line_diagnostic(alloc, text, fault),
     }
 }
 
 // The fault of an import.
-fn found_import<'a>(
+fn import_diagnostic<'a>(
     alloc: Global,
     text: &'a [u8],
     import: &Import,
     words: &'static str,
-) -> Result<Finding<'a>, Memory>
-    ensures { (input : List ℕ) → IsTextOf input text.now → IfOk result (λ f. PointsInto input f.part) }
+) -> Result<Diagnostic<'a>, Memory>
+    ensures { (input : List ℕ) → IsSourceOf input text.now → IfOk result (λ f. IsLocatedIn input f.part) }
 {
-    let mut sentence = Sentence::new(alloc);
-    sentence.say_quoted(words.as_bytes(), import.path.as_slice())?;
-    Ok(Finding::in_line(sentence, Part::of(text, import.span.start, import.span.end)))
+    let mut sentence = DiagnosticText::new(alloc);
+    sentence.append_quoted(words.as_bytes(), import.path.as_slice())?;
+    Ok(Diagnostic::in_line(
+        sentence,
+        SourceSpan::of(text, import.span.start, import.span.end),
+    ))
 }
 
 // The fault of something in a line.
-fn found_line<'a>(
+fn line_diagnostic<'a>(
     alloc: Global,
     text: &'a [u8],
     fault: &FaultLine<'_>,
-) -> Result<Finding<'a>, Memory>
-    ensures { (input : List ℕ) → IsTextOf input text.now → IfOk result (λ f. PointsInto input f.part) }
+) -> Result<Diagnostic<'a>, Memory>
+    ensures { (input : List ℕ) → IsSourceOf input text.now → IfOk result (λ f. IsLocatedIn input f.part) }
 {
-    let mut sentence = Sentence::new(alloc);
-    sentence.say(text_or(&LINES, fault.reason, "the file is at fault here").as_bytes())?;
-    Ok(Finding::in_line(sentence, TextLine::of(text, fault.place).whole()))
+    let mut sentence = DiagnosticText::new(alloc);
+    sentence.append(text_or(&LINES, fault.reason, "the file is at fault here").as_bytes())?;
+    Ok(Diagnostic::in_line(sentence, TextLine::of(text, fault.place).trimmed()))
 }
 
 // The import on a line; `None` if there is none, or several.

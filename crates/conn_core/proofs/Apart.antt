@@ -4,56 +4,56 @@ use Rattle.std.specs.Prelude.{All, option_map}
 use Rattle.std.proofs.lemmas.List.Elements.{All-nil, All-cons, All-head, All-tail, All-weaker, All-append}
 use Rattle.mrpc_table.specs.Valid.{AreDistinct}
 use Rattle.engine_core.specs.Chains.{Entry, IsChain, attachments_of, is_named, names_of}
-use Rattle.engine_core.specs.Marks.{StandingCall, seqs_of}
+use Rattle.engine_core.specs.Marks.{PendingCall, seqs_of}
 use Rattle.engine_core.specs.declared.outcome.Outcome.{Outcome}
 use Rattle.engine_core.specs.declared.outcome.Outcome.TheVariants.{Passed, Held, Refused, Redacted}
-use Rattle.chain_upgrade.specs.Chains.{IsAbove, IsAscending, calls_after}
-use Rattle.call_history.specs.Behind.{Behind, chain, policy_of}
+use Rattle.chain_upgrade.specs.Chains.{AreAscendingAbove, AreAscending, calls_after}
+use Rattle.call_history.specs.Trace.{Trace, chain, policy_in_trace}
 use Rattle.conn_core.proofs.Lists.{at-get}
 use Rattle.conn_core.proofs.Told.{equal-name, other-name}
 
 -- ---- calls
 
-all-above : (low : ℕ) (calls : List StandingCall) → IsAbove low (seqs_of calls) → All (λ s. low < s.call.seq) calls
-all-above low [] h = All-nil (λ (s : StandingCall). low < s.call.seq)
+all-above : (low : ℕ) (calls : List PendingCall) → AreAscendingAbove low (seqs_of calls) → All (λ s. low < s.call.seq) calls
+all-above low [] h = All-nil (λ (s : PendingCall). low < s.call.seq)
 all-above low (s ∷ calls) h =
-    All-cons (λ (s : StandingCall). low < s.call.seq) s calls h.0
-    (All-weaker (λ (t : StandingCall). s.call.seq < t.call.seq) (λ (t : StandingCall). low < t.call.seq) (λ t less.
+    All-cons (λ (s : PendingCall). low < s.call.seq) s calls h.0
+    (All-weaker (λ (t : PendingCall). s.call.seq < t.call.seq) (λ (t : PendingCall). low < t.call.seq) (λ t less.
     omega (arith, less, h.0)) calls (all-above s.call.seq calls h.1))
 
-above-all : (low : ℕ) (calls : List StandingCall) → IsAbove low (seqs_of calls) → All (λ s. s.call.seq ≢ low) calls
-above-all low calls h = All-weaker (λ (s : StandingCall). low < s.call.seq) (λ (s : StandingCall). s.call.seq ≢ low)
+above-all : (low : ℕ) (calls : List PendingCall) → AreAscendingAbove low (seqs_of calls) → All (λ s. s.call.seq ≢ low) calls
+above-all low calls h = All-weaker (λ (s : PendingCall). low < s.call.seq) (λ (s : PendingCall). s.call.seq ≢ low)
     (λ s less same. omega (arith, less, same)) calls (all-above low calls h)
 
-apart-above : (low : ℕ) (front : List StandingCall) (call : StandingCall) (back : List StandingCall)
-    → IsAbove low (seqs_of (front ++ call ∷ back))
+apart-above : (low : ℕ) (front : List PendingCall) (call : PendingCall) (back : List PendingCall)
+    → AreAscendingAbove low (seqs_of (front ++ call ∷ back))
     → (low < call.call.seq) × All (λ s. s.call.seq ≢ call.call.seq) front × All (λ s. s.call.seq ≢ call.call.seq) back
 apart-above low [] call back h =
-    (h.0, All-nil (λ (s : StandingCall). s.call.seq ≢ call.call.seq), above-all call.call.seq back h.1)
+    (h.0, All-nil (λ (s : PendingCall). s.call.seq ≢ call.call.seq), above-all call.call.seq back h.1)
 apart-above low (x ∷ front) call back h =
     let rest = apart-above x.call.seq front call back h.1 in (
       omega (arith, h.0, rest.0),
-      All-cons (λ (s : StandingCall). s.call.seq ≢ call.call.seq) x front (λ same.
+      All-cons (λ (s : PendingCall). s.call.seq ≢ call.call.seq) x front (λ same.
           omega (arith, same, rest.0)) rest.1,
       rest.2,
     )
 
 -- the others have other numbers
-pub calls-apart : (front : List StandingCall) (call : StandingCall) (back : List StandingCall)
-    → IsAscending (seqs_of (front ++ call ∷ back))
+pub calls-apart : (front : List PendingCall) (call : PendingCall) (back : List PendingCall)
+    → AreAscending (seqs_of (front ++ call ∷ back))
     → All (λ s. s.call.seq ≢ call.call.seq) front × All (λ s. s.call.seq ≢ call.call.seq) back
 calls-apart [] call back h =
-    (All-nil (λ (s : StandingCall). s.call.seq ≢ call.call.seq), above-all call.call.seq back h)
+    (All-nil (λ (s : PendingCall). s.call.seq ≢ call.call.seq), above-all call.call.seq back h)
 calls-apart (x ∷ front) call back h =
     let rest = apart-above x.call.seq front call back h in (
-      All-cons (λ (s : StandingCall). s.call.seq ≢ call.call.seq) x front (λ same.
+      All-cons (λ (s : PendingCall). s.call.seq ≢ call.call.seq) x front (λ same.
           omega (arith, same, rest.0)) rest.1,
       rest.2,
     )
 
 -- what holds of the others and of the call holds after its turn
-pub all-after : (Q : StandingCall
-    → Type 0) (outcome : Outcome) (front : List StandingCall) (call : StandingCall) (back : List StandingCall)
+pub all-after : (Q : PendingCall
+    → Type 0) (outcome : Outcome) (front : List PendingCall) (call : PendingCall) (back : List PendingCall)
     → All Q front → Q call → All Q back → All Q (calls_after outcome front call back)
 all-after Q (Passed noted) front call back f c b = All-append Q front (call ∷ back) f (All-cons Q call back c b)
 all-after Q (Held left cost) front call back f c b = All-append Q front (call ∷ back) f (All-cons Q call back c b)
@@ -114,11 +114,11 @@ found (y ∷ xs) (suc i) x is names =
     ∙ found xs i x is names.1
 
 -- the policy of an entry's name is its own
-pub policy-at : (past : Behind) (i : ℕ) (x : Entry) → IsChain (chain past) → slice_get (chain past).entries i ≡ Some x
-    → policy_of x.name past ≡ Some x.policy
+pub policy-at : (past : Trace) (i : ℕ) (x : Entry) → IsChain (chain past) → slice_get (chain past).entries i ≡ Some x
+    → policy_in_trace x.name past ≡ Some x.policy
 policy-at past i x is-chain is =
     ap (option_map (λ (e : Entry). e.policy)) (found (chain past).entries i x is is-chain.names)
 
-pub all-policies : (past : Behind) → IsChain (chain past)
-    → All (λ e. policy_of e.name past ≡ Some e.policy) (chain past).entries
+pub all-policies : (past : Trace) → IsChain (chain past)
+    → All (λ e. policy_in_trace e.name past ≡ Some e.policy) (chain past).entries
 all-policies past is-chain = λ k d within. policy-at past k _ is-chain (at-get (chain past).entries k d within)

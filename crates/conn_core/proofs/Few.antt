@@ -8,16 +8,16 @@ use Rattle.engine_core.specs.Chains.{Chain, Entry, is_named, new_entry, upgraded
 use Rattle.engine_core.specs.Engines.{EngineParts}
 use Rattle.engine_core.specs.declared.op.Op.TheVariants.{Attach, Detach, Upgrade}
 use Rattle.engine_core.specs.declared.policy.Policy.{Policy}
-use Rattle.call_history.specs.Behind.{Behind, chain, taken}
+use Rattle.call_history.specs.Trace.{Trace, chain, taken}
 use Rattle.call_history.specs.declared.happening.Happening.TheVariants.{Took, Op}
-use Rattle.conn_core.specs.Connections.{Connection, IsConnection, behind}
+use Rattle.conn_core.specs.Connections.{Connection, IsConnection, conn_trace}
 
-few-taken : (past : Behind) → length (taken past) ≤ length past
+few-taken : (past : Trace) → length (taken past) ≤ length past
 few-taken [] = omega arith
 few-taken (Took call ∷ past) = omega (arith, length-append (taken past) (call ∷ []), few-taken past)
 few-taken (x ∷ past) = omega (arith, few-taken past)
 
-few-attached : (past : Behind) → (chain past).attached ≤ length past
+few-attached : (past : Trace) → (chain past).attached ≤ length past
 few-attached [] = omega arith
 few-attached (Op (Attach at name label policy) ∷ past) = omega (arith, few-attached past)
 few-attached (Op (Detach name) ∷ past) = omega (arith, few-attached past)
@@ -29,7 +29,7 @@ upgraded-few : (name : List ℕ) (policy : Policy) (n : ℕ) (e : Entry) (b : Bo
 upgraded-few name policy n e true few = omega (arith, few)
 upgraded-few name policy n e false few = omega (arith, few)
 
-few-versions : (past : Behind) → All (λ e. e.version ≤ length past) (chain past).entries
+few-versions : (past : Trace) → All (λ e. e.version ≤ length past) (chain past).entries
 few-versions [] = All-nil (λ (e : Entry). e.version ≤ 0)
 few-versions (Op (Attach at name label policy) ∷ past) =
     let all : All (λ (e : Entry). e.version ≤ length past + 1) (chain past).entries =
@@ -63,21 +63,21 @@ few-versions (x ∷ past) =
     All-weaker (λ (e : Entry). e.version ≤ length past) (λ (e : Entry). e.version ≤ length (x ∷ past)) (λ e few.
     omega (arith, few)) (chain past).entries (few-versions past)
 
-pub few-calls : (c : Connection) → length (taken (behind c)) ≤ length c.happenings
-few-calls c = omega (arith, few-taken (behind c), length-reverse c.happenings)
+pub few-calls : (c : Connection) → length (taken (conn_trace c)) ≤ length c.happenings
+few-calls c = omega (arith, few-taken (conn_trace c), length-reverse c.happenings)
 
 pub few-attachments : (c : Connection) → IsConnection c → c.chain.attached ≤ length c.happenings
 few-attachments c holds =
-    let attached : c.chain.attached ≡ (chain (behind c)).attached =
+    let attached : c.chain.attached ≡ (chain (conn_trace c)).attached =
     ap (λ (chain : Chain). chain.attached) holds.same_chain in
-    omega (arith, few-attached (behind c), length-reverse c.happenings, attached)
+    omega (arith, few-attached (conn_trace c), length-reverse c.happenings, attached)
 
 pub few-upgrades : (c : Connection) → IsConnection c
     → All (λ e. e.entry.version ≤ length c.happenings) c.chain.engines
 few-upgrades c holds k d within =
-    let all : All (λ (e : Entry). e.version ≤ length (behind c)) (map (λ (e : EngineParts). e.entry) c.chain.engines) =
-    subst (λ (chain : Chain). All (λ (e : Entry). e.version ≤ length (behind c)) chain.entries) (sym holds.same_chain)
-    (few-versions (behind c)) in
+    let all : All (λ (e : Entry). e.version ≤ length (conn_trace c)) (map (λ (e : EngineParts). e.entry) c.chain.engines) =
+    subst (λ (chain : Chain). All (λ (e : Entry). e.version ≤ length (conn_trace c)) chain.entries) (sym holds.same_chain)
+    (few-versions (conn_trace c)) in
     let here = all k d.entry (omega (arith, within, length-map c.chain.engines (λ (e : EngineParts). e.entry))) in
     let same = ap (λ (e : Entry). e.version)
     (get_or-map (λ (e : EngineParts). e.entry) c.chain.engines k d d.entry within) in

@@ -8,37 +8,37 @@ use Rattle.std.proofs.lemmas.List.Sums.{sum_by-cons, sum_by-append}
 use Rattle.mrpc_table.specs.Weight.{weight}
 use Rattle.mrpc_table.specs.declared.call.Call.{Call}
 use Rattle.engine_core.specs.Chains.{Entry}
-use Rattle.engine_core.specs.Marks.{StandingCall}
-use Rattle.engine_core.specs.Moves.{Row, first_at, goes_on, without_call}
+use Rattle.engine_core.specs.Marks.{PendingCall}
+use Rattle.engine_core.specs.Moves.{Row, first_at, advanced, without_call}
 use Rattle.engine_core.specs.Turns.{form_after}
 use Rattle.engine_core.specs.declared.outcome.Outcome.{Outcome}
 use Rattle.engine_core.specs.declared.outcome.Outcome.TheVariants.{Passed, Held, Refused, Redacted}
 use Rattle.engine_core.specs.declared.policy.Policy.{Policy}
-use Rattle.chain_upgrade.specs.Chains.{ChainParts, HasTurn, IsAbove, IsAscending, IsStandingChain, calls_after}
-use Rattle.call_history.specs.Draining.{IsDone}
-use Rattle.call_history.specs.Events.{Comes, Course, changes, has_turn, is_away, is_sent, link_failed, rises, stays, takes, turned, turns, HasTurn as HasTurnBehind}
-use Rattle.call_history.specs.Rules.{Under}
-use Rattle.conn_core.specs.Connections.{Connection, IsConnection, course, under}
-use Rattle.conn_core.specs.Steps.{Steps, parts_of, redactions}
+use Rattle.chain_upgrade.specs.Chains.{ChainParts, IsEngineTurn, AreAscendingAbove, AreAscending, IsChainState, calls_after}
+use Rattle.call_history.specs.Draining.{IsFinalOutcome}
+use Rattle.call_history.specs.Transitions.{IsTransition, ConnState, changes, has_turn, is_away, is_sent, link_failed, rises, stays, takes, trace_after_turn, turns, IsEntryTurn as HasTurnBehind}
+use Rattle.call_history.specs.Rules.{JudgeContext}
+use Rattle.conn_core.specs.Connections.{Connection, IsConnection, conn_state, judge_context}
+use Rattle.conn_core.specs.ConnectionSteps.{IsStep, call_parts, redactions}
 
 -- ---- the parts of the calls' trees
 
-same-weight : (outcome : Outcome) (policy : Policy) (s s' : StandingCall) → s'.call ≡ form_after outcome policy s.call
+same-weight : (outcome : Outcome) (policy : Policy) (s s' : PendingCall) → s'.call ≡ form_after outcome policy s.call
     → outcome ≢ Redacted → weight s'.call.tree ≡ weight s.call.tree
 same-weight (Passed noted) policy s s' is other = ap (λ (c : Call). weight c.tree) is
 same-weight (Held left cost) policy s s' is other = ap (λ (c : Call). weight c.tree) is
 same-weight (Refused noted why) policy s s' is other = ap (λ (c : Call). weight c.tree) is
 same-weight Redacted policy s s' is other = absurd (other refl)
 
-middle : (front : List StandingCall) (s : StandingCall) (back : List StandingCall)
-    → parts_of (front ++ s ∷ back) ≡ parts_of front + (weight s.call.tree + parts_of back)
-middle front s back = sum_by-append (λ (t : StandingCall). weight t.call.tree) front (s ∷ back)
-    ∙ ap (λ n. parts_of front + n) (sum_by-cons (λ (t : StandingCall). weight t.call.tree) s back)
+middle : (front : List PendingCall) (s : PendingCall) (back : List PendingCall)
+    → call_parts (front ++ s ∷ back) ≡ call_parts front + (weight s.call.tree + call_parts back)
+middle front s back = sum_by-append (λ (t : PendingCall). weight t.call.tree) front (s ∷ back)
+    ∙ ap (λ n. call_parts front + n) (sum_by-cons (λ (t : PendingCall). weight t.call.tree) s back)
 
-parts-by : (outcome : Outcome) (policy : Policy) (front : List StandingCall) (s s' : StandingCall)
-    (back : List StandingCall) → s'.call ≡ form_after outcome policy s.call
+parts-by : (outcome : Outcome) (policy : Policy) (front : List PendingCall) (s s' : PendingCall)
+    (back : List PendingCall) → s'.call ≡ form_after outcome policy s.call
     → (outcome ≡ Redacted → weight s'.call.tree < weight s.call.tree)
-    → parts_of (calls_after outcome front s' back) + redactions outcome ≤ parts_of (front ++ s ∷ back)
+    → call_parts (calls_after outcome front s' back) + redactions outcome ≤ call_parts (front ++ s ∷ back)
 parts-by (Passed noted) policy front s s' back is less =
     omega (
       arith,
@@ -56,17 +56,17 @@ parts-by (Held left cost) policy front s s' back is less =
           absurd cc),
     )
 parts-by (Refused noted why) policy front s s' back is less =
-    omega (arith, middle front s back, sum_by-append (λ (t : StandingCall). weight t.call.tree) front back)
+    omega (arith, middle front s back, sum_by-append (λ (t : PendingCall). weight t.call.tree) front back)
 parts-by Redacted policy front s s' back is less = omega (arith, middle front s back, middle front s' back, less refl)
 
 -- no turn makes the trees of the calls larger, and a redaction makes them smaller
 pub parts-fall : (before after : ChainParts) (position moment seq : ℕ) (outcome : Outcome)
-    → HasTurn before position moment seq outcome after
-    → parts_of after.calls + redactions outcome ≤ parts_of before.calls
+    → IsEngineTurn before position moment seq outcome after
+    → call_parts after.calls + redactions outcome ≤ call_parts before.calls
 parts-fall before after position moment seq outcome has =
     let less = parts-by outcome has.engine.entry.policy has.front has.call has.call' has.back has.leaves_call.form
     has.leaves_call.smaller in
-    omega (arith, less, ap parts_of has.stood, ap parts_of has.calls)
+    omega (arith, less, ap call_parts has.calls_before, ap call_parts has.calls)
 
 -- ---- how many calls are at a position
 
@@ -132,10 +132,10 @@ waiting-less position seq (call ∷ row) = elim (cases_eq seq call.0) [
 ]
 
 -- calls with other numbers stay where they are
-unmoved : (seq : ℕ) (row : Row) → All (λ n. n ≢ seq) (map (λ call. call.0) row) → goes_on seq row ≡ row
+unmoved : (seq : ℕ) (row : Row) → All (λ n. n ≢ seq) (map (λ call. call.0) row) → advanced seq row ≡ row
 unmoved seq [] apart = refl
 unmoved seq (call ∷ row) apart =
-    ap (λ b. (call.0, if b then call.1 + 1 else call.1) ∷ goes_on seq row)
+    ap (λ b. (call.0, if b then call.1 + 1 else call.1) ∷ advanced seq row)
     (ne_eqb call.0 seq (All-head (λ (n : ℕ). n ≢ seq) call.0 (map (λ (call : ℕ × ℕ). call.0) row) apart))
     ∙ ap (λ (r : Row). call ∷ r)
     (unmoved seq row (All-tail (λ (n : ℕ). n ≢ seq) call.0 (map (λ (call : ℕ × ℕ). call.0) row) apart))
@@ -161,15 +161,15 @@ found-number position seq (call ∷ row) P all first = elim (cases_eq call.1 pos
 
 -- if the first call at a position advances or leaves, one fewer is there
 waiting-goes : (position seq : ℕ) (row : Row) → AreApart row → first_at position row ≡ Some (seq, position)
-    → waiting position (goes_on seq row) + 1 ≤ waiting position row
+    → waiting position (advanced seq row) + 1 ≤ waiting position row
 waiting-goes position seq [] apart first = absurd cc
 waiting-goes position seq (call ∷ row) apart first = elim (cases_eq call.1 position) [
   | inl here ↦
       let is : Some call ≡ Some (seq, position) =
       sym (ap (λ b. cond b (Some call) (first_at position row)) (eq-eqb call.1 position here)) ∙ first in
       let number : call.0 ≡ seq = cc in
-      let moved : goes_on seq (call ∷ row) ≡ (call.0, call.1 + 1) ∷ row =
-      ap (λ b. (call.0, if b then call.1 + 1 else call.1) ∷ goes_on seq row) (eq-eqb call.0 seq number)
+      let moved : advanced seq (call ∷ row) ≡ (call.0, call.1 + 1) ∷ row =
+      ap (λ b. (call.0, if b then call.1 + 1 else call.1) ∷ advanced seq row) (eq-eqb call.0 seq number)
       ∙ ap (λ (r : Row). (call.0, call.1 + 1) ∷ r)
       (unmoved seq row (subst (λ (n : ℕ). All (λ m. m ≢ n) (map (λ (other : ℕ × ℕ). other.0) row)) number apart.0))
       in
@@ -184,15 +184,15 @@ waiting-goes position seq (call ∷ row) apart first = elim (cases_eq call.1 pos
       let rest : first_at position row ≡ Some (seq, position) =
       sym (ap (λ b. cond b (Some call) (first_at position row)) (ne_eqb call.1 position there)) ∙ first in
       let other : seq ≢ call.0 = found-number position seq row (λ n. n ≢ call.0) apart.0 rest in
-      let stays-in : goes_on seq (call ∷ row) ≡ call ∷ goes_on seq row =
-      ap (λ b. (call.0, if b then call.1 + 1 else call.1) ∷ goes_on seq row)
+      let stays-in : advanced seq (call ∷ row) ≡ call ∷ advanced seq row =
+      ap (λ b. (call.0, if b then call.1 + 1 else call.1) ∷ advanced seq row)
       (ne_eqb call.0 seq (λ same. other (sym same))) in
       omega (
         arith,
         ap (waiting position) stays-in,
         waiting-there position call row there,
         waiting-there position call
-            (goes_on seq row) there,
+            (advanced seq row) there,
         waiting-goes position seq row apart.1 rest,
       )
 ]
@@ -238,7 +238,7 @@ waiting-gone position seq (call ∷ row) first = elim (cases_eq call.1 position)
       ]
 ]
 
-above-apart : (low : ℕ) (row : Row) → IsAbove low (map (λ call. call.0) row)
+above-apart : (low : ℕ) (row : Row) → AreAscendingAbove low (map (λ call. call.0) row)
     → All (λ n. n ≢ low) (map (λ call. call.0) row) × All (λ n. low < n) (map (λ call. call.0) row) × AreApart row
 above-apart low [] h = (All-nil (λ (n : ℕ). n ≢ low), All-nil (λ (n : ℕ). low < n), tt)
 above-apart low (call ∷ row) h =
@@ -253,23 +253,23 @@ above-apart low (call ∷ row) h =
       (rest.0, rest.2),
     )
 
-ascending-apart : (row : Row) → IsAscending (map (λ call. call.0) row) → AreApart row
+ascending-apart : (row : Row) → AreAscending (map (λ call. call.0) row) → AreApart row
 ascending-apart [] h = tt
 ascending-apart (call ∷ row) h = let rest = above-apart call.0 row h in (rest.0, rest.2)
 
-row-apart : (c : ChainParts) → IsStandingChain c → AreApart c.row
-row-apart c stands = ascending-apart c.row (subst IsAscending (sym stands.row) stands.stands.ascend)
+row-apart : (c : ChainParts) → IsChainState c → AreApart c.row
+row-apart c stands = ascending-apart c.row (subst AreAscending (sym stands.row) stands.stands.ascend)
 
 -- ---- the turn in a transition
 
 -- a transition that is a turn, by the trace
-pub record Turning (u : Under) (old new : Course) (position seq : ℕ) (outcome : Outcome) : Type 0 where
+pub record Turning (u : JudgeContext) (old new : ConnState) (position seq : ℕ) (outcome : Outcome) : Type 0 where
   pub entry : Entry
   pub has : HasTurnBehind u old position seq outcome entry
-  pub is : new ≡ turned entry seq outcome old
+  pub is : new ≡ trace_after_turn entry seq outcome old
 
-pub turn-in : (u : Under) (old new : Course) (position seq : ℕ) (outcome : Outcome)
-    → Comes u old (turns position seq outcome) new → Turning u old new position seq outcome
+pub turn-in : (u : JudgeContext) (old new : ConnState) (position seq : ℕ) (outcome : Outcome)
+    → IsTransition u old (turns position seq outcome) new → Turning u old new position seq outcome
 turn-in u old new position seq outcome (takes call is running may new-is) = absurd cc
 turn-in u old new position seq outcome (is_away method number addr is full new-is) = absurd cc
 turn-in u old new position seq outcome (changes step is may new-is) = absurd cc
@@ -285,9 +285,9 @@ turn-in u old new position seq outcome (has_turn p s o e is has new-is) =
 turn-in u old new position seq outcome (is_sent s bytes is running ready new-is) = absurd cc
 turn-in u old new position seq outcome (link_failed is new-is) = absurd cc
 
-fewer-by : (e : Entry) (position seq : ℕ) (outcome : Outcome) (c : Course) → IsDone outcome → AreApart c.row
+fewer-by : (e : Entry) (position seq : ℕ) (outcome : Outcome) (c : ConnState) → IsFinalOutcome outcome → AreApart c.row
     → first_at position c.row ≡ Some (seq, position)
-    → waiting position (turned e seq outcome c).row + 1 ≤ waiting position c.row
+    → waiting position (trace_after_turn e seq outcome c).row + 1 ≤ waiting position c.row
 fewer-by e position seq (Passed noted) c done apart first = waiting-goes position seq c.row apart first
 fewer-by e position seq (Held left cost) c done apart first = absurd done
 fewer-by e position seq (Refused noted why) c done apart first = waiting-gone position seq c.row first
@@ -295,12 +295,12 @@ fewer-by e position seq Redacted c done apart first = absurd done
 
 -- after a turn that is final for its call, fewer are at the position
 pub fewer-waiting : (before after : Connection) (position seq : ℕ) (outcome : Outcome) → IsConnection before
-    → IsDone outcome → Steps before (turns position seq outcome) after
+    → IsFinalOutcome outcome → IsStep before (turns position seq outcome) after
     → waiting position after.chain.row + 1 ≤ waiting position before.chain.row
 fewer-waiting before after position seq outcome h done step =
-    let t = turn-in (under before) (course before) (course after) position seq outcome step in
+    let t = turn-in (judge_context before) (conn_state before) (conn_state after) position seq outcome step in
     omega (
       arith,
-      ap (λ (c : Course). waiting position c.row) t.is,
-      fewer-by t.entry position seq outcome (course before) done (row-apart before.chain h.standing_chain) t.has.first,
+      ap (λ (c : ConnState). waiting position c.row) t.is,
+      fewer-by t.entry position seq outcome (conn_state before) done (row-apart before.chain h.is_chain_state) t.has.first,
     )

@@ -4,14 +4,14 @@ use Rattle.std.proofs.Common.{insert, set, slice_get, refl, ap, ◌∙◌, subst
 use Rattle.std.specs.Prelude.{Err, Ok, OnOk, Result, Some}
 use Rattle.std.specs.Str.{bytes_eq}
 use Rattle.std.proofs.lemmas.List.{length-map}
-use Rattle.engine_core.specs.Chains.{Chain, Changes, is_past, new_entry, no_place, upgraded}
+use Rattle.engine_core.specs.Chains.{Chain, HasChanged, is_past, new_entry, no_place, upgraded}
 use Rattle.engine_core.specs.Engines.{EngineParts}
-use Rattle.engine_core.specs.Moves.{back_to, place_of}
-use Rattle.engine_core.specs.Policies.{first_level, level_under}
+use Rattle.engine_core.specs.Moves.{returned_to, position_of}
+use Rattle.engine_core.specs.Policies.{initial_level, level_after_upgrade}
 use Rattle.engine_core.specs.declared.op.Op.TheVariants.{Attach, Detach, Upgrade}
 use Rattle.engine_core.specs.declared.policy.Policy.{Policy}
-use Rattle.chain_upgrade.specs.Chains.{ChainParts, chain_of}
-use Rattle.conn_core.specs.Kept.{IsChanged}
+use Rattle.chain_upgrade.specs.Chains.{ChainParts, chain_of_state}
+use Rattle.conn_core.specs.Invariant.{IsChanged}
 use Rattle.conn_core.proofs.Changed.{detach-has, has-named, upgraded-engine}
 use Rattle.conn_core.proofs.Lists.{map-at, within-at}
 
@@ -25,56 +25,56 @@ drop-at (y ∷ xs) (suc i) x is = drop-at xs i x is
 -- none of the first `at` entries has the name
 abbrev pub IsBehind : List ℕ → List EngineParts → ℕ → Type 0
 IsBehind name engines at =
-    place_of name (map (λ e. e.entry) engines) ≡ at + place_of name (drop at (map (λ e. e.entry) engines))
+    position_of name (map (λ e. e.entry) engines) ≡ at + position_of name (drop at (map (λ e. e.entry) engines))
 
 rest-at : (name : List ℕ) (engines : List EngineParts) (at : ℕ) (e : EngineParts) → slice_get engines at ≡ Some e
-    → place_of name (drop at (map (λ e. e.entry) engines))
-    ≡ cond (bytes_eq e.entry.name name) 0 (place_of name (drop (suc at) (map (λ e. e.entry) engines)) + 1)
+    → position_of name (drop at (map (λ e. e.entry) engines))
+    ≡ cond (bytes_eq e.entry.name name) 0 (position_of name (drop (suc at) (map (λ e. e.entry) engines)) + 1)
 rest-at name engines at e is =
-    ap (place_of name) (drop-at (map (λ (e : EngineParts). e.entry) engines) at e.entry
+    ap (position_of name) (drop-at (map (λ (e : EngineParts). e.entry) engines) at e.entry
     (map-at (λ (e : EngineParts). e.entry) engines at e is))
 
 pub here-placed : (name : List ℕ) (engines : List EngineParts) (at : ℕ) (e : EngineParts)
     → slice_get engines at ≡ Some e → bytes_eq e.entry.name name ≡ true → IsBehind name engines at
-    → at ≡ place_of name (map (λ e. e.entry) engines)
+    → at ≡ position_of name (map (λ e. e.entry) engines)
 here-placed name engines at e is named behind =
-    let none : place_of name (drop at (map (λ (e : EngineParts). e.entry) engines)) ≡ 0 =
+    let none : position_of name (drop at (map (λ (e : EngineParts). e.entry) engines)) ≡ 0 =
     rest-at name engines at e is ∙ ap (λ b.
-    cond b 0 (place_of name (drop (suc at) (map (λ (e : EngineParts). e.entry) engines)) + 1)) named in
+    cond b 0 (position_of name (drop (suc at) (map (λ (e : EngineParts). e.entry) engines)) + 1)) named in
     omega (arith, behind, none)
 
 pub behind-more : (name : List ℕ) (engines : List EngineParts) (at : ℕ) (e : EngineParts)
     → slice_get engines at ≡ Some e → bytes_eq e.entry.name name ≡ false → IsBehind name engines at
     → IsBehind name engines (at + 1)
 behind-more name engines at e is other behind =
-    let rest : place_of name (drop at (map (λ (e : EngineParts). e.entry) engines))
-    ≡ place_of name (drop (suc at) (map (λ (e : EngineParts). e.entry) engines)) + 1 =
+    let rest : position_of name (drop at (map (λ (e : EngineParts). e.entry) engines))
+    ≡ position_of name (drop (suc at) (map (λ (e : EngineParts). e.entry) engines)) + 1 =
     rest-at name engines at e is ∙ ap (λ b.
-    cond b 0 (place_of name (drop (suc at) (map (λ (e : EngineParts). e.entry) engines)) + 1)) other in
-    let next : place_of name (drop (at + 1) (map (λ (e : EngineParts). e.entry) engines))
-    ≡ place_of name (drop (suc at) (map (λ (e : EngineParts). e.entry) engines)) =
+    cond b 0 (position_of name (drop (suc at) (map (λ (e : EngineParts). e.entry) engines)) + 1)) other in
+    let next : position_of name (drop (at + 1) (map (λ (e : EngineParts). e.entry) engines))
+    ≡ position_of name (drop (suc at) (map (λ (e : EngineParts). e.entry) engines)) =
     (let one : at + 1 ≡ suc at = omega arith in
-    ap (λ n. place_of name (drop n (map (λ (e : EngineParts). e.entry) engines))) one) in
+    ap (λ n. position_of name (drop n (map (λ (e : EngineParts). e.entry) engines))) one) in
     omega (arith, behind, rest, next)
 
 -- ---- an attachment
 
 pub attach-within : (c : ChainParts) (at : ℕ) (name label : List ℕ) (policy : Policy) (after : Chain)
-    → Changes (chain_of c) (Attach at name label policy) after → at ≤ length c.engines
+    → HasChanged (chain_of_state c) (Attach at name label policy) after → at ≤ length c.engines
 attach-within c at name label policy after h =
-    let no : length (chain_of c).entries < at → ⊥ =
+    let no : length (chain_of_state c).entries < at → ⊥ =
     λ past. h.free (no_place at) (is_past at name label policy refl past refl) in
     omega (arith, no, length-map c.engines (λ (e : EngineParts). e.entry))
 
 pub attach-changed : (c c' : ChainParts) (at now : ℕ) (name name' label : List ℕ) (policy policy' : Policy)
     → name' ≡ name → policy' ≡ policy
-    → Changes (chain_of c) (Attach at name' label policy') (chain_of c')
+    → HasChanged (chain_of_state c) (Attach at name' label policy') (chain_of_state c')
     → c'.engines ≡ insert c.engines at (record {
       entry = new_entry name' (c.attached + 1) policy';
-      level = first_level policy';
+      level = initial_level policy';
       last = now;
     })
-    → c'.calls ≡ c.calls → c'.row ≡ back_to at c.row → IsChanged (Attach at name label policy) now c c'
+    → c'.calls ≡ c.calls → c'.row ≡ returned_to at c.row → IsChanged (Attach at name label policy) now c c'
 attach-changed c c' at now name name' label policy policy' same-name same-policy changes engines calls row =
     subst (λ (n : List ℕ). IsChanged (Attach at n label policy) now c c') same-name
     (subst (λ (p : Policy). IsChanged (Attach at name' label p) now c c') same-policy
@@ -82,29 +82,29 @@ attach-changed c c' at now name name' label policy policy' same-name same-policy
 
 -- ---- a detachment
 
-pub detach-within : (c : ChainParts) (name : List ℕ) (after : Chain) → Changes (chain_of c) (Detach name) after
-    → place_of name (chain_of c).entries < length c.engines
-detach-within c name after h = let n = has-named name c.engines (detach-has name c after h.makes) in
-    within-at c.engines (place_of name (chain_of c).entries) n.engine n.at
+pub detach-within : (c : ChainParts) (name : List ℕ) (after : Chain) → HasChanged (chain_of_state c) (Detach name) after
+    → position_of name (chain_of_state c).entries < length c.engines
+detach-within c name after h = let n = has-named name c.engines (detach-has name c after h.effect) in
+    within-at c.engines (position_of name (chain_of_state c).entries) n.engine n.at
 
 -- ---- an upgrade
 
 pub upgrade-within : (c : ChainParts) (name label : List ℕ) (policy : Policy) (after : Chain)
-    → Changes (chain_of c) (Upgrade name label policy) after
-    → place_of name (chain_of c).entries < length c.engines
+    → HasChanged (chain_of_state c) (Upgrade name label policy) after
+    → position_of name (chain_of_state c).entries < length c.engines
 upgrade-within c name label policy after h = let n = upgraded-engine name label policy c after h in
-    within-at c.engines (place_of name (chain_of c).entries) n.engine n.at
+    within-at c.engines (position_of name (chain_of_state c).entries) n.engine n.at
 
 pub upgrade-changed : (c c' : ChainParts) (now : ℕ) (name name' label : List ℕ) (policy policy' : Policy) → name' ≡ name
     → policy' ≡ policy
-    → Changes (chain_of c) (Upgrade name' label policy') (chain_of c')
-    → ((e : EngineParts) → slice_get c.engines (place_of name' (chain_of c).entries) ≡ Some e
-    → c'.engines ≡ set c.engines (place_of name' (chain_of c).entries) (record {
+    → HasChanged (chain_of_state c) (Upgrade name' label policy') (chain_of_state c')
+    → ((e : EngineParts) → slice_get c.engines (position_of name' (chain_of_state c).entries) ≡ Some e
+    → c'.engines ≡ set c.engines (position_of name' (chain_of_state c).entries) (record {
       entry = upgraded e.entry policy';
-      level = level_under e.entry.policy policy' e.level;
+      level = level_after_upgrade e.entry.policy policy' e.level;
       last = e.last;
     }))
-    → c'.calls ≡ c.calls → c'.row ≡ back_to (place_of name' (chain_of c).entries) c.row
+    → c'.calls ≡ c.calls → c'.row ≡ returned_to (position_of name' (chain_of_state c).entries) c.row
     → IsChanged (Upgrade name label policy) now c c'
 upgrade-changed c c' now name name' label policy policy' same-name same-policy changes engines calls row =
     subst (λ (n : List ℕ). IsChanged (Upgrade n label policy) now c c') same-name

@@ -6,15 +6,15 @@ use Rattle.mrpc_table.specs.declared.call.Call.{Call}
 use Rattle.policy_redact.specs.Redacting.{cleared_call}
 use Rattle.engine_core.specs.Answers.{past_after}
 use Rattle.engine_core.specs.Chains.{Entry, attachments_of, names_of}
-use Rattle.engine_core.specs.Marks.{IsSilent, StandingCall, note_of, past_by, past_of}
-use Rattle.engine_core.specs.Turns.{ComesOut, form_after, noted_in}
-use Rattle.engine_core.specs.Working.{LeavesCall, LeavesMarks}
+use Rattle.engine_core.specs.Marks.{IsSilent, PendingCall, note_of, past_by, past_of}
+use Rattle.engine_core.specs.Turns.{IsTurnOutcome, form_after, noted_in}
+use Rattle.engine_core.specs.Working.{IsCallAfter, AreMarksAfterTurn}
 use Rattle.engine_core.specs.declared.outcome.Noted.{Noted}
 use Rattle.engine_core.specs.declared.outcome.Noted.TheVariants as notes
 use Rattle.engine_core.specs.declared.outcome.Outcome.{Outcome}
 use Rattle.engine_core.specs.declared.outcome.Outcome.TheVariants.{Passed, Held, Refused, Redacted}
 use Rattle.engine_core.specs.declared.policy.Policy.{Policy}
-use Rattle.conn_core.specs.Kept.{MayRecord, may_clear, may_note, records_of}
+use Rattle.conn_core.specs.Invariant.{MayRecord, may_clear, may_note, records_of}
 use Rattle.conn_core.proofs.Apart.{all-keyed}
 use Rattle.conn_core.proofs.Lists.{all-at}
 use Rattle.conn_core.proofs.Records.{ClearLaws, Clearing, may-before, may-still, none-again, none-noted, noted-of, redacted-of}
@@ -22,18 +22,18 @@ use Rattle.conn_core.proofs.Spending.{Recording}
 
 -- the state before and after a turn
 pub record Worked (entries : List Entry) (position level moment : ℕ) (e : Entry) (outcome : Outcome)
-    (s met s' : StandingCall) : Type 0 where
+    (s met s' : PendingCall) : Type 0 where
   pub at : slice_get entries position ≡ Some e
   pub names : AreDistinct (names_of entries)
   pub attachments : AreDistinct (attachments_of entries)
-  pub comes : ComesOut e.policy level moment s.call (past_of s.marks e.attach) outcome
+  pub comes : IsTurnOutcome e.policy level moment s.call (past_of s.marks e.attach) outcome
   pub kept : All (λ y. note_of met.marks y.attach ≡ note_of s.marks y.attach) entries
   pub silent : IsSilent e.policy (past_of s.marks e.attach)
-  pub call : LeavesCall e.policy outcome s.call s'.call
-  pub marks : LeavesMarks e outcome met s'
+  pub call : IsCallAfter e.policy outcome s.call s'.call
+  pub marks : AreMarksAfterTurn e outcome met s'
 
 -- the notes after it
-own-past : (entries : List Entry) (position level moment : ℕ) (e : Entry) (outcome : Outcome) (s met s' : StandingCall)
+own-past : (entries : List Entry) (position level moment : ℕ) (e : Entry) (outcome : Outcome) (s met s' : PendingCall)
     → Worked entries position level moment e outcome s met s'
     → past_of s'.marks e.attach ≡ past_after (noted_in outcome) (past_of s.marks e.attach)
 own-past entries position level moment e outcome s met s' w =
@@ -52,7 +52,7 @@ same-form Redacted policy call other = absurd (other refl)
 
 -- each other entry may need at most the records that it needed before, and this entry none
 others-still : (entries : List Entry) (position level moment : ℕ) (e : Entry) (outcome : Outcome)
-    (s met s' : StandingCall) → Worked entries position level moment e outcome s met s'
+    (s met s' : PendingCall) → Worked entries position level moment e outcome s met s'
     → ((y : Entry) → past_of s'.marks y.attach ≡ past_of s.marks y.attach → MayRecord s' y → MayRecord s y)
     → (MayRecord s' e → MayRecord s e)
     → All (λ y. MayRecord s' y → MayRecord s y) entries
@@ -72,7 +72,7 @@ nothing-noted (notes.Drawn window ticket) none = absurd (omega (arith, none))
 nothing-noted notes.Counted none = absurd (omega (arith, none))
 
 -- the entry of a turn that redacts nothing
-own-still : (entries : List Entry) (position level moment : ℕ) (e : Entry) (outcome : Outcome) (s met s' : StandingCall)
+own-still : (entries : List Entry) (position level moment : ℕ) (e : Entry) (outcome : Outcome) (s met s' : PendingCall)
     → Worked entries position level moment e outcome s met s' → outcome ≢ Redacted
     → MayRecord s' e → MayRecord s e
 own-still entries position level moment e outcome s met s' w other may =
@@ -86,14 +86,14 @@ own-still entries position level moment e outcome s met s' w other may =
           (λ (n : Noted). past_after n (past_of s.marks e.attach)) nothing-is) may
     ]
 
-cleared-by : (entries : List Entry) (position level moment : ℕ) (e : Entry) (s met s' : StandingCall)
+cleared-by : (entries : List Entry) (position level moment : ℕ) (e : Entry) (s met s' : PendingCall)
     → (w : Worked entries position level moment e Redacted s met s')
     → (c : Clearing e.policy s.call) → s'.call ≡ cleared_call c.list s.call
 cleared-by entries position level moment e s met s' w c =
     w.call.form ∙ ap (λ (p : Policy). form_after Redacted p s.call) c.policy_is
 
 recording-redacted : ClearLaws
-    → (entries : List Entry) (position level moment : ℕ) (e : Entry) (s met s' : StandingCall)
+    → (entries : List Entry) (position level moment : ℕ) (e : Entry) (s met s' : PendingCall)
     → Worked entries position level moment e Redacted s met s' → Recording entries e Redacted s s'
 recording-redacted laws entries position level moment e s met s' w =
     let c = redacted-of e.policy level moment s.call (past_of s.marks e.attach) w.comes in
@@ -109,7 +109,7 @@ recording-redacted laws entries position level moment e s met s' w =
     }
 
 recording-other : (entries : List Entry) (position level moment : ℕ) (e : Entry) (outcome : Outcome)
-    (s met s' : StandingCall) → outcome ≢ Redacted
+    (s met s' : PendingCall) → outcome ≢ Redacted
     → Worked entries position level moment e outcome s met s' → Recording entries e outcome s s'
 recording-other entries position level moment e outcome s met s' other w =
     let call-is : s'.call ≡ s.call = w.call.form ∙ same-form outcome e.policy s.call other in record {
@@ -125,7 +125,7 @@ recording-other entries position level moment e outcome s met s' other w =
     }
 
 pub recording : ClearLaws
-    → (entries : List Entry) (position level moment : ℕ) (e : Entry) (outcome : Outcome) (s met s' : StandingCall)
+    → (entries : List Entry) (position level moment : ℕ) (e : Entry) (outcome : Outcome) (s met s' : PendingCall)
     → Worked entries position level moment e outcome s met s'
     → Recording entries e outcome s s'
 recording laws entries position level moment e (Passed noted) s met s' w =

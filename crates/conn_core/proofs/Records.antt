@@ -5,25 +5,25 @@ use Rattle.mrpc_table.specs.declared.call.Call.{Call}
 use Rattle.policy_rate.specs.declared.rate.Rate.{Rate as RatePolicy}
 use Rattle.policy_redact.specs.Redacting.{cleared, cleared_call}
 use Rattle.policy_redact.specs.declared.redact.Clear.{Clear}
-use Rattle.engine_core.specs.Answers.{Answers, Past, note, redact, nothing, charged, drawn, counted, past_after}
+use Rattle.engine_core.specs.Answers.{IsEntryAnswer, Past, note, redact, nothing, charged, drawn, counted, past_after}
 use Rattle.engine_core.specs.Answers.{allows, denies, was_charged, charges, holds, refuses, is_within, is_over, draws}
 use Rattle.engine_core.specs.Answers.{was_counted, counts, is_clear, redacts}
 use Rattle.engine_core.specs.Chains.{Entry}
-use Rattle.engine_core.specs.Marks.{StandingCall, past_of}
-use Rattle.engine_core.specs.Turns.{ComesOut, passes, is_noted, is_held, is_refused, is_noted_and_refused, is_redacted, noted_in}
+use Rattle.engine_core.specs.Marks.{PendingCall, past_of}
+use Rattle.engine_core.specs.Turns.{IsTurnOutcome, passes, is_noted_and_passes, is_held, is_refused, is_noted_and_refused, is_redacted, noted_in}
 use Rattle.engine_core.specs.declared.outcome.Noted.{Noted}
 use Rattle.engine_core.specs.declared.outcome.Noted.TheVariants as notes
 use Rattle.engine_core.specs.declared.outcome.Outcome.{Outcome}
 use Rattle.engine_core.specs.declared.outcome.Outcome.TheVariants as outcomes
 use Rattle.engine_core.specs.declared.policy.Policy.{Policy}
 use Rattle.engine_core.specs.declared.policy.Policy.TheVariants.{Rate, Quota, Count, Redact}
-use Rattle.conn_core.specs.Kept.{MayRecord, may_clear, may_note, records_of}
+use Rattle.conn_core.specs.Invariant.{MayRecord, may_clear, may_note, records_of}
 
 -- ---- notes
 
 -- whether a note is due doesn't depend on the form of the call
 note-of-any : (policy : Policy) (level moment : ℕ) (form other : Call) (past : Past) (n : Noted)
-    → Answers policy level moment form past (note n) → Answers policy level moment other past (note n)
+    → IsEntryAnswer policy level moment form past (note n) → IsEntryAnswer policy level moment other past (note n)
 note-of-any policy level moment form other past n (allows p is allow answer) = absurd cc
 note-of-any policy level moment form other past n (denies p is allow answer) = absurd cc
 note-of-any policy level moment form other past n (was_charged r is some answer) = absurd cc
@@ -41,7 +41,7 @@ note-of-any policy level moment form other past n (redacts clears is changed ans
 
 -- no further note is possible if one was made
 abbrev IsSpent : Policy → Past → Type 0
-IsSpent policy past = (level moment : ℕ) (form : Call) (n : Noted) → Answers policy level moment form past (note n) → ⊥
+IsSpent policy past = (level moment : ℕ) (form : Call) (n : Noted) → IsEntryAnswer policy level moment form past (note n) → ⊥
 
 spent-rate : (policy : Policy) (r : RatePolicy) (past : Past) → policy ≡ Rate r → past ≢ nothing → IsSpent policy past
 spent-rate policy r past is some level moment form n (allows p is' allow answer) = absurd cc
@@ -94,7 +94,7 @@ spent-count policy is level moment form n (redacts clears is' changed answer) = 
 
 -- after a note none is due
 spent : (policy : Policy) (level moment : ℕ) (form : Call) (past : Past) (n : Noted)
-    → Answers policy level moment form past (note n) → IsSpent policy (past_after n past)
+    → IsEntryAnswer policy level moment form past (note n) → IsSpent policy (past_after n past)
 spent policy level moment form past n (allows p is allow answer) = absurd cc
 spent policy level moment form past n (denies p is allow answer) = absurd cc
 spent policy level moment form past n (was_charged r is some answer) = absurd cc
@@ -118,7 +118,7 @@ spent policy level moment form past n (redacts clears is changed answer) = absur
 
 -- a redacting policy makes no note
 redactor-notes-nothing : (policy : Policy) (level moment : ℕ) (form : Call) (past : Past) (n : Noted)
-    (clears : List Clear) → policy ≡ Redact clears → Answers policy level moment form past (note n) → ⊥
+    (clears : List Clear) → policy ≡ Redact clears → IsEntryAnswer policy level moment form past (note n) → ⊥
 redactor-notes-nothing policy level moment form past n clears is (allows p is' allow answer) = absurd cc
 redactor-notes-nothing policy level moment form past n clears is (denies p is' allow answer) = absurd cc
 redactor-notes-nothing policy level moment form past n clears is (was_charged r is' some answer) = absurd cc
@@ -150,17 +150,17 @@ cleared-before laws a b call changed left =
     let same : cleared_call b call ≡ call = ap (λ (t : Node). record call { tree = t }) left in
     changed (laws.either a b call ∙ ap (cleared a) same)
 
-pub may-before : ClearLaws → (a : List Clear) (s s' : StandingCall) (e : Entry) → s'.call ≡ cleared_call a s.call
+pub may-before : ClearLaws → (a : List Clear) (s s' : PendingCall) (e : Entry) → s'.call ≡ cleared_call a s.call
     → past_of s'.marks e.attach ≡ past_of s.marks e.attach → MayRecord s' e → MayRecord s e
 may-before laws a s s' e call past (may_note level moment n answers some) =
-    may_note level moment n (subst (λ (p : Past). Answers e.policy level moment s.call p (note n)) past
+    may_note level moment n (subst (λ (p : Past). IsEntryAnswer e.policy level moment s.call p (note n)) past
     (note-of-any e.policy level moment s'.call s.call (past_of s'.marks e.attach) n answers)) some
 may-before laws a s s' e call past (may_clear clears is changed) =
     may_clear clears is (cleared-before laws a clears s.call
     (subst (λ (c : Call). cleared clears c ≢ c.tree) call changed))
 
 -- a policy that cleared fields clears none again
-pub none-again : ClearLaws → (a : List Clear) (s s' : StandingCall) (e : Entry) → s'.call ≡ cleared_call a s.call
+pub none-again : ClearLaws → (a : List Clear) (s s' : PendingCall) (e : Entry) → s'.call ≡ cleared_call a s.call
     → e.policy ≡ Redact a → MayRecord s' e → ⊥
 none-again laws a s s' e call policy (may_note level moment n answers some) =
     redactor-notes-nothing e.policy level moment s'.call (past_of s'.marks e.attach) n a policy answers
@@ -170,38 +170,38 @@ none-again laws a s s' e call policy (may_clear clears is changed) =
     s.call ∙ sym (ap (λ (c : Call). c.tree) call))
 
 -- for an unchanged call, the notes decide
-pub may-still : (s s' : StandingCall) (e : Entry) → s'.call ≡ s.call
+pub may-still : (s s' : PendingCall) (e : Entry) → s'.call ≡ s.call
     → past_of s'.marks e.attach ≡ past_of s.marks e.attach → MayRecord s' e → MayRecord s e
 may-still s s' e call past (may_note level moment n answers some) =
-    may_note level moment n (subst (λ (p : Past). Answers e.policy level moment s.call p (note n)) past
-    (subst (λ (c : Call). Answers e.policy level moment c (past_of s'.marks e.attach) (note n)) call answers)) some
+    may_note level moment n (subst (λ (p : Past). IsEntryAnswer e.policy level moment s.call p (note n)) past
+    (subst (λ (c : Call). IsEntryAnswer e.policy level moment c (past_of s'.marks e.attach) (note n)) call answers)) some
 may-still s s' e call past (may_clear clears is changed) =
     may_clear clears is (subst (λ (c : Call). cleared clears c ≢ c.tree) call changed)
 
-pub none-noted : (s s' : StandingCall) (e : Entry) (level moment : ℕ) (form : Call) (past : Past) (n : Noted)
-    → Answers e.policy level moment form past (note n)
+pub none-noted : (s s' : PendingCall) (e : Entry) (level moment : ℕ) (form : Call) (past : Past) (n : Noted)
+    → IsEntryAnswer e.policy level moment form past (note n)
     → past_of s'.marks e.attach ≡ past_after n past → MayRecord s' e → ⊥
 none-noted s s' e level moment form past n notes-it after (may_note l m n' answers some) =
     spent e.policy level moment form past n notes-it l m s'.call n'
-    (subst (λ (p : Past). Answers e.policy l m s'.call p (note n')) after answers)
+    (subst (λ (p : Past). IsEntryAnswer e.policy l m s'.call p (note n')) after answers)
 none-noted s s' e level moment form past n notes-it after (may_clear clears is changed) =
     redactor-notes-nothing e.policy level moment form past n clears is notes-it
 
 -- ---- what a turn records was due
 
 pub noted-of : (policy : Policy) (level moment : ℕ) (form : Call) (past : Past) (outcome : Outcome)
-    → ComesOut policy level moment form past outcome → 1 ≤ records_of (noted_in outcome)
-    → Answers policy level moment form past (note (noted_in outcome))
+    → IsTurnOutcome policy level moment form past outcome → 1 ≤ records_of (noted_in outcome)
+    → IsEntryAnswer policy level moment form past (note (noted_in outcome))
 noted-of policy level moment form past outcome (passes answers is) some =
     absurd (omega (arith, some, ap (λ (o : Outcome). records_of (noted_in o)) is))
-noted-of policy level moment form past outcome (is_noted n calls after is) some =
-    subst (λ (o : Outcome). Answers policy level moment form past (note (noted_in o))) (sym is) calls
+noted-of policy level moment form past outcome (is_noted_and_passes n calls after is) some =
+    subst (λ (o : Outcome). IsEntryAnswer policy level moment form past (note (noted_in o))) (sym is) calls
 noted-of policy level moment form past outcome (is_held l cost answers is) some =
     absurd (omega (arith, some, ap (λ (o : Outcome). records_of (noted_in o)) is))
 noted-of policy level moment form past outcome (is_refused why answers is) some =
     absurd (omega (arith, some, ap (λ (o : Outcome). records_of (noted_in o)) is))
 noted-of policy level moment form past outcome (is_noted_and_refused n why calls after is) some =
-    subst (λ (o : Outcome). Answers policy level moment form past (note (noted_in o))) (sym is) calls
+    subst (λ (o : Outcome). IsEntryAnswer policy level moment form past (note (noted_in o))) (sym is) calls
 noted-of policy level moment form past outcome (is_redacted answers is) some =
     absurd (omega (arith, some, ap (λ (o : Outcome). records_of (noted_in o)) is))
 
@@ -212,7 +212,7 @@ pub record Clearing (policy : Policy) (form : Call) : Type 0 where
   pub changed : cleared list form ≢ form.tree
 
 clears-of : (policy : Policy) (level moment : ℕ) (form : Call) (past : Past)
-    → Answers policy level moment form past redact → Clearing policy form
+    → IsEntryAnswer policy level moment form past redact → Clearing policy form
 clears-of policy level moment form past (allows p is allow answer) = absurd cc
 clears-of policy level moment form past (denies p is allow answer) = absurd cc
 clears-of policy level moment form past (was_charged r is some answer) = absurd cc
@@ -232,9 +232,9 @@ clears-of policy level moment form past (redacts clears is changed answer) = rec
 }
 
 pub redacted-of : (policy : Policy) (level moment : ℕ) (form : Call) (past : Past)
-    → ComesOut policy level moment form past outcomes.Redacted → Clearing policy form
+    → IsTurnOutcome policy level moment form past outcomes.Redacted → Clearing policy form
 redacted-of policy level moment form past (passes answers is) = absurd cc
-redacted-of policy level moment form past (is_noted n calls after is) = absurd cc
+redacted-of policy level moment form past (is_noted_and_passes n calls after is) = absurd cc
 redacted-of policy level moment form past (is_held l cost answers is) = absurd cc
 redacted-of policy level moment form past (is_refused why answers is) = absurd cc
 redacted-of policy level moment form past (is_noted_and_refused n why calls after is) = absurd cc

@@ -5,19 +5,19 @@ use Rattle.std.specs.List.{AllZip, sum_by}
 use Rattle.std.proofs.lemmas.List.Elements.{All-head, All-tail}
 use Rattle.std.proofs.lemmas.List.Sums.{sum_by-cons, sum_by-append, sum_by-set, get_or-le-sum_by}
 use Rattle.engine_core.specs.Chains.{Entry}
-use Rattle.engine_core.specs.Marks.{StandingCall}
+use Rattle.engine_core.specs.Marks.{PendingCall}
 use Rattle.engine_core.specs.declared.outcome.Noted.{Noted}
 use Rattle.engine_core.specs.declared.outcome.Noted.TheVariants as notes
 use Rattle.engine_core.specs.declared.outcome.Outcome.{Outcome}
 use Rattle.engine_core.specs.declared.outcome.Outcome.TheVariants.{Passed, Held, Refused, Redacted}
 use Rattle.engine_core.specs.Turns.{noted_in}
 use Rattle.chain_upgrade.specs.Chains.{calls_after}
-use Rattle.conn_core.specs.Kept.{AreDue, HasRoom, MayRecord, due_of, records_in, records_of}
+use Rattle.conn_core.specs.Invariant.{AreDue, HasRoom, MayRecord, due_of, records_in, records_of}
 use Rattle.conn_core.proofs.Lists.{within-at, zip-length}
 
 -- ---- of one call
 
-due-still : (entries : List Entry) (s s' : StandingCall) (due : List ℕ)
+due-still : (entries : List Entry) (s s' : PendingCall) (due : List ℕ)
     → All (λ e. MayRecord s' e → MayRecord s e) entries → AreDue entries s due → AreDue entries s' due
 due-still [] s s' [] may h = tt
 due-still [] s s' (n ∷ due) may h = h
@@ -27,7 +27,7 @@ due-still (e ∷ entries) s s' (n ∷ due) may h = (
   due-still entries s s' due (All-tail (λ (e : Entry). MayRecord s' e → MayRecord s e) e entries may) h.1,
 )
 
-due-spent : (entries : List Entry) (position : ℕ) (e : Entry) (s : StandingCall) (due : List ℕ)
+due-spent : (entries : List Entry) (position : ℕ) (e : Entry) (s : PendingCall) (due : List ℕ)
     → slice_get entries position ≡ Some e → (MayRecord s e → ⊥) → AreDue entries s due
     → AreDue entries s (set due position 0)
 due-spent [] position e s due is none h = absurd cc
@@ -36,7 +36,7 @@ due-spent (y ∷ entries) zero e s (n ∷ due) is none h = let same : y ≡ e =
     cc in (λ may. absurd (none (subst (MayRecord s) same may)), h.1)
 due-spent (y ∷ entries) (suc position) e s (n ∷ due) is none h = (h.0, due-spent entries position e s due is none h.1)
 
-due-here : (entries : List Entry) (position : ℕ) (e : Entry) (s : StandingCall) (due : List ℕ)
+due-here : (entries : List Entry) (position : ℕ) (e : Entry) (s : PendingCall) (due : List ℕ)
     → slice_get entries position ≡ Some e → MayRecord s e → AreDue entries s due → 1 ≤ get_or due position 0
 due-here [] position e s due is may h = absurd cc
 due-here (y ∷ entries) position e s [] is may h = absurd h
@@ -51,12 +51,12 @@ sum-some : (due : List ℕ) (position : ℕ) → position < length due → 1 ≤
 sum-some due position within some = omega (arith, get_or-le-sum_by (λ (n : ℕ). n) due position 0 within, some)
 
 -- this many records of a call were made, and these are due afterwards
-record Spent (entries : List Entry) (s : StandingCall) (due : List ℕ) (records : ℕ) : Type 0 where
+record Spent (entries : List Entry) (s : PendingCall) (due : List ℕ) (records : ℕ) : Type 0 where
   left : List ℕ
   are : AreDue entries s left
   less : sum left + records ≤ sum due
 
-spend : (entries : List Entry) (position records : ℕ) (e : Entry) (s s' : StandingCall) (due : List ℕ) → records ≤ 1
+spend : (entries : List Entry) (position records : ℕ) (e : Entry) (s s' : PendingCall) (due : List ℕ) → records ≤ 1
     → slice_get entries position ≡ Some e
     → (1 ≤ records → MayRecord s e) → (1 ≤ records → MayRecord s' e → ⊥)
     → All (λ e. MayRecord s' e → MayRecord s e) entries → AreDue entries s due → Spent entries s' due records
@@ -79,7 +79,7 @@ spend entries position (suc records) e s s' due most is may none still h =
       less = omega (arith, sum-spent due position within (due-here entries position e s due is (may one) h), most);
     }
 
-few-due : (entries : List Entry) (position records : ℕ) (e : Entry) (s : StandingCall) (due : List ℕ) → records ≤ 1
+few-due : (entries : List Entry) (position records : ℕ) (e : Entry) (s : PendingCall) (due : List ℕ) → records ≤ 1
     → slice_get entries position ≡ Some e
     → (1 ≤ records → MayRecord s e) → AreDue entries s due → records ≤ sum due
 few-due entries position zero e s due most is may h = omega arith
@@ -95,7 +95,7 @@ few-due entries position (suc records) e s due most is may h =
 
 -- ---- of all calls
 
-record Parted (entries : List Entry) (front : List StandingCall) (s : StandingCall) (back : List StandingCall)
+record Parted (entries : List Entry) (front : List PendingCall) (s : PendingCall) (back : List PendingCall)
     (dues : List (List ℕ)) : Type 0 where
   before : List (List ℕ)
   due : List ℕ
@@ -105,7 +105,7 @@ record Parted (entries : List Entry) (front : List StandingCall) (s : StandingCa
   here : AreDue entries s due
   back_due : AllZip (AreDue entries) back behind
 
-part : (entries : List Entry) (front : List StandingCall) (s : StandingCall) (back : List StandingCall)
+part : (entries : List Entry) (front : List PendingCall) (s : PendingCall) (back : List PendingCall)
     (dues : List (List ℕ)) → AllZip (AreDue entries) (front ++ s ∷ back) dues
     → Parted entries front s back dues
 part entries [] s back [] h = absurd h
@@ -149,14 +149,14 @@ few-noted (notes.Drawn window ticket) = omega arith
 few-noted notes.Counted = omega arith
 
 -- what a turn's records require
-pub record Recording (entries : List Entry) (e : Entry) (outcome : Outcome) (s s' : StandingCall) : Type 0 where
+pub record Recording (entries : List Entry) (e : Entry) (outcome : Outcome) (s s' : PendingCall) : Type 0 where
   pub noted : 1 ≤ records_of (noted_in outcome) → MayRecord s e
   pub redacted : outcome ≡ Redacted → MayRecord s e
   pub noted_no_more : 1 ≤ records_of (noted_in outcome) → MayRecord s' e → ⊥
   pub redacted_no_more : outcome ≡ Redacted → MayRecord s' e → ⊥
   pub still : All (λ e. MayRecord s' e → MayRecord s e) entries
 
-fits-by : (entries : List Entry) (position : ℕ) (e : Entry) (outcome : Outcome) (s s' : StandingCall) (due : List ℕ)
+fits-by : (entries : List Entry) (position : ℕ) (e : Entry) (outcome : Outcome) (s s' : PendingCall) (due : List ℕ)
     (room : ℕ) → sum due + 1 ≤ room
     → slice_get entries position ≡ Some e → Recording entries e outcome s s' → AreDue entries s due
     → records_in outcome ≤ room
@@ -166,8 +166,8 @@ fits-by entries position e (Refused n why) s s' due room enough is r h =
     omega (arith, few-due entries position (records_of n) e s due (few-noted n) is r.noted h, enough)
 fits-by entries position e Redacted s s' due room enough is r h = omega (arith, enough)
 
-pub room-fits : (entries : List Entry) (position : ℕ) (e : Entry) (outcome : Outcome) (front : List StandingCall)
-    (s s' : StandingCall) (back : List StandingCall) (room : ℕ)
+pub room-fits : (entries : List Entry) (position : ℕ) (e : Entry) (outcome : Outcome) (front : List PendingCall)
+    (s s' : PendingCall) (back : List PendingCall) (room : ℕ)
     → HasRoom (front ++ s ∷ back) entries room → slice_get entries position ≡ Some e → Recording entries e outcome s s'
     → records_in outcome ≤ room
 room-fits entries position e outcome front s s' back room h is r =
@@ -176,8 +176,8 @@ room-fits entries position e outcome front s s' back room h is r =
     ap (sum_by due_of) p.is ∙ total p.before p.due p.behind in
     fits-by entries position e outcome s s' p.due room (omega (arith, h.enough, all)) is r p.here
 
-turned-by : (entries : List Entry) (position : ℕ) (e : Entry) (outcome : Outcome) (front : List StandingCall)
-    (s s' : StandingCall) (back : List StandingCall)
+turned-by : (entries : List Entry) (position : ℕ) (e : Entry) (outcome : Outcome) (front : List PendingCall)
+    (s s' : PendingCall) (back : List PendingCall)
     (before : List (List ℕ)) (due : List ℕ) (behind : List (List ℕ)) (room left : ℕ)
     → AllZip (AreDue entries) front before → AreDue entries s due → AllZip (AreDue entries) back behind
     → sum_by due_of before + ((sum due + 1) + sum_by due_of behind) ≤ room → slice_get entries position ≡ Some e
@@ -218,8 +218,8 @@ turned-by entries position e Redacted front s s' back before due behind room lef
       enough = omega (arith, total before spent.left behind, spent.less, enough, le);
     }
 
-pub room-turned : (entries : List Entry) (position : ℕ) (e : Entry) (outcome : Outcome) (front : List StandingCall)
-    (s s' : StandingCall) (back : List StandingCall) (room left : ℕ)
+pub room-turned : (entries : List Entry) (position : ℕ) (e : Entry) (outcome : Outcome) (front : List PendingCall)
+    (s s' : PendingCall) (back : List PendingCall) (room left : ℕ)
     → HasRoom (front ++ s ∷ back) entries room → slice_get entries position ≡ Some e → Recording entries e outcome s s'
     → room ≤ left + records_in outcome
     → HasRoom (calls_after outcome front s' back) entries left

@@ -17,14 +17,14 @@ use Rattle.graph_form.specs.declared.reason.Reason.TheVariants.{NoMethod}
 use Rattle.graph_copy.specs.declared.copying.CopyResult.{CopyResult}
 use Rattle.graph_copy.specs.declared.copying.CopyResult.TheVariants.{Copied, Malformed}
 use Rattle.graph_copy.specs.Copies.{IsCopied}
-use Rattle.graph_copy.specs.Answers.{IfCopied, IfMalformed, loads_of}
-use Rattle.call_history.specs.Behind.{copied, with_tree}
+use Rattle.graph_copy.specs.Answers.{IfCopied, IfMalformed, load_count}
+use Rattle.call_history.specs.Trace.{copied, with_tree}
 use Rattle.call_history.specs.Loads.{is_copied, is_malformed}
-use Rattle.call_history.specs.Rules.{IsTakenBy, payload}
-use Rattle.call_history.specs.declared.happening.Taken.{Taken}
+use Rattle.call_history.specs.Rules.{IsValidCopy, payload}
+use Rattle.call_history.specs.declared.happening.AcceptedCall.{AcceptedCall}
 use Rattle.mrpc_table.specs.declared.memory.Memory.{Memory}
-use Rattle.conn_core.specs.Kept.{IsOfAnswer, IsTakenWell, copy_of}
-use Rattle.conn_core.specs.declared.taking.Submission.{Submission}
+use Rattle.conn_core.specs.Invariant.{IsOfCopyResult, IsWellCopied, copy_of}
+use Rattle.conn_core.specs.declared.copying.CopiedSubmission.{CopiedSubmission}
 
 -- the laws of sound graphs, as hypotheses of the proofs here
 pub record GraphLaws : Type 0 where
@@ -36,13 +36,13 @@ pub record GraphLaws : Type 0 where
   pub reason : (T : Table) (H msg address limit : ℕ) (xs : List (ℕ × ℕ)) (reason : Reason) (place value : ℕ)
       → IsMalformed T H msg address limit xs reason place value → reason ≢ NoMethod
 
-by-copy : GraphLaws → (T : Table) (H limit conn : ℕ) (own : List (ℕ × ℕ)) (answer : CopyResult) (call : Taken)
+by-copy : GraphLaws → (T : Table) (H limit conn : ℕ) (own : List (ℕ × ℕ)) (answer : CopyResult) (call : AcceptedCall)
     (form : Option Call) → IsValid T
     → call.method < length T.methods → limit ≤ 16384 → length own ≤ limit
     → IfCopied (IsCopied T H (message_at T call.method call.number) call.addr own) answer
     → IfMalformed (IsMalformed T H (message_at T call.method call.number) call.addr limit own) answer
     → call.copy ≡ copy_of answer → call.count ≡ length own → form ≡ copied conn call call.copy
-    → IsTakenWell T H limit own call form
+    → IsWellCopied T H limit own call form
 by-copy laws T H limit conn own (Copied tree count) call form valid known most few came malformed copy-is counted
     form-is =
     let msg : ℕ = message_at T call.method call.number in
@@ -58,7 +58,7 @@ by-copy laws T H limit conn own (Copied tree count) call form valid known most f
         counted = counted;
       };
       few = omega (arith, counted, few);
-      sound = subst (IsTakenBy T call) (sym copy-is)
+      sound = subst (IsValidCopy T call) (sym copy-is)
           (known, subst (IsNormal T msg) same (laws.normal T H msg call.addr P valid came.sound));
       short = subst (λ (f : Option Call). IfSome f (λ g. length (payload T g) ≤ 262144)) (sym whole)
           (subst (λ (t : Node). length (encoding T msg t) ≤ 262144) same short);
@@ -72,7 +72,7 @@ by-copy laws T H limit conn own (Malformed reason place value count) call form v
         counted = counted;
       };
       few = omega (arith, counted, few);
-      sound = subst (IsTakenBy T call) (sym copy-is) (
+      sound = subst (IsValidCopy T call) (sym copy-is) (
         (λ none. absurd (laws.reason T H (message_at T call.method call.number) call.addr limit own reason place
             value malformed none)),
         (λ past. absurd (omega (arith, past, known))),
@@ -86,12 +86,12 @@ three P a b c a' b' c' x y z h =
 
 pub taken-well : GraphLaws
     → (T : Table) (H limit conn seq : ℕ) (own : List (ℕ × ℕ)) (method number addr after : ℕ) (answer : CopyResult)
-    (call : Taken) (form : Option Call) → IsValid T
+    (call : AcceptedCall) (form : Option Call) → IsValid T
     → method < length T.methods → limit ≤ 16384 → length own ≤ limit
     → IfCopied (IsCopied T H (message_at T method number) addr own) answer
-    → IfMalformed (IsMalformed T H (message_at T method number) addr limit own) answer → loads_of answer ≡ length own
-    → IsOfAnswer conn seq (record { method = method; number = number; addr = addr; after = after }) answer call form
-    → IsTakenWell T H limit own call form
+    → IfMalformed (IsMalformed T H (message_at T method number) addr limit own) answer → load_count answer ≡ length own
+    → IsOfCopyResult conn seq (record { method = method; number = number; addr = addr; after = after }) answer call form
+    → IsWellCopied T H limit own call form
 taken-well laws T H limit conn seq own method number addr after answer call form valid known most few came malformed
     counted is =
     by-copy laws T H limit conn own answer call form valid (omega (arith, known, is.asked.method)) most few
@@ -109,22 +109,22 @@ pub all-well : GraphLaws → (T : Table) (H limit conn seq : ℕ) (own : List (�
     (answer : CopyResult) → IsValid T
     → method < length T.methods → limit ≤ 16384 → length own ≤ limit
     → IfCopied (IsCopied T H (message_at T method number) addr own) answer
-    → IfMalformed (IsMalformed T H (message_at T method number) addr limit own) answer → loads_of answer ≡ length own
-    → (r : Result Submission Memory)
-    → IfOk r (λ s. IsOfAnswer conn seq (record {
+    → IfMalformed (IsMalformed T H (message_at T method number) addr limit own) answer → load_count answer ≡ length own
+    → (r : Result CopiedSubmission Memory)
+    → IfOk r (λ s. IsOfCopyResult conn seq (record {
       method = method;
       number = number;
       addr = addr;
       after = after;
     }) answer s.call s.form)
-    → IfOk r (λ s. IsTakenWell T H limit own s.call s.form)
+    → IfOk r (λ s. IsWellCopied T H limit own s.call s.form)
 all-well laws T H limit conn seq own method number addr after answer valid known most few came malformed counted r is =
-    ok-weaker (λ (s : Submission). IsOfAnswer conn seq (record {
+    ok-weaker (λ (s : CopiedSubmission). IsOfCopyResult conn seq (record {
       method = method;
       number = number;
       addr = addr;
       after = after;
     }) answer s.call s.form)
-    (λ (s : Submission). IsTakenWell T H limit own s.call s.form)
+    (λ (s : CopiedSubmission). IsWellCopied T H limit own s.call s.form)
     (λ s of. taken-well laws T H limit conn seq own method number addr after answer s.call s.form valid known most few
     came malformed counted of) r is

@@ -2,23 +2,23 @@
 use Rattle.std.proofs.Common.{◌≡◌, ◌≢◌, ℕ, List, ◌∷◌, map, slice_get, refl, ap, sym, ◌∙◌, subst}
 use Rattle.std.specs.Prelude.{All, Some}
 use Rattle.std.proofs.lemmas.List.Elements.{All-head, All-tail, All-map, All-weaker, All-set}
-use Rattle.engine_core.specs.Answers.{Past, past_after, level_left}
+use Rattle.engine_core.specs.Answers.{Past, past_after, level_after_note}
 use Rattle.mrpc_table.specs.Valid.{AreDistinct}
 use Rattle.mrpc_table.specs.declared.call.Call.{Call}
 use Rattle.engine_core.specs.Chains.{Entry, IsChain, attachments_of, names_of}
 use Rattle.engine_core.specs.Engines.{EngineParts}
-use Rattle.engine_core.specs.Marks.{IsSilent, IsTrueFor, StandingCall, note_of, past_by, past_of, seqs_of}
+use Rattle.engine_core.specs.Marks.{IsSilent, IsTrueFor, PendingCall, note_of, past_by, past_of, seqs_of}
 use Rattle.engine_core.specs.Moves.{first_at}
-use Rattle.engine_core.specs.Turns.{ComesOut, form_after, noted_in}
-use Rattle.engine_core.specs.Working.{LeavesMarks}
+use Rattle.engine_core.specs.Turns.{IsTurnOutcome, form_after, noted_in}
+use Rattle.engine_core.specs.Working.{AreMarksAfterTurn}
 use Rattle.engine_core.specs.declared.outcome.Outcome.{Outcome}
 use Rattle.engine_core.specs.declared.outcome.Outcome.TheVariants.{Passed, Held, Refused, Redacted}
 use Rattle.engine_core.specs.declared.policy.Policy.{Policy}
 use Rattle.engine_core.specs.declared.policy.Policy.TheVariants as policies
-use Rattle.chain_upgrade.specs.Chains.{ChainParts, HasTurn, IsAscending, IsStandingChain, chain_of}
-use Rattle.call_history.specs.Behind.{Behind, chain, form, level, moment, noted, policy_of}
-use Rattle.call_history.specs.Events.{Course, turned, HasTurn as HasTurnBehind}
-use Rattle.call_history.specs.Rules.{Under}
+use Rattle.chain_upgrade.specs.Chains.{ChainParts, IsEngineTurn, AreAscending, IsChainState, chain_of_state}
+use Rattle.call_history.specs.Trace.{Trace, chain, form, level_in_trace, timestamp, noted, policy_in_trace}
+use Rattle.call_history.specs.Transitions.{ConnState, trace_after_turn, IsEntryTurn as HasTurnBehind}
+use Rattle.call_history.specs.Rules.{JudgeContext}
 use Rattle.conn_core.proofs.Apart.{all-after, all-keyed, calls-apart, policy-at}
 use Rattle.conn_core.proofs.Fitting.{Fits}
 use Rattle.conn_core.proofs.Lists.{all-at, all-back, all-both, all-front, all-of-map, all-set, map-at, map-set-same, map-map}
@@ -27,63 +27,63 @@ use Rattle.conn_core.proofs.Turned.{moment-turned, noted-turned, noted-turned_an
 
 -- ---- the turn, by the trace
 
-entry-at : (conn position moment seq : ℕ) (past : Behind) (outcome : Outcome) (before after : ChainParts)
-    → Fits conn past before → (has : HasTurn before position moment seq outcome after)
+entry-at : (conn position timestamp seq : ℕ) (past : Trace) (outcome : Outcome) (before after : ChainParts)
+    → Fits conn past before → (has : IsEngineTurn before position timestamp seq outcome after)
     → slice_get (chain past).entries position ≡ Some has.engine.entry
-entry-at conn position moment seq past outcome before after fits has =
+entry-at conn position timestamp seq past outcome before after fits has =
     subst (λ c. slice_get c.entries position ≡ Some has.engine.entry) fits.same_chain
     (map-at (λ (e : EngineParts). e.entry) before.engines position has.engine has.is_engine)
 
 -- what holds of all calls holds of that of the turn
-pub of-call : (P : StandingCall → Type 0) (before after : ChainParts) (position moment seq : ℕ) (outcome : Outcome)
-    → (has : HasTurn before position moment seq outcome after) → All P before.calls → P has.call
-of-call P before after position moment seq outcome has all =
-    All-head P has.call has.back (all-back P has.front (has.call ∷ has.back) (subst (All P) has.stood all))
+pub of-call : (P : PendingCall → Type 0) (before after : ChainParts) (position timestamp seq : ℕ) (outcome : Outcome)
+    → (has : IsEngineTurn before position timestamp seq outcome after) → All P before.calls → P has.call
+of-call P before after position timestamp seq outcome has all =
+    All-head P has.call has.back (all-back P has.front (has.call ∷ has.back) (subst (All P) has.calls_before all))
 
-pub turn-behind : (u : Under) (c : Course) (before after : ChainParts) (position seq : ℕ) (outcome : Outcome)
+pub turn-behind : (u : JudgeContext) (c : ConnState) (before after : ChainParts) (position seq : ℕ) (outcome : Outcome)
     → Fits u.conn c.past before
-    → (has : HasTurn before position (moment c.past) seq outcome after) → first_at position c.row ≡ Some (seq, position)
+    → (has : IsEngineTurn before position (timestamp c.past) seq outcome after) → first_at position c.row ≡ Some (seq, position)
     → HasTurnBehind u c position seq outcome has.engine.entry
 turn-behind u c before after position seq outcome fits has first =
     let e : Entry = has.engine.entry in
-    let level-is : has.engine.level ≡ level e.name c.past =
+    let level-is : has.engine.level ≡ level_in_trace e.name c.past =
     all-at (λ (e : EngineParts). e.level
-    ≡ level e.entry.name c.past) before.engines position has.engine has.is_engine fits.levels in
+    ≡ level_in_trace e.entry.name c.past) before.engines position has.engine has.is_engine fits.levels in
     let notes : All (λ (e : EngineParts). past_of has.call.marks e.entry.attach
     ≡ noted e.entry.name has.call.call.seq c.past) before.engines =
-    of-call (λ (s : StandingCall). All (λ (e : EngineParts). past_of s.marks e.entry.attach
+    of-call (λ (s : PendingCall). All (λ (e : EngineParts). past_of s.marks e.entry.attach
     ≡ noted e.entry.name s.call.seq c.past) before.engines) before after position
-    (moment c.past) seq outcome has fits.notes in
+    (timestamp c.past) seq outcome has fits.notes in
     let note-is : past_of has.call.marks e.attach ≡ noted e.name has.call.call.seq c.past =
     all-at (λ (e : EngineParts). past_of has.call.marks e.entry.attach
     ≡ noted e.entry.name has.call.call.seq c.past) before.engines position has.engine has.is_engine notes in
     let form-is : form u.conn has.call.call.seq c.past ≡ Some has.call.call =
-    of-call (λ (s : StandingCall). form u.conn s.call.seq c.past ≡ Some s.call) before after position
-    (moment c.past) seq outcome has fits.forms in record {
-      entry = entry-at u.conn position (moment c.past) seq c.past outcome before after fits has;
+    of-call (λ (s : PendingCall). form u.conn s.call.seq c.past ≡ Some s.call) before after position
+    (timestamp c.past) seq outcome has fits.forms in record {
+      entry = entry-at u.conn position (timestamp c.past) seq c.past outcome before after fits has;
       first = first;
       call = has.call.call;
       is_form = subst (λ (n : ℕ). form u.conn n c.past ≡ Some has.call.call) has.number form-is;
-      comes = subst (λ (l : ℕ). ComesOut e.policy l (moment c.past) has.call.call (noted e.name seq c.past) outcome)
+      comes = subst (λ (l : ℕ). IsTurnOutcome e.policy l (timestamp c.past) has.call.call (noted e.name seq c.past) outcome)
           level-is
-          (subst (λ (p : Past). ComesOut e.policy has.engine.level (moment c.past) has.call.call p outcome)
+          (subst (λ (p : Past). IsTurnOutcome e.policy has.engine.level (timestamp c.past) has.call.call p outcome)
           (note-is ∙ ap (λ (n : ℕ). noted e.name n c.past) has.number) has.comes);
     }
 
 -- ---- marks
 
 -- the notes of the call for each entry of the chain, after the turn
-call-notes : (entries : List Entry) (position seq : ℕ) (outcome : Outcome) (c : Course) (e : Entry)
-    (call met call' : StandingCall) → slice_get entries position ≡ Some e
+call-notes : (entries : List Entry) (position seq : ℕ) (outcome : Outcome) (c : ConnState) (e : Entry)
+    (call met call' : PendingCall) → slice_get entries position ≡ Some e
     → IsChain (chain c.past) → (chain c.past).entries ≡ entries
     → All (λ y. past_of call.marks y.attach ≡ noted y.name seq c.past) entries
     → All (λ y. note_of met.marks y.attach ≡ note_of call.marks y.attach) entries
-    → IsSilent e.policy (past_of call.marks e.attach) → LeavesMarks e outcome met call'
-    → All (λ y. past_of call'.marks y.attach ≡ noted y.name seq (turned e seq outcome c).past) entries
+    → IsSilent e.policy (past_of call.marks e.attach) → AreMarksAfterTurn e outcome met call'
+    → All (λ y. past_of call'.marks y.attach ≡ noted y.name seq (trace_after_turn e seq outcome c).past) entries
 call-notes entries position seq outcome c e call met call' is is-chain same notes kept silent leaves =
     all-keyed (λ (y : Entry). (past_of call.marks y.attach ≡ noted y.name seq c.past)
     × (note_of met.marks y.attach ≡ note_of call.marks y.attach))
-    (λ (y : Entry). past_of call'.marks y.attach ≡ noted y.name seq (turned e seq outcome c).past) entries position e is
+    (λ (y : Entry). past_of call'.marks y.attach ≡ noted y.name seq (trace_after_turn e seq outcome c).past) entries position e is
     (subst (λ (es : List Entry). AreDistinct (names_of es)) same is-chain.names)
     (subst (λ (es : List Entry). AreDistinct (attachments_of es)) same is-chain.attachments)
     (λ y name attach both. leaves.others y.attach attach ∙ ap past_by both.1 ∙ both.0 ∙ sym
@@ -121,55 +121,55 @@ over-engines P engines engines' same all =
 
 -- ---- levels, marks and forms
 
-pub fits-turned : (u : Under) (c : Course) (before after : ChainParts) (position seq : ℕ) (outcome : Outcome)
-    → Fits u.conn c.past before → IsStandingChain before
-    → (has : HasTurn before position (moment c.past) seq outcome after) → after.attached ≡ before.attached
-    → Fits u.conn (turned has.engine.entry seq outcome c).past after
+pub fits-turned : (u : JudgeContext) (c : ConnState) (before after : ChainParts) (position seq : ℕ) (outcome : Outcome)
+    → Fits u.conn c.past before → IsChainState before
+    → (has : IsEngineTurn before position (timestamp c.past) seq outcome after) → after.attached ≡ before.attached
+    → Fits u.conn (trace_after_turn has.engine.entry seq outcome c).past after
 fits-turned u c before after position seq outcome fits stands has attached =
     let e : Entry = has.engine.entry in
-    let past' : Behind = (turned e seq outcome c).past in
+    let past' : Trace = (trace_after_turn e seq outcome c).past in
     let entries : map (λ (x : EngineParts). x.entry) after.engines ≡ map (λ (x : EngineParts). x.entry) before.engines =
     ap (map (λ (x : EngineParts). x.entry)) has.engines ∙ map-set-same
     (λ (x : EngineParts). x.entry) before.engines position has.engine has.engine' has.is_engine
     has.leaves_engine.entry in
-    let same-chain : chain_of after ≡ chain_of before = ap (λ es. record {
+    let same-chain : chain_of_state after ≡ chain_of_state before = ap (λ es. record {
       entries = es;
       attached = after.attached;
     }) entries ∙ ap (λ n. record {
-      entries = (chain_of before).entries;
+      entries = (chain_of_state before).entries;
       attached = n;
     }) attached in
     let is-chain : IsChain (chain c.past) = subst IsChain fits.same_chain stands.stands.chain in
-    let same : (chain c.past).entries ≡ (chain_of before).entries = sym (ap (λ ch. ch.entries) fits.same_chain) in
-    let at : slice_get (chain_of before).entries position ≡ Some e =
+    let same : (chain c.past).entries ≡ (chain_of_state before).entries = sym (ap (λ ch. ch.entries) fits.same_chain) in
+    let at : slice_get (chain_of_state before).entries position ≡ Some e =
     map-at (λ (x : EngineParts). x.entry) before.engines position has.engine has.is_engine in
-    let policy : policy_of e.name c.past ≡ Some e.policy =
+    let policy : policy_in_trace e.name c.past ≡ Some e.policy =
     policy-at c.past position e is-chain
-    (entry-at u.conn position (moment c.past) seq c.past outcome before after fits has) in
+    (entry-at u.conn position (timestamp c.past) seq c.past outcome before after fits has) in
     let apart = calls-apart has.front has.call has.back
-    (subst (λ (calls : List StandingCall). IsAscending (seqs_of calls)) has.stood stands.stands.ascend) in
-    let old-notes = subst (All (λ (s : StandingCall). All (λ (x : EngineParts). past_of s.marks x.entry.attach
-    ≡ noted x.entry.name s.call.seq c.past) before.engines)) has.stood fits.notes in
-    let old-forms = subst (All (λ (s : StandingCall). form u.conn s.call.seq c.past ≡ Some s.call)) has.stood fits.forms
+    (subst (λ (calls : List PendingCall). AreAscending (seqs_of calls)) has.calls_before stands.stands.ascend) in
+    let old-notes = subst (All (λ (s : PendingCall). All (λ (x : EngineParts). past_of s.marks x.entry.attach
+    ≡ noted x.entry.name s.call.seq c.past) before.engines)) has.calls_before fits.notes in
+    let old-forms = subst (All (λ (s : PendingCall). form u.conn s.call.seq c.past ≡ Some s.call)) has.calls_before fits.forms
     in
     let silent : IsSilent e.policy (past_of has.call.marks e.attach) =
-    (of-call (λ (s : StandingCall). IsTrueFor e s) before after position (moment c.past) seq outcome has
-    (all-at (λ (x : EngineParts). All (λ (s : StandingCall). IsTrueFor x.entry s) before.calls) before.engines position
+    (of-call (λ (s : PendingCall). IsTrueFor e s) before after position (timestamp c.past) seq outcome has
+    (all-at (λ (x : EngineParts). All (λ (s : PendingCall). IsTrueFor x.entry s) before.calls) before.engines position
     has.engine has.is_engine stands.stands.true_for)).silent in
     let form-of-call : form u.conn seq c.past ≡ Some has.call.call =
     subst (λ (n : ℕ). form u.conn n c.past ≡ Some has.call.call) has.number
-    (of-call (λ (s : StandingCall). form u.conn s.call.seq c.past ≡ Some s.call) before after position
-    (moment c.past) seq outcome has fits.forms) in
+    (of-call (λ (s : PendingCall). form u.conn s.call.seq c.past ≡ Some s.call) before after position
+    (timestamp c.past) seq outcome has fits.forms) in
     let notes-of-call : All (λ (x : EngineParts). past_of has.call.marks x.entry.attach
     ≡ noted x.entry.name seq c.past) before.engines =
     subst (λ (n : ℕ). All (λ (x : EngineParts). past_of has.call.marks x.entry.attach
     ≡ noted x.entry.name n c.past) before.engines) has.number
-    (of-call (λ (s : StandingCall). All (λ (x : EngineParts). past_of s.marks x.entry.attach
+    (of-call (λ (s : PendingCall). All (λ (x : EngineParts). past_of s.marks x.entry.attach
     ≡ noted x.entry.name s.call.seq c.past) before.engines) before after position
-    (moment c.past) seq outcome has fits.notes) in
+    (timestamp c.past) seq outcome has fits.notes) in
     let number' : has.call'.call.seq ≡ seq =
     ap (λ (call : Call). call.seq) has.leaves_call.form ∙ form-seq outcome e.policy has.call.call ∙ has.number in
-    let other-notes : (s : StandingCall) → s.call.seq ≢ has.call.call.seq
+    let other-notes : (s : PendingCall) → s.call.seq ≢ has.call.call.seq
     → All (λ (x : EngineParts). past_of s.marks x.entry.attach ≡ noted x.entry.name s.call.seq c.past) before.engines
     → All (λ (x : EngineParts). past_of s.marks x.entry.attach ≡ noted x.entry.name s.call.seq past') after.engines =
     λ s other notes.
@@ -178,20 +178,20 @@ fits-turned u c before after position seq outcome fits stands has attached =
     (All-weaker (λ (y : Entry). past_of s.marks y.attach ≡ noted y.name s.call.seq c.past)
     (λ (y : Entry). past_of s.marks y.attach ≡ noted y.name s.call.seq past')
     (λ y is. is ∙ sym (noted-turned_another e y.name seq s.call.seq outcome c (λ eq. other (sym eq ∙ sym has.number))))
-    (chain_of before).entries (over-entries (λ (y : Entry). past_of s.marks y.attach
+    (chain_of_state before).entries (over-entries (λ (y : Entry). past_of s.marks y.attach
     ≡ noted y.name s.call.seq c.past) before.engines notes)) in
     let own-notes : All (λ (x : EngineParts). past_of has.call'.marks x.entry.attach
     ≡ noted x.entry.name has.call'.call.seq past') after.engines =
     over-engines (λ (y : Entry). past_of has.call'.marks y.attach
     ≡ noted y.name has.call'.call.seq past') before.engines after.engines entries
     (subst (λ (n : ℕ). All (λ (y : Entry). past_of has.call'.marks y.attach
-    ≡ noted y.name n past') (chain_of before).entries) (sym number')
-    (call-notes (chain_of before).entries position seq outcome c e has.call has.met has.call' at is-chain same
+    ≡ noted y.name n past') (chain_of_state before).entries) (sym number')
+    (call-notes (chain_of_state before).entries position seq outcome c e has.call has.met has.call' at is-chain same
     (over-entries (λ (y : Entry). past_of has.call.marks y.attach
     ≡ noted y.name seq c.past) before.engines notes-of-call)
     (over-entries (λ (y : Entry). note_of has.met.marks y.attach
     ≡ note_of has.call.marks y.attach) before.engines has.keeps.kept) silent has.leaves_marks)) in
-    let other-forms : (s : StandingCall) → s.call.seq ≢ has.call.call.seq → form u.conn s.call.seq c.past ≡ Some s.call
+    let other-forms : (s : PendingCall) → s.call.seq ≢ has.call.call.seq → form u.conn s.call.seq c.past ≡ Some s.call
     → form u.conn s.call.seq past' ≡ Some s.call = λ s other is.
     form-turned_another u.conn e seq s.call.seq outcome c (λ eq. other (sym eq ∙ sym has.number)) ∙ is in
     let own-form : form u.conn has.call'.call.seq past' ≡ Some has.call'.call =
@@ -199,61 +199,61 @@ fits-turned u c before after position seq outcome fits stands has attached =
     ap (λ (call : Call). Some call) (sym has.leaves_call.form) in
     record {
       same_chain = same-chain ∙ fits.same_chain ∙ sym (chain-turned e seq outcome c);
-      levels = subst (All (λ (x : EngineParts). x.level ≡ level x.entry.name past')) (sym has.engines)
+      levels = subst (All (λ (x : EngineParts). x.level ≡ level_in_trace x.entry.name past')) (sym has.engines)
           (all-set (λ (x : EngineParts). x.entry.name) (λ (x : EngineParts). x.level
-          ≡ level x.entry.name c.past) (λ (x : EngineParts). x.level
-          ≡ level x.entry.name past') before.engines position
+          ≡ level_in_trace x.entry.name c.past) (λ (x : EngineParts). x.level
+          ≡ level_in_trace x.entry.name past') before.engines position
           has.engine has.engine' has.is_engine
           (subst AreDistinct (map-map (λ (x : EngineParts). x.entry) (λ (y : Entry). y.name) before.engines)
           stands.stands.chain.names)
           (λ x name is. is ∙ sym (level-turned_other e x.entry.name seq outcome c (λ eq. name (sym eq))))
-          (has.leaves_engine.level ∙ ap (level_left (noted_in outcome))
+          (has.leaves_engine.level ∙ ap (level_after_note (noted_in outcome))
           (all-at (λ (x : EngineParts). x.level
-          ≡ level x.entry.name c.past) before.engines position has.engine has.is_engine fits.levels)
-          ∙ sym (level-turned e seq outcome c) ∙ ap (λ (y : Entry). level y.name past') (sym has.leaves_engine.entry))
+          ≡ level_in_trace x.entry.name c.past) before.engines position has.engine has.is_engine fits.levels)
+          ∙ sym (level-turned e seq outcome c) ∙ ap (λ (y : Entry). level_in_trace y.name past') (sym has.leaves_engine.entry))
           fits.levels);
-      moments = subst (All (λ (x : EngineParts). x.last ≡ moment past')) (sym has.engines)
-          (All-set (λ (x : EngineParts). x.last ≡ moment past') before.engines position has.engine'
+      moments = subst (All (λ (x : EngineParts). x.last ≡ timestamp past')) (sym has.engines)
+          (All-set (λ (x : EngineParts). x.last ≡ timestamp past') before.engines position has.engine'
           (has.leaves_engine.last ∙ all-at (λ (x : EngineParts). x.last
-          ≡ moment c.past) before.engines position has.engine has.is_engine fits.moments ∙ sym
+          ≡ timestamp c.past) before.engines position has.engine has.is_engine fits.moments ∙ sym
           (moment-turned e seq outcome c))
-          (All-weaker (λ (x : EngineParts). x.last ≡ moment c.past) (λ (x : EngineParts). x.last
-          ≡ moment past') (λ x is. is ∙ sym (moment-turned e seq outcome c)) before.engines fits.moments));
-      notes = subst (All (λ (s : StandingCall). All (λ (x : EngineParts). past_of s.marks x.entry.attach
+          (All-weaker (λ (x : EngineParts). x.last ≡ timestamp c.past) (λ (x : EngineParts). x.last
+          ≡ timestamp past') (λ x is. is ∙ sym (moment-turned e seq outcome c)) before.engines fits.moments));
+      notes = subst (All (λ (s : PendingCall). All (λ (x : EngineParts). past_of s.marks x.entry.attach
           ≡ noted x.entry.name s.call.seq past') after.engines)) (sym has.calls)
-          (all-after (λ (s : StandingCall). All (λ (x : EngineParts). past_of s.marks x.entry.attach
+          (all-after (λ (s : PendingCall). All (λ (x : EngineParts). past_of s.marks x.entry.attach
           ≡ noted x.entry.name s.call.seq past') after.engines) outcome has.front has.call' has.back
-          (all-both (λ (s : StandingCall). s.call.seq ≢ has.call.call.seq)
-          (λ (s : StandingCall). All (λ (x : EngineParts). past_of s.marks x.entry.attach
+          (all-both (λ (s : PendingCall). s.call.seq ≢ has.call.call.seq)
+          (λ (s : PendingCall). All (λ (x : EngineParts). past_of s.marks x.entry.attach
           ≡ noted x.entry.name s.call.seq c.past) before.engines)
-          (λ (s : StandingCall). All (λ (x : EngineParts). past_of s.marks x.entry.attach
+          (λ (s : PendingCall). All (λ (x : EngineParts). past_of s.marks x.entry.attach
           ≡ noted x.entry.name s.call.seq past') after.engines) other-notes has.front apart.0
-          (all-front (λ (s : StandingCall). All (λ (x : EngineParts). past_of s.marks x.entry.attach
+          (all-front (λ (s : PendingCall). All (λ (x : EngineParts). past_of s.marks x.entry.attach
           ≡ noted x.entry.name s.call.seq c.past) before.engines) has.front (has.call ∷ has.back) old-notes))
           own-notes
-          (all-both (λ (s : StandingCall). s.call.seq ≢ has.call.call.seq)
-          (λ (s : StandingCall). All (λ (x : EngineParts). past_of s.marks x.entry.attach
+          (all-both (λ (s : PendingCall). s.call.seq ≢ has.call.call.seq)
+          (λ (s : PendingCall). All (λ (x : EngineParts). past_of s.marks x.entry.attach
           ≡ noted x.entry.name s.call.seq c.past) before.engines)
-          (λ (s : StandingCall). All (λ (x : EngineParts). past_of s.marks x.entry.attach
+          (λ (s : PendingCall). All (λ (x : EngineParts). past_of s.marks x.entry.attach
           ≡ noted x.entry.name s.call.seq past') after.engines) other-notes has.back apart.1
-          (All-tail (λ (s : StandingCall). All (λ (x : EngineParts). past_of s.marks x.entry.attach
+          (All-tail (λ (s : PendingCall). All (λ (x : EngineParts). past_of s.marks x.entry.attach
           ≡ noted x.entry.name s.call.seq c.past) before.engines) has.call has.back
-          (all-back (λ (s : StandingCall). All (λ (x : EngineParts). past_of s.marks x.entry.attach
+          (all-back (λ (s : PendingCall). All (λ (x : EngineParts). past_of s.marks x.entry.attach
           ≡ noted x.entry.name s.call.seq c.past) before.engines) has.front (has.call ∷ has.back) old-notes))));
-      forms = subst (All (λ (s : StandingCall). form u.conn s.call.seq past' ≡ Some s.call)) (sym has.calls)
-          (all-after (λ (s : StandingCall). form u.conn s.call.seq past'
+      forms = subst (All (λ (s : PendingCall). form u.conn s.call.seq past' ≡ Some s.call)) (sym has.calls)
+          (all-after (λ (s : PendingCall). form u.conn s.call.seq past'
           ≡ Some s.call) outcome has.front has.call' has.back
-          (all-both (λ (s : StandingCall). s.call.seq ≢ has.call.call.seq)
-          (λ (s : StandingCall). form u.conn s.call.seq c.past
-          ≡ Some s.call) (λ (s : StandingCall). form u.conn s.call.seq past' ≡ Some s.call)
-          other-forms has.front apart.0 (all-front (λ (s : StandingCall). form u.conn s.call.seq c.past
+          (all-both (λ (s : PendingCall). s.call.seq ≢ has.call.call.seq)
+          (λ (s : PendingCall). form u.conn s.call.seq c.past
+          ≡ Some s.call) (λ (s : PendingCall). form u.conn s.call.seq past' ≡ Some s.call)
+          other-forms has.front apart.0 (all-front (λ (s : PendingCall). form u.conn s.call.seq c.past
           ≡ Some s.call) has.front (has.call ∷ has.back) old-forms))
           own-form
-          (all-both (λ (s : StandingCall). s.call.seq ≢ has.call.call.seq)
-          (λ (s : StandingCall). form u.conn s.call.seq c.past
-          ≡ Some s.call) (λ (s : StandingCall). form u.conn s.call.seq past' ≡ Some s.call)
-          other-forms has.back apart.1 (All-tail (λ (s : StandingCall). form u.conn s.call.seq c.past
+          (all-both (λ (s : PendingCall). s.call.seq ≢ has.call.call.seq)
+          (λ (s : PendingCall). form u.conn s.call.seq c.past
+          ≡ Some s.call) (λ (s : PendingCall). form u.conn s.call.seq past' ≡ Some s.call)
+          other-forms has.back apart.1 (All-tail (λ (s : PendingCall). form u.conn s.call.seq c.past
           ≡ Some s.call) has.call has.back
-          (all-back (λ (s : StandingCall). form u.conn s.call.seq c.past
+          (all-back (λ (s : PendingCall). form u.conn s.call.seq c.past
           ≡ Some s.call) has.front (has.call ∷ has.back) old-forms))));
     }

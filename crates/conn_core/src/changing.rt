@@ -1,13 +1,13 @@
 //! Changes of the chain, and of the list of operations that set the policies of its engines.
 
 ghost use Rattle.std.specs.Prelude.{◌≡◌, ◌≢◌, ◌+◌, ◌<◌, ◌≤◌, ◌^◌, ℕ, All, List, IfErr, IsSomeAnd, OnErr, OnOk, insert, length, remove, set, vec_capacity};
-ghost use Rattle.engine_core.specs.Chains.{Refuses};
-ghost use Rattle.engine_core.specs.Moves.{place_of as place_in};
+ghost use Rattle.engine_core.specs.Chains.{IsRejection};
+ghost use Rattle.engine_core.specs.Moves.{position_of as place_in};
 ghost use Rattle.engine_core.specs.Policies.{IsPolicy};
 ghost use Rattle.engine_core.specs.declared.op.Op.TheVariants.{Attach, Detach, Upgrade};
-ghost use Rattle.chain_upgrade.specs.Chains.{chain_of, refusal_in};
-ghost use Rattle.conn_core.specs.Kept.{IsChanged, places_after};
-ghost use Rattle.conn_core.specs.Steps.{IfPolicy};
+ghost use Rattle.chain_upgrade.specs.Chains.{chain_of_state, refusal_in};
+ghost use Rattle.conn_core.specs.Invariant.{IsChanged, op_indices_after};
+ghost use Rattle.conn_core.specs.ConnectionSteps.{IfPolicy};
 
 use call_history::History;
 use chain_upgrade::{Chain, ChainFault};
@@ -51,12 +51,12 @@ pub(crate) fn change(
     requires aligned { length steps.old.items ≡ length chain.old.engines }
     requires room { length steps.old.items < vec_capacity steps.old }
     ensures refused { IfErr result (λ fault. fault ≢ ChainFault.Memory
-        → IsSomeAnd (refusal_in fault) (Refuses (chain_of chain.old) step.now)) }
+        → IsSomeAnd (refusal_in fault) (IsRejection (chain_of_state chain.old) step.now)) }
     ensures as_before { OnErr result (chain.new ≡ chain.old) }
     ensures steps_as_before { OnErr result (steps.new.items ≡ steps.old.items) }
     ensures changed { OnOk result (IsChanged step.now now chain.old chain.new) }
     ensures steps { OnOk result (steps.new.items
-        ≡ places_after step.now (chain_of chain.old).entries place steps.old.items) }
+        ≡ op_indices_after step.now (chain_of_state chain.old).entries place steps.old.items) }
 {
     match step {
         Op::Attach {
@@ -87,7 +87,7 @@ fn attach(
     requires aligned { length steps.old.items ≡ length chain.old.engines }
     requires room { length steps.old.items < vec_capacity steps.old }
     ensures refused { IfErr result (λ fault. (label : List ℕ) → fault ≢ ChainFault.Memory
-        → IsSomeAnd (refusal_in fault) (Refuses (chain_of chain.old) (Attach at name.now label policy.now))) }
+        → IsSomeAnd (refusal_in fault) (IsRejection (chain_of_state chain.old) (Attach at name.now label policy.now))) }
     ensures as_before { OnErr result (chain.new ≡ chain.old) }
     ensures steps_as_before { OnErr result (steps.new.items ≡ steps.old.items) }
     ensures changed { OnOk result ((label : List ℕ)
@@ -112,12 +112,12 @@ fn detach(
 ) -> Result<(), ChainFault>
     requires aligned { length steps.old.items ≡ length chain.old.engines }
     ensures refused { IfErr result (λ fault. fault ≢ ChainFault.Memory
-        → IsSomeAnd (refusal_in fault) (Refuses (chain_of chain.old) (Detach name.now))) }
+        → IsSomeAnd (refusal_in fault) (IsRejection (chain_of_state chain.old) (Detach name.now))) }
     ensures as_before { OnErr result (chain.new ≡ chain.old) }
     ensures steps_as_before { OnErr result (steps.new.items ≡ steps.old.items) }
     ensures changed { OnOk result (IsChanged (Detach name.now) now chain.old chain.new) }
     ensures steps { OnOk result (steps.new.items
-        ≡ remove steps.old.items (place_in name.now (chain_of chain.old).entries)) }
+        ≡ remove steps.old.items (place_in name.now (chain_of_state chain.old).entries)) }
 {
     let at = place_of(chain, name);
     let Ok(name) = name.copied(alloc) else {
@@ -141,13 +141,13 @@ fn upgrade(
     requires versions { All (λ e. e.entry.version + 1 < 2 ^ 32) chain.old.engines }
     requires aligned { length steps.old.items ≡ length chain.old.engines }
     ensures refused { IfErr result (λ fault. (label : List ℕ) → fault ≢ ChainFault.Memory
-        → IsSomeAnd (refusal_in fault) (Refuses (chain_of chain.old) (Upgrade name.now label policy.now))) }
+        → IsSomeAnd (refusal_in fault) (IsRejection (chain_of_state chain.old) (Upgrade name.now label policy.now))) }
     ensures as_before { OnErr result (chain.new ≡ chain.old) }
     ensures steps_as_before { OnErr result (steps.new.items ≡ steps.old.items) }
     ensures changed { OnOk result ((label : List ℕ)
         → IsChanged (Upgrade name.now label policy.now) now chain.old chain.new) }
     ensures steps { OnOk result (steps.new.items
-        ≡ set steps.old.items (place_in name.now (chain_of chain.old).entries) place) }
+        ≡ set steps.old.items (place_in name.now (chain_of_state chain.old).entries) place) }
 {
     let at = place_of(chain, name);
     let (name, policy) = match (name.copied(alloc), policy.copied(alloc)) {
@@ -161,7 +161,7 @@ fn upgrade(
 
 // The position of the engine with a name, or the number of engines if there is none.
 fn place_of(chain: &Chain, name: &Name) -> usize
-    ensures { result ≡ place_in name.now (chain_of chain.now).entries }
+    ensures { result ≡ place_in name.now (chain_of_state chain.now).entries }
 {
     for at in 0..chain.engines() {
         if chain.engine(at).name().as_slice() == name.as_slice() {

@@ -2,28 +2,29 @@
 
 ghost use Rattle.std.specs.Prelude.{◌≡◌, ◌≢◌, ◌↔◌, ◌+◌, ◌<◌, ◌≤◌, ◌^◌, ◌++◌, ◌⊎◌, [], All, Err, IfErr, IfOk, IsSomeAnd, IsTrue, None, OnErr, OnOk, false, length, map, true};
 ghost use Rattle.std.specs.Bool.{OnFalse, OnTrue};
-ghost use Rattle.mrpc_base.specs.Faults.{HasCause};
+ghost use Rattle.mrpc_base.specs.Failures.{HasCause};
 ghost use Rattle.mrpc_table.specs.Valid.{IsValid};
 ghost use Rattle.mrpc_table.specs.declared.limits.TheConstants.{MAX_HEAP, MAX_LOADS, MIN_HEAP};
 
 use crate::answers::{AcceptFault, Ask, Drained, Sending};
 use crate::changing::{change, reserve};
+use crate::copying::{copy_submission, make_pending};
 use crate::draining::{pass_all, send_all};
-use crate::handing::{hand, leave};
 use crate::noting::{record_turn, refuse_all};
-use crate::taking::{stand, take};
+use crate::sending::{remove_sent, send_call};
 use call_history::{
-    History, Record, clears_shorten, drains_settle, events_keep, standing_calls_have_forms,
+    History, HistoryRecord, clears_shorten, drains_settle, pending_calls_have_forms,
+    transitions_preserve_invariant,
 };
 use chain_upgrade::{Chain, ChainFault, Turned};
-use engine_core::{MAX_CALLS, MAX_ENGINES, Op, change_is_changed, stays_chain};
+use engine_core::{MAX_CALLS, MAX_ENGINES, Op, change_preserves_chain, changed_is_the_change};
 use frame_transport::HEADER_LEN;
 use mrpc_base::{Handed, Link, Tickets, Words};
 use mrpc_table::{Bytes, Memory, Table};
-use policy_redact::{any_order, clear_again};
+use policy_redact::{clear_is_idempotent, clears_commute};
 use std::alloc::Global;
 use std::marker::Model;
-use wire_encode::Output;
+use wire_encode::BackwardBuffer;
 
 // The most records that a pending call can still need: one for each engine, and its fate.
 const RECORDS: usize = MAX_ENGINES + 1;
@@ -42,7 +43,7 @@ pub struct Conn<'t> {
     moment: u64,
     ended: bool,
     // Buffers that are reused for each encoding and each frame.
-    payload: Output,
+    payload: BackwardBuffer,
     frame: Bytes,
 }
 
@@ -67,7 +68,7 @@ impl<'t> Drop for Conn<'t> {
 
 impl<'t> Model for Conn<'t> {
     ghost use Rattle.conn_core.specs.Connections.{Connection};
-    ghost use Rattle.conn_core.specs.Kept.{IsKept, seen};
+    ghost use Rattle.conn_core.specs.Invariant.{HasConnInvariant, connection_of};
 
     ghost Value = { Connection };
 
@@ -76,25 +77,26 @@ impl<'t> Model for Conn<'t> {
 
     ghost coded = { Prim.hlevel (codes, t.the_row.coded) };
 
-    ghost view = { λ c. seen c.conn c.table.now c.limit c.chain c.history c.ended };
+    ghost view = { λ c. connection_of c.conn c.table.now c.limit c.chain c.history c.ended };
 
-    ghost invariant = { λ c. IsKept (seen c.conn c.table.now c.limit c.chain c.history c.ended) c.steps.items
+    ghost invariant = { λ c. HasConnInvariant (connection_of c.conn c.table.now c.limit c.chain c.history c.ended)
+        c.steps.items
         c.history c.accepted c.moment };
 }
 
 impl<'t> Conn<'t> {
-    ghost use Rattle.engine_core.specs.Chains.{Refuses};
+    ghost use Rattle.engine_core.specs.Chains.{IsRejection};
     ghost use Rattle.engine_core.specs.Moves.{first_at};
     ghost use Rattle.engine_core.specs.Policies.{IsPolicy, KnowsTenantOf};
-    ghost use Rattle.chain_upgrade.specs.Chains.{OnTurn, chain_of, refusal_in};
-    ghost use Rattle.graph_copy.specs.Copies.{since};
-    ghost use Rattle.call_history.specs.Behind.{taken};
-    ghost use Rattle.call_history.specs.Draining.{BeginsToDrain, Drains, Passes};
-    ghost use Rattle.call_history.specs.Events.{fails, operates, shows, turns, turns_away};
-    ghost use Rattle.call_history.specs.Places.{IsSettled};
-    ghost use Rattle.conn_core.specs.Connections.{IsConnection, IsSame, behind, course, under};
-    ghost use Rattle.conn_core.specs.Kept.{PassesBy};
-    ghost use Rattle.conn_core.specs.Steps.{Accepts, DrawsTickets, FailsInDrain, FailsToSend, Hands, IfPolicy, OnSent, Reads, Sends, Steps, parts, redactions};
+    ghost use Rattle.chain_upgrade.specs.Chains.{OnTurn, chain_of_state, refusal_in};
+    ghost use Rattle.graph_copy.specs.Copies.{loads_since};
+    ghost use Rattle.call_history.specs.Trace.{taken};
+    ghost use Rattle.call_history.specs.Draining.{HasPartlyDrained, HasDrained, IsPass};
+    ghost use Rattle.call_history.specs.Transitions.{fails, operates, shows, turns, turns_away};
+    ghost use Rattle.call_history.specs.Positions.{IsSettled};
+    ghost use Rattle.conn_core.specs.Connections.{IsConnection, IsSameConnection, conn_trace, conn_state, judge_context};
+    ghost use Rattle.conn_core.specs.Invariant.{HasPassedUnnoted};
+    ghost use Rattle.conn_core.specs.ConnectionSteps.{IsAcceptance, HasDrawnTickets, HasFailedInDrain, HasFailedSend, HasHandedOver, IfPolicy, OnSent, IsReadBy, IsSend, IsStep, conn_parts, redactions};
 
     /// A connection without calls, with this number, timestamp 0 and an empty chain. `table` is used to check and
     /// encode all its calls. Each call is copied by at most `limit` loads, 1 to 16384.
@@ -111,8 +113,8 @@ impl<'t> Conn<'t> {
           ended = false;
         }) }
     {
-        events_keep();
-        stays_chain();
+        transitions_preserve_invariant();
+        change_preserves_chain();
         Ok(Conn {
             conn,
             table,
@@ -123,7 +125,7 @@ impl<'t> Conn<'t> {
             accepted: 0,
             moment: 0,
             ended: false,
-            payload: Output::new(alloc)?,
+            payload: BackwardBuffer::new(alloc)?,
             frame: Bytes::new(alloc),
         })
     }
@@ -138,8 +140,8 @@ impl<'t> Conn<'t> {
 
     /// A law; it does nothing. Three counters of a connection are at most the number of its events: accepted calls,
     /// attached policies, and the version of each policy.
-    pub fn numbers_are_few(&self)
-        ensures calls { length (taken (behind self.now)) ≤ length self.now.happenings }
+    pub fn counters_are_bounded(&self)
+        ensures calls { length (taken (conn_trace self.now)) ≤ length self.now.happenings }
         ensures attachments { self.now.chain.attached ≤ length self.now.happenings }
         ensures versions { All (λ e. e.entry.version ≤ length self.now.happenings) self.now.chain.engines }
     {
@@ -161,20 +163,21 @@ impl<'t> Conn<'t> {
     ) -> Result<u32, AcceptFault>
         requires least_heap { MIN_HEAP ≤ W.size words.old }
         requires greatest_heap { W.size words.old ≤ MAX_HEAP }
-        requires numbers { length (taken (behind self.old)) + 1 < 2 ^ 32 }
+        requires numbers { length (taken (conn_trace self.old)) + 1 < 2 ^ 32 }
 
-        ensures accepted { IfOk result (λ seq. Accepts (W.size words.old) ask seq
-            (since (W.loads words.old) (W.loads words.new)) self.old self.new) }
+        ensures accepted { IfOk result (λ seq. IsAcceptance (W.size words.old) ask seq
+            (loads_since (W.loads words.old) (W.loads words.new)) self.old self.new) }
         ensures standing { (result ≡ Err AcceptFault.Standing) ↔ (length self.old.chain.calls ≡ MAX_CALLS) }
         ensures ended { (result ≡ Err AcceptFault.Ended)
             ↔ ((length self.old.chain.calls < MAX_CALLS) × (self.old.ended ≡ true)) }
         ensures as_before { OnErr result (self.new ≡ self.old) }
-        ensures same { IsSame self.old self.new }
+        ensures same { IsSameConnection self.old self.new }
 
         // Whatever the result, the heap's reader is unchanged, or it reserved memory and then made these loads.
         ensures size { W.size words.new ≡ W.size words.old }
-        ensures adds { W.loads words.new ≡ W.loads words.old ++ since (W.loads words.old) (W.loads words.new) }
-        ensures reads { Reads W.after_room W.after_load words.old (since (W.loads words.old) (W.loads words.new))
+        ensures adds { W.loads words.new ≡ W.loads words.old ++ loads_since (W.loads words.old) (W.loads words.new) }
+        ensures reads { IsReadBy W.after_room W.after_load words.old
+            (loads_since (W.loads words.old) (W.loads words.new))
             words.new }
         ensures unread { (result ≡ Err AcceptFault.Standing) ⊎ (result ≡ Err AcceptFault.Ended)
             → words.new ≡ words.old }
@@ -185,28 +188,30 @@ impl<'t> Conn<'t> {
         if self.ended {
             return Err(AcceptFault::Ended);
         }
-        events_keep();
+        transitions_preserve_invariant();
         let seq = self.accepted + 1;
-        let submission = take(alloc, words, self.table, self.limit, self.conn, seq, ask)?;
+        let submission = copy_submission(
+            alloc, words, self.table, self.limit, self.conn, seq, ask,
+        )?;
         self.history
             .reserve(RECORDS * (self.chain.calls().len() + 1) + 2)?;
-        stand(&mut self.chain, &mut self.history, submission);
-        self.chain.is_chain();
+        make_pending(&mut self.chain, &mut self.history, submission);
+        self.chain.is_chain_state();
         self.accepted = seq;
         Ok(seq)
     }
 
     /// Records a submission that is rejected because 64 calls are pending. `Memory` changes nothing.
-    pub fn turn_away(&mut self, ask: Ask) -> Result<(), Memory>
+    pub fn record_away(&mut self, ask: Ask) -> Result<(), Memory>
         requires { length self.old.chain.calls ≡ MAX_CALLS }
-        ensures away { OnOk result (Steps self.old (turns_away ask.method ask.number ask.addr) self.new) }
+        ensures away { OnOk result (IsStep self.old (turns_away ask.method ask.number ask.addr) self.new) }
         ensures as_before { OnErr result (self.new ≡ self.old) }
-        ensures same { IsSame self.old self.new }
+        ensures same { IsSameConnection self.old self.new }
     {
-        events_keep();
+        transitions_preserve_invariant();
         self.history
             .reserve(RECORDS * self.chain.calls().len() + 1)?;
-        self.history.push(Record::Away {
+        self.history.push(HistoryRecord::Away {
             method: ask.method,
             number: ask.number,
             addr: ask.addr,
@@ -221,14 +226,14 @@ impl<'t> Conn<'t> {
         requires ranges { IfPolicy step IsPolicy }
         requires attachments { self.old.chain.attached + 1 < 2 ^ 32 }
         requires versions { All (λ e. e.entry.version + 1 < 2 ^ 32) self.old.chain.engines }
-        ensures operated { OnOk result (Steps self.old (operates step) self.new) }
+        ensures operated { OnOk result (IsStep self.old (operates step) self.new) }
         ensures refused { IfErr result (λ fault. fault ≢ ChainFault.Memory
-            → IsSomeAnd (refusal_in fault) (Refuses (chain_of self.old.chain) step)) }
+            → IsSomeAnd (refusal_in fault) (IsRejection (chain_of_state self.old.chain) step)) }
         ensures as_before { OnErr result (self.new ≡ self.old) }
-        ensures same { IsSame self.old self.new }
+        ensures same { IsSameConnection self.old self.new }
     {
-        events_keep();
-        change_is_changed();
+        transitions_preserve_invariant();
+        changed_is_the_change();
         let records = RECORDS * self.chain.calls().len() + 1;
         let Ok(()) = reserve(&mut self.history, &mut self.steps, records) else {
             return Err(ChainFault::Memory);
@@ -243,26 +248,26 @@ impl<'t> Conn<'t> {
             self.moment,
         )?;
         self.history.operate(step);
-        self.chain.is_chain();
+        self.chain.is_chain_state();
         Ok(())
     }
 
     /// Advances the connection's clock to a timestamp in milliseconds. Records the timestamp exactly if it is later
     /// than the last one. `Memory` changes nothing.
     pub fn clock(&mut self, now: u64) -> Result<(), Memory>
-        ensures shown { OnOk result (Steps self.old (shows now) self.new) }
+        ensures shown { OnOk result (IsStep self.old (shows now) self.new) }
         ensures as_before { OnErr result (self.new ≡ self.old) }
-        ensures same { IsSame self.old self.new }
+        ensures same { IsSameConnection self.old self.new }
     {
         if now <= self.moment {
             return Ok(());
         }
-        events_keep();
+        transitions_preserve_invariant();
         self.history
             .reserve(RECORDS * self.chain.calls().len() + 1)?;
-        self.history.push(Record::Moment { ms: now });
+        self.history.push(HistoryRecord::Moment { ms: now });
         self.chain.clock(now);
-        self.chain.is_chain();
+        self.chain.is_chain_state();
         self.moment = now;
         Ok(())
     }
@@ -275,21 +280,22 @@ impl<'t> Conn<'t> {
         requires known { All (λ e. KnowsTenantOf (Q.knows tickets.old) e.entry.policy) self.old.chain.engines }
         ensures idle { (result ≡ Turned.Idle) ↔ (first_at at self.old.chain.row ≡ None) }
         ensures as_before { result ≡ Turned.Idle → (self.new ≡ self.old) × (tickets.new ≡ tickets.old) }
-        ensures turned { OnTurn result (λ seq outcome. Steps self.old (turns at seq outcome) self.new) }
-        ensures smaller { OnTurn result (λ seq outcome. parts self.new + redactions outcome ≤ parts self.old) }
-        ensures draws { DrawsTickets Q.knows Q.drawn Q.since self.old self.new tickets.old tickets.new }
-        ensures same { IsSame self.old self.new }
+        ensures turned { OnTurn result (λ seq outcome. IsStep self.old (turns at seq outcome) self.new) }
+        ensures smaller { OnTurn result (λ seq outcome. conn_parts self.new + redactions outcome
+            ≤ conn_parts self.old) }
+        ensures draws { HasDrawnTickets Q.knows Q.drawn Q.since self.old self.new tickets.old tickets.new }
+        ensures same { IsSameConnection self.old self.new }
     {
-        events_keep();
-        standing_calls_have_forms();
+        transitions_preserve_invariant();
+        pending_calls_have_forms();
         clears_shorten();
-        clear_again();
-        any_order();
+        clear_is_idempotent();
+        clears_commute();
         let version = self.chain.engine(at).version();
         let turned = self.chain.turn(at, self.table, self.moment, tickets);
         let step = self.steps[at as usize];
         record_turn(&mut self.history, step, version, turned);
-        self.chain.is_chain();
+        self.chain.is_chain_state();
         turned
     }
 
@@ -297,16 +303,16 @@ impl<'t> Conn<'t> {
     // turn. If it returns false, nothing has changed, and `turn` decides.
     pub(crate) fn pass_unnoted(&mut self, at: u32) -> bool
         requires at { at < length self.old.chain.engines }
-        ensures passed { OnTrue result (PassesBy at self.old self.new) }
+        ensures passed { OnTrue result (HasPassedUnnoted at self.old self.new) }
         ensures as_before { OnFalse result (self.new ≡ self.old) }
     {
-        events_keep();
-        standing_calls_have_forms();
+        transitions_preserve_invariant();
+        pending_calls_have_forms();
         clears_shorten();
-        clear_again();
-        any_order();
+        clear_is_idempotent();
+        clears_commute();
         let passed = self.chain.pass_unnoted(at, self.table);
-        self.chain.is_chain();
+        self.chain.is_chain_state();
         passed
     }
 
@@ -314,9 +320,9 @@ impl<'t> Conn<'t> {
     /// fields it starts over at the first engine. Never allocates.
     pub fn judge<Q: Tickets>(&mut self, tickets: &mut Q)
         requires known { All (λ e. KnowsTenantOf (Q.knows tickets.old) e.entry.policy) self.old.chain.engines }
-        ensures judged { Passes (under self.old) 0 (course self.old) (course self.new) }
-        ensures draws { DrawsTickets Q.knows Q.drawn Q.since self.old self.new tickets.old tickets.new }
-        ensures same { IsSame self.old self.new }
+        ensures judged { IsPass (judge_context self.old) 0 (conn_state self.old) (conn_state self.new) }
+        ensures draws { HasDrawnTickets Q.knows Q.drawn Q.since self.old self.new tickets.old tickets.new }
+        ensures same { IsSameConnection self.old self.new }
     {
         self.is_connection();
         pass_all(self, tickets);
@@ -331,25 +337,25 @@ impl<'t> Conn<'t> {
             ↔ (first_at (length self.old.chain.engines) self.old.chain.row ≡ None) }
         ensures ready { (result ≡ Sending.Failed) ⊎ (result ≡ Sending.Memory)
             → first_at (length self.old.chain.engines) self.old.chain.row ≢ None }
-        ensures sent { OnSent result (λ seq. Sends self.old seq self.new) }
-        ensures failed { result ≡ Sending.Failed → Steps self.old fails self.new }
-        ensures refused { result ≡ Sending.Failed → FailsToSend L.refused self.old link.old link.new }
+        ensures sent { OnSent result (λ seq. IsSend self.old seq self.new) }
+        ensures failed { result ≡ Sending.Failed → IsStep self.old fails self.new }
+        ensures refused { result ≡ Sending.Failed → HasFailedSend L.refused self.old link.old link.new }
         ensures as_before { (result ≡ Sending.Nothing) ⊎ (result ≡ Sending.Memory) → self.new ≡ self.old }
         ensures untouched { result ≡ Sending.Nothing → link.new ≡ link.old }
-        ensures same { IsSame self.old self.new }
+        ensures same { IsSameConnection self.old self.new }
 
-        ensures handed { Hands self.old self.new (L.handed link.old) (L.handed link.new) }
+        ensures handed { HasHandedOver self.old self.new (L.handed link.old) (L.handed link.new) }
         ensures given { L.given link.new ≡ L.given link.old }
         ensures link_ended { L.ended link.new ≡ L.ended link.old }
         ensures same_link { (first : L) → L.since first link.old → L.since first link.new }
-        ensures cause { HasCause (result ≡ Sending.Failed) (L.faults link.old) (L.faults link.new) }
+        ensures cause { HasCause (result ≡ Sending.Failed) (L.failures link.old) (L.failures link.new) }
     {
-        events_keep();
-        standing_calls_have_forms();
+        transitions_preserve_invariant();
+        pending_calls_have_forms();
         let Some(head) = self.chain.head() else {
             return Sending::Nothing;
         };
-        match hand(
+        match send_call(
             &mut self.payload,
             &mut self.frame,
             self.table,
@@ -358,8 +364,8 @@ impl<'t> Conn<'t> {
         ) {
             Handed::Done => {
                 let bytes = (HEADER_LEN + self.payload.as_slice().len()) as u64;
-                let seq = leave(&mut self.chain, &mut self.history, bytes);
-                self.chain.is_chain();
+                let seq = remove_sent(&mut self.chain, &mut self.history, bytes);
+                self.chain.is_chain_state();
                 Sending::Sent { seq }
             }
             Handed::Failed => {
@@ -375,23 +381,24 @@ impl<'t> Conn<'t> {
     /// turns and sends made so far.
     pub fn drain<Q: Tickets, L: Link>(&mut self, tickets: &mut Q, link: &mut L) -> Drained
         requires known { All (λ e. KnowsTenantOf (Q.knows tickets.old) e.entry.policy) self.old.chain.engines }
-        ensures done { result ≡ Drained.Done → Drains (under self.old) (course self.old) (course self.new) }
+        ensures done { result ≡ Drained.Done
+            → HasDrained (judge_context self.old) (conn_state self.old) (conn_state self.new) }
         ensures settled { result ≡ Drained.Done
-            → IsSettled (under self.new) (behind self.new) (map (λ call. call.1) self.new.chain.row) }
+            → IsSettled (judge_context self.new) (conn_trace self.new) (map (λ call. call.1) self.new.chain.row) }
         ensures failed { result ≡ Drained.Failed
-            → FailsInDrain L.refused L.handed L.faults L.since self.old self.new link.old link.new }
+            → HasFailedInDrain L.refused L.handed L.failures L.since self.old self.new link.old link.new }
         ensures memory { result ≡ Drained.Memory
-            → BeginsToDrain (under self.old) (course self.old) (course self.new) }
+            → HasPartlyDrained (judge_context self.old) (conn_state self.old) (conn_state self.new) }
         ensures still_ready { result ≡ Drained.Memory
             → first_at (length self.new.chain.engines) self.new.chain.row ≢ None }
-        ensures same { IsSame self.old self.new }
+        ensures same { IsSameConnection self.old self.new }
 
-        ensures draws { DrawsTickets Q.knows Q.drawn Q.since self.old self.new tickets.old tickets.new }
-        ensures handed { Hands self.old self.new (L.handed link.old) (L.handed link.new) }
+        ensures draws { HasDrawnTickets Q.knows Q.drawn Q.since self.old self.new tickets.old tickets.new }
+        ensures handed { HasHandedOver self.old self.new (L.handed link.old) (L.handed link.new) }
         ensures given { L.given link.new ≡ L.given link.old }
         ensures link_ended { L.ended link.new ≡ L.ended link.old }
         ensures same_link { (first : L) → L.since first link.old → L.since first link.new }
-        ensures cause { HasCause (result ≡ Drained.Failed) (L.faults link.old) (L.faults link.new) }
+        ensures cause { HasCause (result ≡ Drained.Failed) (L.failures link.old) (L.failures link.new) }
     {
         drains_settle();
         self.is_connection();
@@ -404,13 +411,13 @@ impl<'t> Conn<'t> {
 
     /// Ends the connection after its link failed: refuses the pending calls, in order. Never allocates.
     pub fn fail(&mut self)
-        ensures failed { Steps self.old fails self.new }
-        ensures same { IsSame self.old self.new }
+        ensures failed { IsStep self.old fails self.new }
+        ensures same { IsSameConnection self.old self.new }
     {
-        events_keep();
+        transitions_preserve_invariant();
         refuse_all(&mut self.history, self.chain.calls());
         self.chain.drop_all();
-        self.chain.is_chain();
+        self.chain.is_chain_state();
         self.ended = true;
     }
 

@@ -2,14 +2,14 @@
 
 ghost use Rattle.std.specs.Prelude.{◌≡◌, ◌≢◌, ◌<◌, ℕ, All, None, length};
 ghost use Rattle.std.specs.Bool.{OnFalse, OnTrue};
-ghost use Rattle.mrpc_base.specs.Faults.{HasCause};
+ghost use Rattle.mrpc_base.specs.Failures.{HasCause};
 ghost use Rattle.engine_core.specs.Moves.{first_at};
 ghost use Rattle.engine_core.specs.Policies.{KnowsTenantOf};
-ghost use Rattle.call_history.specs.Draining.{Passes, SendsSome, Turns, again, at_rest};
-ghost use Rattle.call_history.specs.Tickets.{tickets_behind};
-ghost use Rattle.conn_core.specs.Connections.{IsSame, behind, course, under};
-ghost use Rattle.conn_core.specs.Kept.{FailsBehind, Went};
-ghost use Rattle.conn_core.specs.Steps.{Hands, parts};
+ghost use Rattle.call_history.specs.Draining.{IsPass, HasSentSome, HasTurns, again, at_rest};
+ghost use Rattle.call_history.specs.Tickets.{tickets_of_trace};
+ghost use Rattle.conn_core.specs.Connections.{IsSameConnection, conn_trace, conn_state, judge_context};
+ghost use Rattle.conn_core.specs.Invariant.{HasFailedAfterSends, HasAdvancedByTurns};
+ghost use Rattle.conn_core.specs.ConnectionSteps.{HasHandedOver, conn_parts};
 
 use crate::answers::{Drained, Sending};
 use crate::conn::Conn;
@@ -20,8 +20,8 @@ use mrpc_base::{Link, Tickets};
 // first engine.
 pub(crate) fn pass_all<Q: Tickets>(conn: &mut Conn, tickets: &mut Q)
     requires { All (λ e. KnowsTenantOf (Q.knows tickets.old) e.entry.policy) conn.old.chain.engines }
-    ensures passes { Passes (under conn.old) 0 (course conn.old) (course conn.new) }
-    ensures went { Went Q.knows Q.drawn Q.since conn.old conn.new tickets.old tickets.new }
+    ensures passes { IsPass (judge_context conn.old) 0 (conn_state conn.old) (conn_state conn.new) }
+    ensures went { HasAdvancedByTurns Q.knows Q.drawn Q.since conn.old conn.new tickets.old tickets.new }
 {
     conn.is_connection();
     let mut at = 0;
@@ -41,10 +41,12 @@ pub(crate) fn pass_all<Q: Tickets>(conn: &mut Conn, tickets: &mut Q)
 fn turns_at<Q: Tickets>(conn: &mut Conn, at: u32, tickets: &mut Q) -> bool
     requires at { at < length conn.old.chain.engines }
     requires known { All (λ e. KnowsTenantOf (Q.knows tickets.old) e.entry.policy) conn.old.chain.engines }
-    ensures rest { OnTrue result (Turns (under conn.old) at (course conn.old) at_rest (course conn.new)) }
-    ensures again { OnFalse result (Turns (under conn.old) at (course conn.old) again (course conn.new)) }
-    ensures fewer { OnFalse result (parts conn.new < parts conn.old) }
-    ensures went { Went Q.knows Q.drawn Q.since conn.old conn.new tickets.old tickets.new }
+    ensures rest { OnTrue result (HasTurns (judge_context conn.old) at (conn_state conn.old) at_rest
+        (conn_state conn.new)) }
+    ensures again { OnFalse result (HasTurns (judge_context conn.old) at (conn_state conn.old) again
+        (conn_state conn.new)) }
+    ensures fewer { OnFalse result (conn_parts conn.new < conn_parts conn.old) }
+    ensures went { HasAdvancedByTurns Q.knows Q.drawn Q.since conn.old conn.new tickets.old tickets.new }
 {
     conn.is_connection();
     'turns: loop {
@@ -63,23 +65,25 @@ fn turns_at<Q: Tickets>(conn: &mut Conn, at: u32, tickets: &mut Q) -> bool
 
 // Sends the ready calls, in order.
 pub(crate) fn send_all<L: Link>(conn: &mut Conn, link: &mut L) -> Drained
-    ensures done { result ≡ Drained.Done → SendsSome (under conn.old) (course conn.old) (course conn.new) }
+    ensures done { result ≡ Drained.Done
+        → HasSentSome (judge_context conn.old) (conn_state conn.old) (conn_state conn.new) }
     ensures none_ready { result ≡ Drained.Done
         → first_at (length conn.new.chain.engines) conn.new.chain.row ≡ None }
     ensures failed { result ≡ Drained.Failed
-        → FailsBehind L.refused L.handed L.faults L.since conn.old conn.new link.old link.new }
-    ensures memory { result ≡ Drained.Memory → SendsSome (under conn.old) (course conn.old) (course conn.new) }
+        → HasFailedAfterSends L.refused L.handed L.failures L.since conn.old conn.new link.old link.new }
+    ensures memory { result ≡ Drained.Memory
+        → HasSentSome (judge_context conn.old) (conn_state conn.old) (conn_state conn.new) }
     ensures still_ready { result ≡ Drained.Memory
         → first_at (length conn.new.chain.engines) conn.new.chain.row ≢ None }
-    ensures same { IsSame conn.old conn.new }
-    ensures tickets { (tenant window : ℕ) → tickets_behind tenant window (behind conn.new)
-        ≡ tickets_behind tenant window (behind conn.old) }
+    ensures same { IsSameConnection conn.old conn.new }
+    ensures tickets { (tenant window : ℕ) → tickets_of_trace tenant window (conn_trace conn.new)
+        ≡ tickets_of_trace tenant window (conn_trace conn.old) }
 
-    ensures handed { Hands conn.old conn.new (L.handed link.old) (L.handed link.new) }
+    ensures handed { HasHandedOver conn.old conn.new (L.handed link.old) (L.handed link.new) }
     ensures given { L.given link.new ≡ L.given link.old }
     ensures link_ended { L.ended link.new ≡ L.ended link.old }
     ensures same_link { (first : L) → L.since first link.old → L.since first link.new }
-    ensures cause { HasCause (result ≡ Drained.Failed) (L.faults link.old) (L.faults link.new) }
+    ensures cause { HasCause (result ≡ Drained.Failed) (L.failures link.old) (L.failures link.new) }
 {
     'calls: loop {
         match conn.send_ready(link) {

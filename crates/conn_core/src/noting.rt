@@ -4,12 +4,12 @@ ghost use Rattle.std.specs.Prelude.{◌≡◌, ◌<◌, ◌≤◌, ◌+◌, ◌+
 ghost use Rattle.engine_core.specs.Chains.{Entry};
 ghost use Rattle.engine_core.specs.declared.op.Op.{Op};
 ghost use Rattle.chain_upgrade.specs.Chains.{OnTurn};
-ghost use Rattle.call_history.specs.Events.{cause_of};
-ghost use Rattle.call_history.specs.Records.{IsNamed, cause_told_by, name_in, step_at};
-ghost use Rattle.call_history.specs.declared.record.Record.TheVariants.{Refused};
-ghost use Rattle.conn_core.specs.Kept.{GivesRule, PutsIn, RefusesBy, records_in, records_of, told_failure, told_note, told_turn};
+ghost use Rattle.call_history.specs.Transitions.{cause_of};
+ghost use Rattle.call_history.specs.Records.{HasValidReferences, cause_of_record, name_in_op, op_at};
+ghost use Rattle.call_history.specs.declared.record.HistoryRecord.TheVariants.{Refused};
+ghost use Rattle.conn_core.specs.Invariant.{HasOpRule, HasSetPolicy, IsRefusedByOpRule, records_in, records_of, failure_events, note_events, turn_events};
 
-use call_history::{History, Record, Refusal};
+use call_history::{History, HistoryRecord, RecordedCause};
 use chain_upgrade::Turned;
 use engine_core::{CallRow, Noted, Why};
 
@@ -18,11 +18,11 @@ use engine_core::{CallRow, Noted, Why};
 pub(crate) fn record_turn(history: &mut History, step: usize, version: u32, turned: Turned)
     requires step { step < length history.old.steps }
     requires room { OnTurn turned (λ seq outcome. records_in outcome ≤ history.old.room) }
-    requires rule { OnTurn turned (λ seq outcome. RefusesBy (step_at history.old.steps step) outcome) }
+    requires rule { OnTurn turned (λ seq outcome. IsRefusedByOpRule (op_at history.old.steps step) outcome) }
     ensures steps { history.new.steps ≡ history.old.steps }
     ensures idle { turned ≡ Turned.Idle → history.new ≡ history.old }
-    ensures told { OnTurn turned (λ seq outcome. (e : Entry) → PutsIn (step_at history.old.steps step) e
-        → e.version ≡ version → history.new.happenings ≡ history.old.happenings ++ told_turn e seq outcome) }
+    ensures told { OnTurn turned (λ seq outcome. (e : Entry) → HasSetPolicy (op_at history.old.steps step) e
+        → e.version ≡ version → history.new.happenings ≡ history.old.happenings ++ turn_events e seq outcome) }
     ensures room { OnTurn turned (λ seq outcome. history.old.room ≤ history.new.room + records_in outcome) }
 {
     match turned {
@@ -31,9 +31,9 @@ pub(crate) fn record_turn(history: &mut History, step: usize, version: u32, turn
         Turned::Refused { seq, noted, why } => {
             record_note(history, step, seq, noted);
             let by = refusal(step, version, why);
-            history.push(Record::Refused { seq, by });
+            history.push(HistoryRecord::Refused { seq, by });
         }
-        Turned::Redacted { seq } => history.push(Record::Redacted { seq, step, version }),
+        Turned::Redacted { seq } => history.push(HistoryRecord::Redacted { seq, step, version }),
     }
 }
 
@@ -43,37 +43,37 @@ fn record_note(history: &mut History, step: usize, seq: u32, noted: Noted)
     requires room { records_of noted ≤ history.old.room }
     ensures steps { history.new.steps ≡ history.old.steps }
     ensures told { history.new.happenings
-        ≡ history.old.happenings ++ told_note (name_in (step_at history.old.steps step)) seq noted }
+        ≡ history.old.happenings ++ note_events (name_in_op (op_at history.old.steps step)) seq noted }
     ensures room { history.old.room ≤ history.new.room + records_of noted }
 {
     match noted {
         Noted::Nothing => {}
-        Noted::Charged { level } => history.push(Record::Charged { seq, step, level }),
-        Noted::Drawn { window, ticket } => history.push(Record::Drawn {
+        Noted::Charged { level } => history.push(HistoryRecord::Charged { seq, step, level }),
+        Noted::Drawn { window, ticket } => history.push(HistoryRecord::Drawn {
             seq,
             step,
             window,
             ticket,
         }),
-        Noted::Counted => history.push(Record::Counted { seq, step }),
+        Noted::Counted => history.push(HistoryRecord::Counted { seq, step }),
     }
 }
 
 // A refusal by an engine, as it is stored.
-fn refusal(step: usize, version: u32, why: Why) -> Refusal
-    ensures cause { (steps : List Op) (e : Entry) → PutsIn (step_at steps step) e → e.version ≡ version
-        → cause_told_by steps result ≡ cause_of e why }
-    ensures named { (steps : List Op) (seq : ℕ) → step < length steps → GivesRule (step_at steps step) why
-        → IsNamed steps (Refused seq result) }
+fn refusal(step: usize, version: u32, why: Why) -> RecordedCause
+    ensures cause { (steps : List Op) (e : Entry) → HasSetPolicy (op_at steps step) e → e.version ≡ version
+        → cause_of_record steps result ≡ cause_of e why }
+    ensures named { (steps : List Op) (seq : ℕ) → step < length steps → HasOpRule (op_at steps step) why
+        → HasValidReferences steps (Refused seq result) }
 {
     match why {
-        Why::Denied { rule } => Refusal::Access {
+        Why::Denied { rule } => RecordedCause::Access {
             step,
             version,
             rule,
         },
-        Why::Short { level, cost } => Refusal::Rate { step, level, cost },
-        Why::Over { ticket, cap } => Refusal::Quota { step, ticket, cap },
+        Why::Short { level, cost } => RecordedCause::Rate { step, level, cost },
+        Why::Over { ticket, cap } => RecordedCause::Quota { step, ticket, cap },
     }
 }
 
@@ -81,14 +81,14 @@ fn refusal(step: usize, version: u32, why: Why) -> Refusal
 pub(crate) fn refuse_all(history: &mut History, calls: &CallRow)
     requires room { length calls.now ≤ history.old.room }
     ensures steps { history.new.steps ≡ history.old.steps }
-    ensures told { history.new.happenings ≡ history.old.happenings ++ told_failure calls.now }
+    ensures told { history.new.happenings ≡ history.old.happenings ++ failure_events calls.now }
     ensures room { history.old.room ≤ history.new.room + length calls.now }
 {
     for place in 0..calls.len() {
         let seq = calls.at(place).call().seq;
-        history.push(Record::Refused {
+        history.push(HistoryRecord::Refused {
             seq,
-            by: Refusal::Transport,
+            by: RecordedCause::Transport,
         });
     }
 }

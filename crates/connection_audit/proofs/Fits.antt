@@ -4,21 +4,21 @@ use Rattle.std.proofs.lemmas.List.{reverse-append}
 use Rattle.std.specs.Prelude.{slice_get}
 use Rattle.std.specs.List.{AllByRecursion}
 use Rattle.mrpc_table.specs.declared.table.Table.{Table}
-use Rattle.call_history.specs.Behind.{Behind}
-use Rattle.call_history.specs.Legal.{IsPrefix}
-use Rattle.call_history.specs.Rules.{IsTakenBy, Under}
+use Rattle.call_history.specs.Trace.{Trace}
+use Rattle.call_history.specs.Legal.{IsLegalPrefix}
+use Rattle.call_history.specs.Rules.{IsValidCopy, JudgeContext}
 use Rattle.call_history.specs.declared.happening.Happening.{Happening}
 use Rattle.call_history.specs.declared.happening.Happening.TheVariants.{Away, Charged, Counted, Drawn, Moment, Op, Redacted, Refused, Sent, Took}
-use Rattle.call_history.specs.declared.happening.Taken.{Taken}
+use Rattle.call_history.specs.declared.happening.AcceptedCall.{AcceptedCall}
 use Rattle.call_history.specs.declared.happening.TookCopy.{TookCopy}
 use Rattle.call_history.specs.declared.happening.TookCopy.TheVariants.{Copy, Malformed}
-use Rattle.audit_text.specs.Lines.{FitsCall, FitsTable}
+use Rattle.audit_text.specs.Lines.{IsCopyOfTable, IsEventOfTable}
 
-taken-fits : (T : Table) (call : Taken) (copy : TookCopy) → IsTakenBy T call copy → FitsCall T call copy
+taken-fits : (T : Table) (call : AcceptedCall) (copy : TookCopy) → IsValidCopy T call copy → IsCopyOfTable T call copy
 taken-fits T call (Copy tree) taken = taken
 taken-fits T call (Malformed reason place value) taken = tt
 
-behind-fits : (u : Under) (past : Behind) → IsPrefix u past → AllByRecursion (FitsTable u.table) past
+behind-fits : (u : JudgeContext) (past : Trace) → IsLegalPrefix u past → AllByRecursion (IsEventOfTable u.table) past
 behind-fits u [] prefix = tt
 behind-fits u (Took call ∷ past) prefix = (taken-fits u.table call call.copy prefix.1.numbered.copy, behind-fits u past prefix.0)
 behind-fits u (Away method number addr ∷ past) prefix = (tt, behind-fits u past prefix.0)
@@ -48,5 +48,5 @@ module _ (P : Happening → Type 0) where
       subst P same ((all-front (reverse xs) (y ∷ []) (subst (AllByRecursion P) (reverse-append (y ∷ []) xs) all)).0)
   reversed-at (y ∷ xs) (suc place) x all at = reversed-at xs place x (all-back (reverse xs) (y ∷ []) (subst (AllByRecursion P) (reverse-append (y ∷ []) xs) all)) at
 
-pub happenings-fit : (u : Under) (xs : List Happening) → IsPrefix u (reverse xs) → (place : ℕ) (x : Happening) → slice_get xs place ≡ Some x → FitsTable u.table x
-happenings-fit u xs prefix place x at = reversed-at (FitsTable u.table) xs place x (behind-fits u (reverse xs) prefix) at
+pub happenings-fit : (u : JudgeContext) (xs : List Happening) → IsLegalPrefix u (reverse xs) → (place : ℕ) (x : Happening) → slice_get xs place ≡ Some x → IsEventOfTable u.table x
+happenings-fit u xs prefix place x at = reversed-at (IsEventOfTable u.table) xs place x (behind-fits u (reverse xs) prefix) at

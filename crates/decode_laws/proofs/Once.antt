@@ -2,15 +2,15 @@
 use Rattle.std.proofs.Common.{◌≡◌, ℕ, List, sym, subst}
 use Rattle.mrpc_table.specs.declared.table.Table.{Table}
 use Rattle.text_commands.specs.Decoding.{IsCutAt, IsDecoded}
-use Rattle.text_commands.specs.DecodeInput.{Holds, IsTextFault}
+use Rattle.text_commands.specs.DecodeInput.{IsInputOf, IsInputTextFault}
 use Rattle.decode_laws.specs.Decodings.{IsDecodable, IsDecodeFault, fault_of_text, fault_of_stream}
 
 -- laws of decodings
 pub record OnceLaw : Type 0 where
-  pub parts : (text stream other : List ℕ) (T U : Table) → Holds text T stream → Holds text U other → (T ≡ U) × (stream ≡ other)
-  pub text_fault : (text word spelled : List ℕ) (line at : ℕ) → IsTextFault text line word → IsTextFault text at spelled
+  pub parts : (text stream other : List ℕ) (T U : Table) → IsInputOf text T stream → IsInputOf text U other → (T ≡ U) × (stream ≡ other)
+  pub text_fault : (text word spelled : List ℕ) (line at : ℕ) → IsInputTextFault text line word → IsInputTextFault text at spelled
       → (line ≡ at) × (word ≡ spelled)
-  pub no_text_fault : (text stream word : List ℕ) (T : Table) (line : ℕ) → Holds text T stream → IsTextFault text line word → ⊥
+  pub no_text_fault : (text stream word : List ℕ) (T : Table) (line : ℕ) → IsInputOf text T stream → IsInputTextFault text line word → ⊥
   pub cut : (T : Table) (stream told other word spelled : List ℕ) (place at : ℕ) → IsCutAt T 0 stream told place word
       → IsCutAt T 0 stream other at spelled → (place ≡ at) × (word ≡ spelled) × (told ≡ other)
   pub no_cut : (T : Table) (stream told other word : List ℕ) (place : ℕ) → IsDecoded T stream told

@@ -8,32 +8,32 @@ use lib.ListN.{get_elem?}
 use Rattle.std.proofs.lemmas.List.Elements.{All-nil, All-head, All-tail, All-push}
 use Rattle.crossbeam_queue.specs.Fifo.{Pushes, Pops, Forks, Merges, Learns}
 use Rattle.shared_heap.specs.Fresh.{HeapId}
-use Rattle.descriptor_ring.specs.declared.line.Slip.{Slip}
-use Rattle.descriptor_ring.specs.declared.line.Slip.TheVariants.{Item, Closing}
-use Rattle.descriptor_ring.specs.declared.line.View.{View}
+use Rattle.descriptor_ring.specs.declared.ring_rule.RingEntry.{RingEntry}
+use Rattle.descriptor_ring.specs.declared.ring_rule.RingEntry.TheVariants.{Item, Closing}
+use Rattle.descriptor_ring.specs.declared.ring_rule.RingView.{RingView}
 use Rattle.descriptor_ring.specs.Heaps.{no_heap}
-use Rattle.descriptor_ring.specs.Line.{slips, queued, first, sender, receiver, nobody, knowing, longer, told_sent}
-use Rattle.descriptor_ring.specs.Line.{told_taken, both, Agree, IsInOrder, put, got, Put, Fits, Got, Knows, IsLine}
-use Rattle.descriptor_ring.specs.Rings.{Held}
+use Rattle.descriptor_ring.specs.RingRule.{ring_entries, queued, first, sender, receiver, spent_view, knowing_view, longer, with_sent_of}
+use Rattle.descriptor_ring.specs.RingRule.{with_taken_of, merged_view, AreComparable, IsInOrder, after_push, after_pop, IsPushStep, IsItemFor, IsPopStep, IsViewOfRing, IsFifo}
+use Rattle.descriptor_ring.specs.Rings.{HasHeldLast}
 use Rattle.descriptor_ring.proofs.Passes.{each_set, each_snoc_at, other_pass}
 
 off : false ≡ true → ⊥
 off e = true≢false (sym e)
 
 module _ {T : Type 0} where
-  slips-push : (xs : List T) (x : T) → slips xs false ++ Item x ∷ [] ≡ slips (xs ++ x ∷ []) false
+  slips-push : (xs : List T) (x : T) → ring_entries xs false ++ Item x ∷ [] ≡ ring_entries (xs ++ x ∷ []) false
   slips-push [] x = refl
   slips-push (y ∷ ys) x = ap (λ l. Item y ∷ l) (slips-push ys x)
 
-  slips-close : (xs : List T) → slips xs false ++ Closing ∷ [] ≡ slips xs true
+  slips-close : (xs : List T) → ring_entries xs false ++ Closing ∷ [] ≡ ring_entries xs true
   slips-close [] = refl
   slips-close (y ∷ ys) = ap (λ l. Item y ∷ l) (slips-close ys)
 
-  length-slips : (xs : List T) → length (slips xs false) ≡ length xs
+  length-slips : (xs : List T) → length (ring_entries xs false) ≡ length xs
   length-slips [] = refl
   length-slips (y ∷ ys) = ap suc (length-slips ys)
 
-  slips-none : (xs : List T) (closed : Bool) → length (slips xs closed) ≡ 0 → (xs ≡ []) × (closed ≡ false)
+  slips-none : (xs : List T) (closed : Bool) → length (ring_entries xs closed) ≡ 0 → (xs ≡ []) × (closed ≡ false)
   slips-none [] false e = (refl, refl)
   slips-none [] true e = absurd (omega (arith, e))
   slips-none (y ∷ ys) closed e = absurd (omega (arith, e))
@@ -48,7 +48,7 @@ module _ {T : Type 0} where
   front_trans xs ys zs p q = (p.0 ++ q.0, sym (append_assoc xs p.0 q.0) ∙ ap (λ l. l ++ q.0) p.1 ∙ q.1)
 
   -- two prefixes of one list agree
-  agree : (xs ys all : List T) → IsPrefix xs all → IsPrefix ys all → Agree xs ys
+  agree : (xs ys all : List T) → IsPrefix xs all → IsPrefix ys all → AreComparable xs ys
   agree [] ys all p q = inl (ys, refl)
   agree (x ∷ xs) [] all p q = inr (x ∷ xs, refl)
   agree (x ∷ xs) (y ∷ ys) [] p q = absurd (cc (p.1))
@@ -74,24 +74,24 @@ module _ {T : Type 0} where
   longer_whole (x ∷ xs) (y ∷ ys) p = ap (λ l. x ∷ l) (longer_whole xs ys (p.0, cc (p.1)))
 
   -- the queue starts with the first item not taken yet, or holds the closing sentinel alone
-  data Front (x : Slip T) (items : List (Slip T)) (waiting : List T) (closed ended : Bool) : Type 0 where
-    item : (y : T) (ys : List T) → waiting ≡ y ∷ ys → x ≡ Item y → items ≡ slips ys closed → ended ≡ false → Front x items waiting closed ended
+  data Front (x : RingEntry T) (items : List (RingEntry T)) (waiting : List T) (closed ended : Bool) : Type 0 where
+    item : (y : T) (ys : List T) → waiting ≡ y ∷ ys → x ≡ Item y → items ≡ ring_entries ys closed → ended ≡ false → Front x items waiting closed ended
     closing : waiting ≡ [] → closed ≡ true → x ≡ Closing → items ≡ [] → Front x items waiting closed ended
 
-  front : (x : Slip T) (items : List (Slip T)) (waiting : List T) (closed ended : Bool) → x ∷ items ≡ queued waiting closed ended → Front x items waiting closed ended
+  front : (x : RingEntry T) (items : List (RingEntry T)) (waiting : List T) (closed ended : Bool) → x ∷ items ≡ queued waiting closed ended → Front x items waiting closed ended
   front x items waiting closed true e = absurd (cc)
   front x items [] false false e = absurd (cc)
   front x items [] true false e = closing refl refl (cc) (cc)
   front x items (y ∷ ys) closed false e = item y ys refl (cc) (cc) refl
 
 module _ {T : Type 0} (fits : HeapId → T → Type 0) (most : ℕ) where
-  abbrev Line : List (Slip T) → List (View T) → Type 0
-  Line = IsLine fits most
+  abbrev Line : List (RingEntry T) → List (RingView T) → Type 0
+  Line = IsFifo fits most
 
   -- a pass without a role that knows prefixes of the sent and taken items
-  idle : (s r : ℕ) (heap : HeapId) (sent : List T) (closed : Bool) (taken : List T) (ended : Bool) (pass : ℕ) (v : View T)
+  idle : (s r : ℕ) (heap : HeapId) (sent : List T) (closed : Bool) (taken : List T) (ended : Bool) (pass : ℕ) (v : RingView T)
       → v.sends ≡ false → v.takes ≡ false → v.closed ≡ false → IsPrefix v.sent sent → IsPrefix v.taken taken
-      → Knows fits most s r heap sent closed taken ended pass v
+      → IsViewOfRing fits most s r heap sent closed taken ended pass v
   idle s r heap sent closed taken ended pass v no_send no_take unclosed some_sent some_taken = record {
     sends = λ p. absurd (off (sym no_send ∙ p));
     takes = λ p. absurd (off (sym no_take ∙ p));
@@ -118,8 +118,8 @@ module _ {T : Type 0} (fits : HeapId → T → Type 0) (most : ℕ) where
     passes = one;
   }
     where
-      one : (pass : ℕ) (v : View T) → get_elem? (first ∷ []) pass ≡ some v → Knows fits most 0 0 no_heap [] false [] false pass v
-      one zero v e = subst (Knows fits most 0 0 no_heap [] false [] false 0) (some-injective _ _ e) record {
+      one : (pass : ℕ) (v : RingView T) → get_elem? (first ∷ []) pass ≡ some v → IsViewOfRing fits most 0 0 no_heap [] false [] false pass v
+      one zero v e = subst (IsViewOfRing fits most 0 0 no_heap [] false [] false 0) (some-injective _ _ e) record {
         sends = λ _. (refl, refl, refl, refl);
         takes = λ _. (refl, refl, refl, refl);
         some_sent = ([], refl);
@@ -133,22 +133,22 @@ module _ {T : Type 0} (fits : HeapId → T → Type 0) (most : ℕ) where
   open_yet closed false waiting last unclosed = refl
   open_yet closed true waiting last unclosed = absurd (off (sym unclosed ∙ (last refl).0))
 
-  module _ (pass : ℕ) (v : View T) (items : List (Slip T)) (views : List (View T)) (h : Line items views) (at : get_elem? views pass ≡ some v) where
-    mine : Knows fits most h.sender h.receiver h.heap h.sent h.closed h.taken h.ended pass v
+  module _ (pass : ℕ) (v : RingView T) (items : List (RingEntry T)) (views : List (RingView T)) (h : Line items views) (at : get_elem? views pass ≡ some v) where
+    mine : IsViewOfRing fits most h.sender h.receiver h.heap h.sent h.closed h.taken h.ended pass v
     mine = h.passes pass v at
 
     -- the contents of the queue while the sender hasn't closed
-    held : v.sends ≡ true → v.closed ≡ false → items ≡ slips h.waiting false
+    held : v.sends ≡ true → v.closed ≡ false → items ≡ ring_entries h.waiting false
     held may unclosed =
         let closed : h.closed ≡ false = sym (mine.sends may).3 ∙ unclosed in
-        h.holds ∙ ap (queued h.waiting h.closed) (open_yet h.closed h.ended h.waiting h.last closed) ∙ ap (slips h.waiting) closed
+        h.holds ∙ ap (queued h.waiting h.closed) (open_yet h.closed h.ended h.waiting h.last closed) ∙ ap (ring_entries h.waiting) closed
 
     -- after the sender has pushed an item or the closing sentinel, and knows of it
-    after_put : v.sends ≡ true → h.closed ≡ false → h.ended ≡ false → (sent : List T) (closed : Bool) (w : View T) → IsPrefix h.sent sent
-        → Knows fits most h.sender h.receiver h.heap sent closed h.taken false pass w
-        → (j : ℕ) (u : View T) → get_elem? (set views pass w) j ≡ some u → Knows fits most h.sender h.receiver h.heap sent closed h.taken false j u
+    after_put : v.sends ≡ true → h.closed ≡ false → h.ended ≡ false → (sent : List T) (closed : Bool) (w : RingView T) → IsPrefix h.sent sent
+        → IsViewOfRing fits most h.sender h.receiver h.heap sent closed h.taken false pass w
+        → (j : ℕ) (u : RingView T) → get_elem? (set views pass w) j ≡ some u → IsViewOfRing fits most h.sender h.receiver h.heap sent closed h.taken false j u
     after_put may unclosed on sent closed w longer this =
-        each_set (Knows fits most h.sender h.receiver h.heap sent closed h.taken false) views pass w this
+        each_set (IsViewOfRing fits most h.sender h.receiver h.heap sent closed h.taken false) views pass w this
         (λ j u apart e. let k = h.passes j u e in record {
           sends = λ p. absurd (apart ((k.sends p).0 ∙ sym (mine.sends may).0));
           takes = λ p. let t = k.takes p in (t.0, t.1, t.2, t.3 ∙ on);
@@ -158,11 +158,11 @@ module _ {T : Type 0} (fits : HeapId → T → Type 0) (most : ℕ) where
         })
 
     -- after the receiver has popped an item or the closing sentinel, and knows of it
-    after_got : v.takes ≡ true → (taken : List T) (ended : Bool) (w : View T) → IsPrefix h.taken taken
-        → Knows fits most h.sender h.receiver h.heap h.sent h.closed taken ended pass w
-        → (j : ℕ) (u : View T) → get_elem? (set views pass w) j ≡ some u → Knows fits most h.sender h.receiver h.heap h.sent h.closed taken ended j u
+    after_got : v.takes ≡ true → (taken : List T) (ended : Bool) (w : RingView T) → IsPrefix h.taken taken
+        → IsViewOfRing fits most h.sender h.receiver h.heap h.sent h.closed taken ended pass w
+        → (j : ℕ) (u : RingView T) → get_elem? (set views pass w) j ≡ some u → IsViewOfRing fits most h.sender h.receiver h.heap h.sent h.closed taken ended j u
     after_got may taken ended w longer this =
-        each_set (Knows fits most h.sender h.receiver h.heap h.sent h.closed taken ended) views pass w this
+        each_set (IsViewOfRing fits most h.sender h.receiver h.heap h.sent h.closed taken ended) views pass w this
         (λ j u apart e. let k = h.passes j u e in record {
           sends = k.sends;
           takes = λ p. absurd (apart ((k.takes p).0 ∙ sym (mine.takes may).0));
@@ -171,18 +171,18 @@ module _ {T : Type 0} (fits : HeapId → T → Type 0) (most : ℕ) where
           some_closed = k.some_closed;
         })
 
-  pub puts_item : (n pass : ℕ) (v : View T) (x : T) → v.sends ≡ true → v.closed ≡ false → fits v.heap x
-      → length v.sent < most → Pushes Line n pass v (Item x) (Put v (Item x))
+  pub puts_item : (n pass : ℕ) (v : RingView T) (x : T) → v.sends ≡ true → v.closed ≡ false → fits v.heap x
+      → length v.sent < most → Pushes Line n pass v (Item x) (IsPushStep v (Item x))
   puts_item n pass v x may unclosed fit few items views room h at =
       let m = mine pass v items views h at in
       let s = m.sends may in
       let now : List T = h.sent ++ x ∷ [] in
-      let w : View T = put v (Item x) in
+      let w : RingView T = after_push v (Item x) in
       let is_sent : w.sent ≡ now = ap (λ l. l ++ x ∷ []) s.2 in
       let closed : h.closed ≡ false = sym s.3 ∙ unclosed in
       let on : h.ended ≡ false = open_yet h.closed h.ended h.waiting h.last closed in
       let order : now ≡ h.taken ++ (h.waiting ++ x ∷ []) = ap (λ l. l ++ x ∷ []) h.in_order ∙ append_assoc h.taken h.waiting (x ∷ []) in
-      let knows : Knows fits most h.sender h.receiver h.heap now false h.taken false pass w = record {
+      let knows : IsViewOfRing fits most h.sender h.receiver h.heap now false h.taken false pass w = record {
         sends = λ _. (s.0, s.1, is_sent, unclosed);
         takes = λ p. let t = m.takes p in (t.0, t.1, t.2, t.3 ∙ on);
         some_sent = subst (λ l. IsPrefix l now) (sym is_sent) (front_refl now);
@@ -212,14 +212,14 @@ module _ {T : Type 0} (fits : HeapId → T → Type 0) (most : ℕ) where
         ),
       )
 
-  pub puts_closing : (n pass : ℕ) (v : View T) → v.sends ≡ true → v.closed ≡ false → Pushes Line n pass v Closing (Put v Closing)
+  pub puts_closing : (n pass : ℕ) (v : RingView T) → v.sends ≡ true → v.closed ≡ false → Pushes Line n pass v Closing (IsPushStep v Closing)
   puts_closing n pass v may unclosed items views room h at =
       let m = mine pass v items views h at in
       let s = m.sends may in
-      let w : View T = put v Closing in
+      let w : RingView T = after_push v Closing in
       let closed : h.closed ≡ false = sym s.3 ∙ unclosed in
       let on : h.ended ≡ false = open_yet h.closed h.ended h.waiting h.last closed in
-      let knows : Knows fits most h.sender h.receiver h.heap h.sent true h.taken false pass w = record {
+      let knows : IsViewOfRing fits most h.sender h.receiver h.heap h.sent true h.taken false pass w = record {
         sends = λ _. (s.0, s.1, s.2, refl);
         takes = λ p. let t = m.takes p in (t.0, t.1, t.2, t.3 ∙ on);
         some_sent = m.some_sent;
@@ -250,24 +250,24 @@ module _ {T : Type 0} (fits : HeapId → T → Type 0) (most : ℕ) where
       )
 
   -- a full ring holds the last of the sent items
-  pub learns_full : (pass : ℕ) (v : View T) → v.sends ≡ true → v.closed ≡ false
-      → Learns Line pass v (λ items. ((n : ℕ) → length items ≡ n → Held v.sent v.taken n) × (length items ≤ length v.sent))
+  pub learns_full : (pass : ℕ) (v : RingView T) → v.sends ≡ true → v.closed ≡ false
+      → Learns Line pass v (λ items. ((n : ℕ) → length items ≡ n → HasHeldLast v.sent v.taken n) × (length items ≤ length v.sent))
   learns_full pass v may unclosed items views h at =
       let m = mine pass v items views h at in
       let order : v.sent ≡ h.taken ++ h.waiting = (m.sends may).2 ∙ h.in_order in
       let counted : length h.waiting ≡ length items =
       sym (length-slips h.waiting) ∙ sym (ap length (held pass v items views h at may unclosed)) in (
-        (λ n is. record { taken = h.taken; waiting = h.waiting; in_order = order; told_of = m.some_taken; counted = counted ∙ is }),
+        (λ n is. record { taken = h.taken; waiting = h.waiting; in_order = order; observed = m.some_taken; counted = counted ∙ is }),
         omega (arith, counted, ap length order, length-append h.taken h.waiting),
       )
 
   -- items that are known as sent and not taken are in the ring
-  pub learns_empty : (pass : ℕ) (v : View T) → v.takes ≡ true → v.ended ≡ false
+  pub learns_empty : (pass : ℕ) (v : RingView T) → v.takes ≡ true → v.ended ≡ false
       → Learns Line pass v (λ items. length items ≡ 0 → IsPrefix v.sent v.taken × (v.closed ≡ false))
   learns_empty pass v may on items views h at none =
       let m = mine pass v items views h at in
       let t = m.takes may in
-      let holds : items ≡ slips h.waiting h.closed = h.holds ∙ ap (queued h.waiting h.closed) (sym t.3 ∙ on) in
+      let holds : items ≡ ring_entries h.waiting h.closed = h.holds ∙ ap (queued h.waiting h.closed) (sym t.3 ∙ on) in
       let nothing = slips-none h.waiting h.closed (sym (ap length holds) ∙ none) in
       let all : h.sent ≡ v.taken = h.in_order ∙ ap (λ l. h.taken ++ l) nothing.0 ∙ append-nil h.taken ∙ sym t.2 in
       (subst (IsPrefix v.sent) all m.some_sent, unclosed v.closed (λ p. (m.some_closed p).0) nothing.1)
@@ -277,7 +277,7 @@ module _ {T : Type 0} (fits : HeapId → T → Type 0) (most : ℕ) where
       unclosed true known off_yet = absurd (off (sym off_yet ∙ known refl))
 
   -- what a receiver knows is in order
-  in_order_of : (v : View T) (sent : List T) (closed : Bool) (taken waiting : List T) (ended : Bool)
+  in_order_of : (v : RingView T) (sent : List T) (closed : Bool) (taken waiting : List T) (ended : Bool)
       → sent ≡ taken ++ waiting → (ended ≡ true → (closed ≡ true) × (waiting ≡ [])) → v.taken ≡ taken → v.ended ≡ ended
       → IsPrefix v.sent sent → (v.closed ≡ true → (closed ≡ true) × (v.sent ≡ sent)) → IsInOrder v
   in_order_of v sent closed taken waiting ended order last is_taken is_ended some_sent some_closed =
@@ -290,30 +290,30 @@ module _ {T : Type 0} (fits : HeapId → T → Type 0) (most : ℕ) where
         no_more = λ p. subst (IsPrefix v.taken) (sym (some_closed p).1) begins;
       }
 
-  pub learns_in_order : (pass : ℕ) (v : View T) → v.takes ≡ true → Learns Line pass v (λ items. IsInOrder v)
+  pub learns_in_order : (pass : ℕ) (v : RingView T) → v.takes ≡ true → Learns Line pass v (λ items. IsInOrder v)
   learns_in_order pass v may items views h at =
       let m = mine pass v items views h at in
       let t = m.takes may in
       in_order_of v h.sent h.closed h.taken h.waiting h.ended h.in_order h.last t.2 t.3 m.some_sent m.some_closed
 
-  pub learns_behind : (pass : ℕ) (v : View T) → v.sends ≡ true → Learns Line pass v (λ items. IsPrefix v.taken v.sent)
+  pub learns_behind : (pass : ℕ) (v : RingView T) → v.sends ≡ true → Learns Line pass v (λ items. IsPrefix v.taken v.sent)
   learns_behind pass v may items views h at =
       let m = mine pass v items views h at in
       subst (IsPrefix v.taken) (sym (m.sends may).2) (front_trans v.taken h.taken h.sent m.some_taken (h.waiting, sym h.in_order))
 
-  pub gets_it : (pass : ℕ) (v : View T) → v.takes ≡ true → v.ended ≡ false → Pops Line pass v (Got fits most v)
+  pub gets_it : (pass : ℕ) (v : RingView T) → v.takes ≡ true → v.ended ≡ false → Pops Line pass v (IsPopStep fits most v)
   gets_it pass v may on x items views h at = by_front (front x items h.waiting h.closed h.ended h.holds)
     where
-      m : Knows fits most h.sender h.receiver h.heap h.sent h.closed h.taken h.ended pass v
+      m : IsViewOfRing fits most h.sender h.receiver h.heap h.sent h.closed h.taken h.ended pass v
       m = mine pass v (x ∷ items) views h at
 
-      by_front : Front x items h.waiting h.closed h.ended → (w : View T) × Line items (set views pass w) × Got fits most v x w
+      by_front : Front x items h.waiting h.closed h.ended → (w : RingView T) × Line items (set views pass w) × IsPopStep fits most v x w
       by_front (item y ys waits is rest unclosed) =
           let t = m.takes may in
           let now : List T = h.taken ++ y ∷ [] in
           let order : h.sent ≡ now ++ ys = h.in_order ∙ ap (λ l. h.taken ++ l) waits ∙ sym (append_assoc h.taken (y ∷ []) ys) in
           let fit : All (fits h.heap) (y ∷ ys) = subst (All (fits h.heap)) waits h.fit in
-          let w : View T = got v (Item y) in
+          let w : RingView T = after_pop v (Item y) in
           let is_taken : w.taken ≡ now = ap (λ l. l ++ y ∷ []) t.2 in (
             w,
             record {
@@ -339,15 +339,15 @@ module _ {T : Type 0} (fits : HeapId → T → Type 0) (most : ℕ) where
               };
             },
             (
-              ap (got v) (sym is),
-              subst (Fits fits most v.heap) (sym is) (subst (λ z. fits z y) (sym t.1) (All-head (fits h.heap) y ys fit)),
+              ap (after_pop v) (sym is),
+              subst (IsItemFor fits most v.heap) (sym is) (subst (λ z. fits z y) (sym t.1) (All-head (fits h.heap) y ys fit)),
               omega (arith, h.few, ap length order, length-append now ys, ap length is_taken),
               in_order_of w h.sent h.closed now ys false order (λ e. absurd (off e)) is_taken on m.some_sent m.some_closed,
             ),
           )
       by_front (closing waits shut is rest) =
           let t = m.takes may in
-          let w : View T = got v Closing in (
+          let w : RingView T = after_pop v Closing in (
             w,
             record {
               heap = h.heap;
@@ -372,8 +372,8 @@ module _ {T : Type 0} (fits : HeapId → T → Type 0) (most : ℕ) where
               };
             },
             (
-              ap (got v) (sym is),
-              subst (Fits fits most v.heap) (sym is) tt,
+              ap (after_pop v) (sym is),
+              subst (IsItemFor fits most v.heap) (sym is) tt,
               omega (arith, h.few, ap length h.in_order, length-append h.taken h.waiting, ap length t.2),
               in_order_of w h.sent h.closed h.taken h.waiting true h.in_order (λ e. (shut, waits)) t.2 refl m.some_sent m.some_closed,
             ),
@@ -385,9 +385,9 @@ module _ {T : Type 0} (fits : HeapId → T → Type 0) (most : ℕ) where
       let s = m.sends refl in
       let t = m.takes refl in
       let none_waits : [] ≡ h.waiting = s.2 ∙ h.in_order ∙ ap (λ l. l ++ h.waiting) (sym t.2) in
-      let left : View T = sender heap [] false in
-      let right : View T = receiver heap [] false in
-      let vs : List (View T) = set views pass left in
+      let left : RingView T = sender heap [] false in
+      let right : RingView T = receiver heap [] false in
+      let vs : List (RingView T) = set views pass left in
       let n : ℕ = length vs in
       record {
         heap = heap;
@@ -403,7 +403,7 @@ module _ {T : Type 0} (fits : HeapId → T → Type 0) (most : ℕ) where
         last = λ e. absurd (off e);
         fit = All-nil (fits heap);
         few = omega arith;
-        passes = each_snoc_at (Knows fits most pass n heap [] false [] false) vs right
+        passes = each_snoc_at (IsViewOfRing fits most pass n heap [] false [] false) vs right
             record {
               sends = λ p. absurd (off p);
               takes = λ _. (refl, refl, refl, refl);
@@ -411,7 +411,7 @@ module _ {T : Type 0} (fits : HeapId → T → Type 0) (most : ℕ) where
               some_taken = ([], refl);
               some_closed = λ p. absurd (off p);
             }
-            (each_set (Knows fits most pass n heap [] false [] false) views pass left
+            (each_set (IsViewOfRing fits most pass n heap [] false [] false) views pass left
             record {
               sends = λ _. (refl, refl, refl, refl);
               takes = λ p. absurd (off p);
@@ -428,14 +428,14 @@ module _ {T : Type 0} (fits : HeapId → T → Type 0) (most : ℕ) where
             }));
       }
 
-  pub merges_it : (pass : ℕ) (v : View T) (other : ℕ) (u : View T) → v.takes ≡ true → u.sends ≡ true → Merges Line pass v other u (both v u) nobody
+  pub merges_it : (pass : ℕ) (v : RingView T) (other : ℕ) (u : RingView T) → v.takes ≡ true → u.sends ≡ true → Merges Line pass v other u (merged_view v u) spent_view
   merges_it pass v other u may sends items views h at apart there =
-      let joined : View T = both v u in
+      let joined : RingView T = merged_view v u in
       let m = mine pass v items views h at in
       let o = h.passes other u (other_pass views pass other joined u apart there) in
       let t = m.takes may in
       let s = o.sends sends in
-      let F = Knows fits most pass h.receiver h.heap h.sent h.closed h.taken h.ended in
+      let F = IsViewOfRing fits most pass h.receiver h.heap h.sent h.closed h.taken h.ended in
       record {
         heap = h.heap;
         sent = h.sent;
@@ -450,9 +450,9 @@ module _ {T : Type 0} (fits : HeapId → T → Type 0) (most : ℕ) where
         last = h.last;
         fit = h.fit;
         few = h.few;
-        passes = each_set F (set views pass joined) other nobody
-            (idle pass h.receiver h.heap h.sent h.closed h.taken h.ended other nobody refl refl refl (front_nil h.sent) (front_nil h.taken))
-            (λ j w away e. each_set (λ k (x : View T). k ≢ other → F k x) views pass joined
+        passes = each_set F (set views pass joined) other spent_view
+            (idle pass h.receiver h.heap h.sent h.closed h.taken h.ended other spent_view refl refl refl (front_nil h.sent) (front_nil h.taken))
+            (λ j w away e. each_set (λ k (x : RingView T). k ≢ other → F k x) views pass joined
             (λ _. record {
               sends = λ _. (refl, t.1, s.2, s.3);
               takes = λ _. t;
@@ -470,10 +470,10 @@ module _ {T : Type 0} (fits : HeapId → T → Type 0) (most : ℕ) where
       }
 
   -- any pass may share what it knows
-  pub tells_it : (pass : ℕ) (v : View T) → Forks Line pass v v (knowing v)
+  pub tells_it : (pass : ℕ) (v : RingView T) → Forks Line pass v v (knowing_view v)
   tells_it pass v items views h at =
       let m = mine pass v items views h at in
-      let F = Knows fits most h.sender h.receiver h.heap h.sent h.closed h.taken h.ended in
+      let F = IsViewOfRing fits most h.sender h.receiver h.heap h.sent h.closed h.taken h.ended in
       let n : ℕ = length (set views pass v) in
       record {
         heap = h.heap;
@@ -489,22 +489,22 @@ module _ {T : Type 0} (fits : HeapId → T → Type 0) (most : ℕ) where
         last = h.last;
         fit = h.fit;
         few = h.few;
-        passes = each_snoc_at F (set views pass v) (knowing v)
-            (idle h.sender h.receiver h.heap h.sent h.closed h.taken h.ended n (knowing v) refl refl refl m.some_sent m.some_taken)
+        passes = each_snoc_at F (set views pass v) (knowing_view v)
+            (idle h.sender h.receiver h.heap h.sent h.closed h.taken h.ended n (knowing_view v) refl refl refl m.some_sent m.some_taken)
             (each_set F views pass v m (λ j u apart e. h.passes j u e));
       }
 
   -- a pass may learn more, while another one is spent
-  grows : (pass : ℕ) (v : View T) (other : ℕ) (u joined : View T)
-      → ((items : List (Slip T)) (views : List (View T)) (h : Line items views)
-      → Knows fits most h.sender h.receiver h.heap h.sent h.closed h.taken h.ended pass v
-      → Knows fits most h.sender h.receiver h.heap h.sent h.closed h.taken h.ended other u
-      → Knows fits most h.sender h.receiver h.heap h.sent h.closed h.taken h.ended pass joined)
-      → Merges Line pass v other u joined nobody
+  grows : (pass : ℕ) (v : RingView T) (other : ℕ) (u joined : RingView T)
+      → ((items : List (RingEntry T)) (views : List (RingView T)) (h : Line items views)
+      → IsViewOfRing fits most h.sender h.receiver h.heap h.sent h.closed h.taken h.ended pass v
+      → IsViewOfRing fits most h.sender h.receiver h.heap h.sent h.closed h.taken h.ended other u
+      → IsViewOfRing fits most h.sender h.receiver h.heap h.sent h.closed h.taken h.ended pass joined)
+      → Merges Line pass v other u joined spent_view
   grows pass v other u joined more items views h at apart there =
       let m = mine pass v items views h at in
       let o = h.passes other u (other_pass views pass other joined u apart there) in
-      let F = Knows fits most h.sender h.receiver h.heap h.sent h.closed h.taken h.ended in
+      let F = IsViewOfRing fits most h.sender h.receiver h.heap h.sent h.closed h.taken h.ended in
       record {
         heap = h.heap;
         sent = h.sent;
@@ -519,14 +519,14 @@ module _ {T : Type 0} (fits : HeapId → T → Type 0) (most : ℕ) where
         last = h.last;
         fit = h.fit;
         few = h.few;
-        passes = each_set F (set views pass joined) other nobody
-            (idle h.sender h.receiver h.heap h.sent h.closed h.taken h.ended other nobody refl refl refl (front_nil h.sent) (front_nil h.taken))
+        passes = each_set F (set views pass joined) other spent_view
+            (idle h.sender h.receiver h.heap h.sent h.closed h.taken h.ended other spent_view refl refl refl (front_nil h.sent) (front_nil h.taken))
             (λ j w away e. each_set F views pass joined (more items views h m o) (λ k x _ e'. h.passes k x e') j w e);
       }
 
   -- any pass may observe what another one knows
-  pub hears_sent : (pass : ℕ) (v : View T) (other : ℕ) (u : View T) → Merges Line pass v other u (told_sent v u) nobody
-  hears_sent pass v other u = grows pass v other u (told_sent v u) (λ items views h m o.
+  pub hears_sent : (pass : ℕ) (v : RingView T) (other : ℕ) (u : RingView T) → Merges Line pass v other u (with_sent_of v u) spent_view
+  hears_sent pass v other u = grows pass v other u (with_sent_of v u) (λ items views h m o.
       let whole : v.sent ≡ h.sent → longer v.sent u.sent ≡ h.sent = λ is.
       longer_whole v.sent u.sent (subst (IsPrefix u.sent) (sym is) o.some_sent) ∙ is in
       record {
@@ -537,8 +537,8 @@ module _ {T : Type 0} (fits : HeapId → T → Type 0) (most : ℕ) where
         some_closed = λ p. let c = m.some_closed p in (c.0, whole c.1);
       })
 
-  pub hears_taken : (pass : ℕ) (v : View T) (other : ℕ) (u : View T) → Merges Line pass v other u (told_taken v u) nobody
-  hears_taken pass v other u = grows pass v other u (told_taken v u) (λ items views h m o.
+  pub hears_taken : (pass : ℕ) (v : RingView T) (other : ℕ) (u : RingView T) → Merges Line pass v other u (with_taken_of v u) spent_view
+  hears_taken pass v other u = grows pass v other u (with_taken_of v u) (λ items views h m o.
       record {
         sends = m.sends;
         takes = λ p.
@@ -549,7 +549,7 @@ module _ {T : Type 0} (fits : HeapId → T → Type 0) (most : ℕ) where
         some_closed = m.some_closed;
       })
 
-  pub learns_total : (pass : ℕ) (v : View T) → v.sends ≡ true → v.takes ≡ true → v.ended ≡ true → Learns Line pass v (λ items. v.taken ≡ v.sent)
+  pub learns_total : (pass : ℕ) (v : RingView T) → v.sends ≡ true → v.takes ≡ true → v.ended ≡ true → Learns Line pass v (λ items. v.taken ≡ v.sent)
   learns_total pass v sends takes ended items views h at =
       let m = mine pass v items views h at in
       let s = m.sends sends in

@@ -1,6 +1,6 @@
 pub mod Ends
 pub mod Heaps
-pub mod Line
+pub mod RingRule
 pub mod Answers
 pub mod NumberAnswers
 pub mod Rings

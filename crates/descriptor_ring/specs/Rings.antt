@@ -10,7 +10,7 @@ abbrev pub RingId : Type 0
 RingId = TableId
 
 -- a descriptor of a ring for a heap: its note is of that heap, and knows as many stores as the descriptor states
-pub record IsOf (heap : HeapId) (d : Descriptor) : Type 0 where
+pub record IsDescriptorOf (heap : HeapId) (d : Descriptor) : Type 0 where
   pub kind : (1 ≤ d.kind) × (d.kind ≤ 2)
   pub heap_of : d.note.heap ≡ heap
   pub stores : d.stores ≡ length d.note.stores
@@ -36,7 +36,7 @@ pub record Receiving : Type 0 where
   -- the descriptors that it has observed as sent
   pub told : List Descriptor
   -- whether it has observed the closing sentinel after them
-  pub told_closed : Bool
+  pub observed_closed : Bool
 
 -- the remains of a sender that has closed
 pub record AllSent : Type 0 where
@@ -44,18 +44,18 @@ pub record AllSent : Type 0 where
   pub items : List Descriptor
 
 -- the progress of a ring: the items that were sent and taken, as the end that reports it knew them
-pub record Telling (T : Type 0) : Type 0 where
+pub record RingProgress (T : Type 0) : Type 0 where
   pub ring : RingId
   pub sent : List T
   pub taken : List T
 
 -- The items that a ring held at a call of its sender: `count` of them, the last ones that were sent. Those before
 -- them had been taken; they include all that the sender has observed as taken.
-pub record Held {T : Type 0} (sent told : List T) (count : ℕ) : Type 0 where
+pub record HasHeldLast {T : Type 0} (sent told : List T) (count : ℕ) : Type 0 where
   pub taken : List T
   pub waiting : List T
   pub in_order : sent ≡ taken ++ waiting
-  pub told_of : IsPrefix told taken
+  pub observed : IsPrefix told taken
   pub counted : length waiting ≡ count
 
 -- like `Sending`, for a ring of numbers
@@ -70,7 +70,7 @@ pub record NumberReceiving : Type 0 where
   pub taken : List ℕ
   pub closed : Bool
   pub told : List ℕ
-  pub told_closed : Bool
+  pub observed_closed : Bool
 
 pub record AllNumbersSent : Type 0 where
   pub ring : RingId

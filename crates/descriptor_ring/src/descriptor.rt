@@ -1,7 +1,7 @@
 //! Descriptors, the items of a ring.
 
 use crate::lesson::Lesson;
-use crate::line::Goods;
+use crate::ring_rule::RingItem;
 use shared_heap::Note;
 
 /// A call that an application submits, or the notice of a message.
@@ -21,10 +21,10 @@ pub struct Descriptor {
     pub note: Note,
 }
 
-impl Goods for Descriptor {
-    ghost use Rattle.descriptor_ring.specs.Rings.{IsOf};
+impl RingItem for Descriptor {
+    ghost use Rattle.descriptor_ring.specs.Rings.{IsDescriptorOf};
 
-    ghost fits = { IsOf };
+    ghost fits = { IsDescriptorOf };
 
     ghost most = { 4294967294 };
 }

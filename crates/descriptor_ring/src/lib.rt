@@ -14,10 +14,10 @@ mod calls;
 mod descriptor;
 mod lesson;
 mod limits;
-mod line;
 mod numbers;
 mod progress;
 mod ring;
+mod ring_rule;
 
 pub use descriptor::{Descriptor, Full, Taken};
 pub use lesson::Lesson;

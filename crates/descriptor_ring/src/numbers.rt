@@ -3,15 +3,15 @@
 ghost use Rattle.std.specs.Prelude.{◌≡◌, ◌<◌, ◌≤◌, ◌^◌, ◌↔◌, ◌++◌, ◌∷◌, [], true, false, length};
 ghost use Rattle.std.specs.Prelude.{IfOk, IfErr, OnOk, IsTrue};
 ghost use Rattle.descriptor_ring.specs.NumberAnswers.{OnItem, OnEmpty, OnNone};
-ghost use Rattle.descriptor_ring.specs.Rings.{Held};
-ghost use Rattle.descriptor_ring.specs.Line.{longer, Agree};
+ghost use Rattle.descriptor_ring.specs.Rings.{HasHeldLast};
+ghost use Rattle.descriptor_ring.specs.RingRule.{longer, AreComparable};
 ghost use Rattle.descriptor_ring.specs.declared.limits.TheConstants.{MAX_CAPACITY};
 ghost use mathlib.Core.List.{IsPrefix};
 
 use crate::calls;
 use crate::lesson::Lesson;
-use crate::line::{Goods, Line, LinePass, Slip};
 use crate::progress::Progress;
+use crate::ring_rule::{RingEntry, RingItem, RingPass, RingQueue};
 use std::alloc::{AllocError, Global};
 use std::marker::{Brand, Model};
 use std::sync::{Arc, Wait};
@@ -35,7 +35,7 @@ pub enum NumberTaken {
     Empty(Lesson),
 }
 
-impl Goods for u64 {
+impl RingItem for u64 {
     ghost use Rattle.std.specs.Prelude.{◌^◌};
 
     ghost fits = { λ _ _. Unit {0} };
@@ -46,8 +46,8 @@ impl Goods for u64 {
 /// The sending end of a ring of numbers. Contracts see it as a `NumberSending`: the ring, its capacity, the numbers
 /// that were sent, and those that it has observed as taken.
 pub struct NumberSender {
-    line: Arc<Line<u64>, Global>,
-    pass: LinePass<u64>,
+    line: Arc<RingQueue<u64>, Global>,
+    pass: RingPass<u64>,
 }
 
 // Written by hand, so that a drop is one call instead of one for each field.
@@ -81,8 +81,8 @@ impl Model for NumberSender {
 /// The receiving end of a ring of numbers. Contracts see it as a `NumberReceiving`: the ring, the numbers that were
 /// taken, whether the closing sentinel was taken, and what it has observed as sent.
 pub struct NumberReceiver {
-    line: Arc<Line<u64>, Global>,
-    pass: LinePass<u64>,
+    line: Arc<RingQueue<u64>, Global>,
+    pass: RingPass<u64>,
     closed: bool,
 }
 
@@ -111,7 +111,7 @@ impl Model for NumberReceiver {
       taken = (known r.pass).taken;
       closed = r.closed;
       told = (known r.pass).sent;
-      told_closed = (known r.pass).closed;
+      observed_closed = (known r.pass).closed;
     } };
 
     ghost invariant = { λ r. IsPassOf (arc_value r.line) r.pass × IsReceiver (2 ^ 61) r.closed (known r.pass) };
@@ -121,7 +121,7 @@ impl Model for NumberReceiver {
 /// numbers that were sent.
 #[derive(Drop)]
 pub struct NumbersSent {
-    pass: LinePass<u64>,
+    pass: RingPass<u64>,
 }
 
 impl Model for NumbersSent {
@@ -146,9 +146,9 @@ pub fn open_numbers(alloc: Global, cap: u64) -> Result<(NumberSender, NumberRece
     ensures capacity { IfOk result (λ ends. ends.0.capacity ≡ cap) }
     ensures sent { IfOk result (λ ends. ends.0.sent ≡ []) }
     ensures taken { IfOk result (λ ends. (ends.1.taken ≡ []) × (ends.1.closed ≡ false)) }
-    ensures told { IfOk result (λ ends. (ends.0.told ≡ []) × (ends.1.told ≡ []) × (ends.1.told_closed ≡ false)) }
+    ensures told { IfOk result (λ ends. (ends.0.told ≡ []) × (ends.1.told ≡ []) × (ends.1.observed_closed ≡ false)) }
 {
-    let (line, first) = Line::ruled(alloc, cap as usize)?;
+    let (line, first) = RingQueue::ruled(alloc, cap as usize)?;
     let line = Arc::new(alloc, line)?;
     let theirs = Arc::try_clone(&line)?;
     let (sending, taking) = calls::ends::<u64, Brand>(&line, first);
@@ -173,7 +173,7 @@ impl NumberSender {
         ensures sent { OnOk result (self.new.sent ≡ self.old.sent ++ item ∷ []) }
         ensures back { IfErr result (λ full. full.item ≡ item) }
         ensures full { IfErr result (λ full. full.lesson ≡ self.old.capacity) }
-        ensures held { IfErr result (λ full. Held self.old.sent self.old.told full.lesson) }
+        ensures held { IfErr result (λ full. HasHeldLast self.old.sent self.old.told full.lesson) }
         ensures many { IfErr result (λ full. full.lesson ≤ length self.old.sent) }
         ensures kept { IfErr result (λ full. self.new.sent ≡ self.old.sent) }
 
@@ -198,12 +198,12 @@ impl NumberSender {
         ensures same { self.new ≡ self.old }
     {
         Progress {
-            pass: calls::tell(&self.line, &mut self.pass),
+            pass: calls::share_knowledge(&self.line, &mut self.pass),
         }
     }
 
     /// Learns what the end that made `progress` knew of the items taken. Never blocks or allocates.
-    pub fn hear(&mut self, progress: Progress<u64>)
+    pub fn observe(&mut self, progress: Progress<u64>)
         requires { progress.ring ≡ self.old.ring }
 
         ensures told { self.new.told ≡ longer self.old.told progress.taken }
@@ -214,7 +214,7 @@ impl NumberSender {
         ensures capacity { self.new.capacity ≡ self.old.capacity }
     {
         let Progress { pass } = progress;
-        calls::hear_taken(&self.line, &mut self.pass, pass);
+        calls::observe_taken(&self.line, &mut self.pass, pass);
     }
 
     /// Sends the closing sentinel after all numbers. Returns the sender if the ring was full at the call's atomic
@@ -224,7 +224,7 @@ impl NumberSender {
         ensures ring { IfOk result (λ sent. sent.ring ≡ self.ring) }
         ensures back { IfErr result (λ refused. refused.0 ≡ self) }
         ensures full { IfErr result (λ refused. refused.1 ≡ self.capacity) }
-        ensures held { IfErr result (λ refused. Held self.sent self.told refused.1) }
+        ensures held { IfErr result (λ refused. HasHeldLast self.sent self.told refused.1) }
         ensures many { IfErr result (λ refused. refused.1 ≤ length self.sent) }
     {
         let NumberSender { line, mut pass } = self;
@@ -250,21 +250,21 @@ impl NumberReceiver {
         // If it finds nothing, the ring was empty at the call's atomic access: the receiver took all that it had
         // observed as sent.
         ensures all { OnNone result (IsPrefix self.old.told self.old.taken) }
-        ensures unclosed { OnEmpty result (λ lesson. self.old.told_closed ≡ false) }
+        ensures unclosed { OnEmpty result (λ lesson. self.old.observed_closed ≡ false) }
         // What was taken and what it has observed as sent are in one order. If it has observed the closing sentinel,
         // it takes nothing but the items that it has observed as sent.
-        ensures in_order { Agree self.new.told self.new.taken }
-        ensures no_more { IsTrue self.old.told_closed → IsPrefix self.new.taken self.new.told }
+        ensures in_order { AreComparable self.new.told self.new.taken }
+        ensures no_more { IsTrue self.old.observed_closed → IsPrefix self.new.taken self.new.told }
 
         ensures ring { self.new.ring ≡ self.old.ring }
-        ensures told { (self.new.told ≡ self.old.told) × (self.new.told_closed ≡ self.old.told_closed) }
+        ensures told { (self.new.told ≡ self.old.told) × (self.new.observed_closed ≡ self.old.observed_closed) }
     {
         if self.closed {
             return NumberTaken::Closed;
         }
         match calls::take(rt, &self.line, &mut self.pass) {
-            Some(Slip::Item(item)) => NumberTaken::Item(item),
-            Some(Slip::Closing) => {
+            Some(RingEntry::Item(item)) => NumberTaken::Item(item),
+            Some(RingEntry::Closing) => {
                 self.closed = true;
                 NumberTaken::Closed
             }
@@ -280,31 +280,31 @@ impl NumberReceiver {
         ensures same { self.new ≡ self.old }
     {
         Progress {
-            pass: calls::tell(&self.line, &mut self.pass),
+            pass: calls::share_knowledge(&self.line, &mut self.pass),
         }
     }
 
     /// Learns what the end that made `progress` knew of the items sent. Never blocks or allocates.
-    pub fn hear(&mut self, progress: Progress<u64>)
+    pub fn observe(&mut self, progress: Progress<u64>)
         requires { progress.ring ≡ self.old.ring }
 
         ensures told { self.new.told ≡ longer self.old.told progress.sent }
-        ensures told_closed { self.new.told_closed ≡ self.old.told_closed }
-        ensures in_order { Agree self.new.told self.new.taken }
+        ensures told_closed { self.new.observed_closed ≡ self.old.observed_closed }
+        ensures in_order { AreComparable self.new.told self.new.taken }
 
         ensures taken { self.new.taken ≡ self.old.taken }
         ensures closed { self.new.closed ≡ self.old.closed }
         ensures ring { self.new.ring ≡ self.old.ring }
     {
         let Progress { pass } = progress;
-        calls::hear_sent(&self.line, &mut self.pass, pass);
+        calls::observe_sent(&self.line, &mut self.pass, pass);
     }
 
     /// Learns all that was sent, from a sender that has closed. Some of it may not be taken yet.
-    pub fn hear_all(&mut self, sent: NumbersSent)
+    pub fn observe_all(&mut self, sent: NumbersSent)
         requires { sent.ring ≡ self.old.ring }
 
-        ensures told { (self.new.told ≡ sent.items) × (self.new.told_closed ≡ true) }
+        ensures told { (self.new.told ≡ sent.items) × (self.new.observed_closed ≡ true) }
         ensures in_order { IsPrefix self.new.taken self.new.told }
 
         ensures taken { self.new.taken ≡ self.old.taken }
@@ -312,7 +312,7 @@ impl NumberReceiver {
         ensures ring { self.new.ring ≡ self.old.ring }
     {
         let NumbersSent { pass } = sent;
-        calls::hear_all(&self.line, &mut self.pass, pass);
+        calls::observe_all(&self.line, &mut self.pass, pass);
     }
 
     /// Joins a sender that has closed: what was taken is what was sent.
@@ -321,7 +321,7 @@ impl NumberReceiver {
         requires closed { IsTrue self.old.closed }
 
         ensures all { self.old.taken ≡ sent.items }
-        ensures told { (self.new.told ≡ sent.items) × (self.new.told_closed ≡ true) }
+        ensures told { (self.new.told ≡ sent.items) × (self.new.observed_closed ≡ true) }
 
         ensures taken { self.new.taken ≡ self.old.taken }
         ensures closed { self.new.closed ≡ self.old.closed }

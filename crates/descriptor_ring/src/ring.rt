@@ -3,17 +3,17 @@
 ghost use Rattle.std.specs.Prelude.{◌≡◌, ◌<◌, ◌≤◌, ◌↔◌, ◌++◌, ◌∷◌, [], true, false, length};
 ghost use Rattle.std.specs.Prelude.{IfOk, IfErr, OnOk, IsTrue};
 ghost use Rattle.descriptor_ring.specs.Answers.{OnItem, OnEmpty, OnNone};
-ghost use Rattle.descriptor_ring.specs.Rings.{IsOf, Held};
+ghost use Rattle.descriptor_ring.specs.Rings.{IsDescriptorOf, HasHeldLast};
 ghost use Rattle.descriptor_ring.specs.declared.limits.TheConstants.{MAX_CAPACITY};
 ghost use mathlib.Core.List.{IsPrefix};
 ghost use Rattle.crossbeam_queue.specs.Passes.{view as known, IsPassOf};
-ghost use Rattle.descriptor_ring.specs.Line.{first as no_view, sender, receiver, longer, Agree};
+ghost use Rattle.descriptor_ring.specs.RingRule.{first as no_view, sender, receiver, longer, AreComparable};
 
 use crate::calls;
 use crate::descriptor::{Descriptor, Full, Taken};
 use crate::lesson::Lesson;
-use crate::line::{Line, LinePass, Named, Slip};
 use crate::progress::Progress;
+use crate::ring_rule::{PicksHeap, RingEntry, RingPass, RingQueue};
 use shared_heap::Reader;
 use std::alloc::{AllocError, Global};
 use std::marker::{Brand, Model};
@@ -22,8 +22,8 @@ use std::sync::{Arc, Wait};
 /// The sending end of a ring of descriptors. Contracts see it as a `Sending`: the ring, its heap, its capacity, the
 /// descriptors that were sent, and those that it has observed as taken.
 pub struct Sender {
-    line: Arc<Line<Descriptor>, Global>,
-    pass: LinePass<Descriptor>,
+    line: Arc<RingQueue<Descriptor>, Global>,
+    pass: RingPass<Descriptor>,
 }
 
 // Written by hand, so that a drop is one call instead of one for each field.
@@ -58,8 +58,8 @@ impl Model for Sender {
 /// The receiving end of a ring of descriptors. Contracts see it as a `Receiving`: the ring, its heap, the descriptors
 /// that were taken, whether the closing sentinel was taken, and what it has observed as sent.
 pub struct Receiver {
-    line: Arc<Line<Descriptor>, Global>,
-    pass: LinePass<Descriptor>,
+    line: Arc<RingQueue<Descriptor>, Global>,
+    pass: RingPass<Descriptor>,
     closed: bool,
 }
 
@@ -88,7 +88,7 @@ impl Model for Receiver {
       taken = (known r.pass).taken;
       closed = r.closed;
       told = (known r.pass).sent;
-      told_closed = (known r.pass).closed;
+      observed_closed = (known r.pass).closed;
     } };
 
     ghost invariant = { λ r. IsPassOf (arc_value r.line) r.pass × IsReceiver 4294967294 r.closed (known r.pass) };
@@ -98,7 +98,7 @@ impl Model for Receiver {
 /// sent.
 #[derive(Drop)]
 pub struct Sent {
-    pass: LinePass<Descriptor>,
+    pass: RingPass<Descriptor>,
 }
 
 impl Model for Sent {
@@ -124,9 +124,9 @@ pub fn open(alloc: Global, cap: u64, reader: &Reader) -> Result<(Sender, Receive
     ensures capacity { IfOk result (λ ends. ends.0.capacity ≡ cap) }
     ensures sent { IfOk result (λ ends. ends.0.sent ≡ []) }
     ensures taken { IfOk result (λ ends. (ends.1.taken ≡ []) × (ends.1.closed ≡ false)) }
-    ensures told { IfOk result (λ ends. (ends.0.told ≡ []) × (ends.1.told ≡ []) × (ends.1.told_closed ≡ false)) }
+    ensures told { IfOk result (λ ends. (ends.0.told ≡ []) × (ends.1.told ≡ []) × (ends.1.observed_closed ≡ false)) }
 {
-    let (line, first) = Line::ruled(alloc, cap as usize)?;
+    let (line, first) = RingQueue::ruled(alloc, cap as usize)?;
     let line = Arc::new(alloc, line)?;
     let theirs = Arc::try_clone(&line)?;
     let (sending, taking) = ends::<Brand>(&line, first, reader);
@@ -146,13 +146,13 @@ impl Sender {
     /// Sends a descriptor. Returns it if the ring was full at the call's atomic access. Then the ring held the last
     /// `capacity` descriptors that were sent, and those that the sender has observed as taken come before them.
     pub fn send<R: Wait>(&mut self, rt: &R, descriptor: Descriptor) -> Result<(), Full>
-        requires of_heap { IsOf self.old.heap descriptor }
+        requires of_heap { IsDescriptorOf self.old.heap descriptor }
         requires few { length self.old.sent < 4294967294 }
 
         ensures sent { OnOk result (self.new.sent ≡ self.old.sent ++ descriptor ∷ []) }
         ensures back { IfErr result (λ full. full.descriptor ≡ descriptor) }
         ensures full { IfErr result (λ full. full.lesson ≡ self.old.capacity) }
-        ensures held { IfErr result (λ full. Held self.old.sent self.old.told full.lesson) }
+        ensures held { IfErr result (λ full. HasHeldLast self.old.sent self.old.told full.lesson) }
         ensures many { IfErr result (λ full. full.lesson ≤ length self.old.sent) }
         ensures kept { IfErr result (λ full. self.new.sent ≡ self.old.sent) }
 
@@ -178,12 +178,12 @@ impl Sender {
         ensures same { self.new ≡ self.old }
     {
         Progress {
-            pass: calls::tell(&self.line, &mut self.pass),
+            pass: calls::share_knowledge(&self.line, &mut self.pass),
         }
     }
 
     /// Learns what the end that made `progress` knew of the items taken. Never blocks or allocates.
-    pub fn hear(&mut self, progress: Progress<Descriptor>)
+    pub fn observe(&mut self, progress: Progress<Descriptor>)
         requires { progress.ring ≡ self.old.ring }
 
         ensures told { self.new.told ≡ longer self.old.told progress.taken }
@@ -195,7 +195,7 @@ impl Sender {
         ensures capacity { self.new.capacity ≡ self.old.capacity }
     {
         let Progress { pass } = progress;
-        calls::hear_taken(&self.line, &mut self.pass, pass);
+        calls::observe_taken(&self.line, &mut self.pass, pass);
     }
 
     /// Sends the closing sentinel after all descriptors. Returns the sender if the ring was full at the call's atomic
@@ -205,7 +205,7 @@ impl Sender {
         ensures ring { IfOk result (λ sent. sent.ring ≡ self.ring) }
         ensures back { IfErr result (λ refused. refused.0 ≡ self) }
         ensures full { IfErr result (λ refused. refused.1 ≡ self.capacity) }
-        ensures held { IfErr result (λ refused. Held self.sent self.told refused.1) }
+        ensures held { IfErr result (λ refused. HasHeldLast self.sent self.told refused.1) }
         ensures many { IfErr result (λ refused. refused.1 ≤ length self.sent) }
     {
         let Sender { line, mut pass } = self;
@@ -222,7 +222,7 @@ impl Receiver {
     /// Takes the next descriptor, in the order in which they were sent.
     pub fn take<R: Wait>(&mut self, rt: &R) -> Taken
         ensures item { OnItem result (λ d. self.new.taken ≡ self.old.taken ++ d ∷ []) }
-        ensures of_heap { OnItem result (λ d. IsOf self.old.heap d) }
+        ensures of_heap { OnItem result (λ d. IsDescriptorOf self.old.heap d) }
         ensures few { length self.new.taken ≤ 4294967294 }
         ensures kept { OnNone result (self.new.taken ≡ self.old.taken) }
         // It returns `Closed` exactly after the closing sentinel.
@@ -232,22 +232,22 @@ impl Receiver {
         // If it finds nothing, the ring was empty at the call's atomic access: the receiver took all that it had
         // observed as sent.
         ensures all { OnNone result (IsPrefix self.old.told self.old.taken) }
-        ensures unclosed { OnEmpty result (λ lesson. self.old.told_closed ≡ false) }
+        ensures unclosed { OnEmpty result (λ lesson. self.old.observed_closed ≡ false) }
         // What was taken and what it has observed as sent are in one order. If it has observed the closing sentinel,
         // it takes nothing but the items that it has observed as sent.
-        ensures in_order { Agree self.new.told self.new.taken }
-        ensures no_more { IsTrue self.old.told_closed → IsPrefix self.new.taken self.new.told }
+        ensures in_order { AreComparable self.new.told self.new.taken }
+        ensures no_more { IsTrue self.old.observed_closed → IsPrefix self.new.taken self.new.told }
 
         ensures ring { self.new.ring ≡ self.old.ring }
         ensures heap { self.new.heap ≡ self.old.heap }
-        ensures told { (self.new.told ≡ self.old.told) × (self.new.told_closed ≡ self.old.told_closed) }
+        ensures told { (self.new.told ≡ self.old.told) × (self.new.observed_closed ≡ self.old.observed_closed) }
     {
         if self.closed {
             return Taken::Closed;
         }
         match calls::take(rt, &self.line, &mut self.pass) {
-            Some(Slip::Item(descriptor)) => Taken::Item(descriptor),
-            Some(Slip::Closing) => {
+            Some(RingEntry::Item(descriptor)) => Taken::Item(descriptor),
+            Some(RingEntry::Closing) => {
                 self.closed = true;
                 Taken::Closed
             }
@@ -263,17 +263,17 @@ impl Receiver {
         ensures same { self.new ≡ self.old }
     {
         Progress {
-            pass: calls::tell(&self.line, &mut self.pass),
+            pass: calls::share_knowledge(&self.line, &mut self.pass),
         }
     }
 
     /// Learns what the end that made `progress` knew of the items sent. Never blocks or allocates.
-    pub fn hear(&mut self, progress: Progress<Descriptor>)
+    pub fn observe(&mut self, progress: Progress<Descriptor>)
         requires { progress.ring ≡ self.old.ring }
 
         ensures told { self.new.told ≡ longer self.old.told progress.sent }
-        ensures told_closed { self.new.told_closed ≡ self.old.told_closed }
-        ensures in_order { Agree self.new.told self.new.taken }
+        ensures told_closed { self.new.observed_closed ≡ self.old.observed_closed }
+        ensures in_order { AreComparable self.new.told self.new.taken }
 
         ensures taken { self.new.taken ≡ self.old.taken }
         ensures closed { self.new.closed ≡ self.old.closed }
@@ -281,14 +281,14 @@ impl Receiver {
         ensures heap { self.new.heap ≡ self.old.heap }
     {
         let Progress { pass } = progress;
-        calls::hear_sent(&self.line, &mut self.pass, pass);
+        calls::observe_sent(&self.line, &mut self.pass, pass);
     }
 
     /// Learns all that was sent, from a sender that has closed. Some of it may not be taken yet.
-    pub fn hear_all(&mut self, sent: Sent)
+    pub fn observe_all(&mut self, sent: Sent)
         requires { sent.ring ≡ self.old.ring }
 
-        ensures told { (self.new.told ≡ sent.items) × (self.new.told_closed ≡ true) }
+        ensures told { (self.new.told ≡ sent.items) × (self.new.observed_closed ≡ true) }
         ensures in_order { IsPrefix self.new.taken self.new.told }
 
         ensures taken { self.new.taken ≡ self.old.taken }
@@ -297,7 +297,7 @@ impl Receiver {
         ensures heap { self.new.heap ≡ self.old.heap }
     {
         let Sent { pass } = sent;
-        calls::hear_all(&self.line, &mut self.pass, pass);
+        calls::observe_all(&self.line, &mut self.pass, pass);
     }
 
     /// Joins a sender that has closed: what was taken is what was sent.
@@ -306,7 +306,7 @@ impl Receiver {
         requires closed { IsTrue self.old.closed }
 
         ensures all { self.old.taken ≡ sent.items }
-        ensures told { (self.new.told ≡ sent.items) × (self.new.told_closed ≡ true) }
+        ensures told { (self.new.told ≡ sent.items) × (self.new.observed_closed ≡ true) }
 
         ensures taken { self.new.taken ≡ self.old.taken }
         ensures closed { self.new.closed ≡ self.old.closed }
@@ -319,11 +319,11 @@ impl Receiver {
 }
 
 // The two ends of a new ring, for the reader's heap.
-fn ends<N: Named>(
-    line: &Line<Descriptor>,
-    first: LinePass<Descriptor>,
+fn ends<N: PicksHeap>(
+    line: &RingQueue<Descriptor>,
+    first: RingPass<Descriptor>,
     reader: &Reader,
-) -> (LinePass<Descriptor>, LinePass<Descriptor>)
+) -> (RingPass<Descriptor>, RingPass<Descriptor>)
     requires line { IsPassOf line.now first }
     requires new { known first ≡ no_view }
     requires heap { N.heap ≡ reader.now.heap }

@@ -1,3 +1,3 @@
-pub mod Findings
-pub mod Pointing
-pub mod Said
+pub mod Locations
+pub mod Snippets
+pub mod Diagnostics

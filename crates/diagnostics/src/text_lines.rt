@@ -2,7 +2,7 @@
 
 ghost use Rattle.std.specs.Prelude.{◌≡◌, ◌<◌, ◌≤◌, ◌+◌, length, IfSome, IsTrue};
 
-use crate::part::Part;
+use crate::source_span::SourceSpan;
 
 /// A line of a text, without its line feed.
 #[derive(Clone, Copy)]
@@ -30,19 +30,19 @@ impl<'a> TextLine<'a> {
     }
 
     /// Whether no line feed follows it.
-    pub fn is_unended(&self) -> bool
+    pub fn is_unterminated(&self) -> bool
         ensures { IsTrue result → length self.now.text.now ≤ self.now.start + length self.now.bytes.now }
     {
         self.start.saturating_add(self.bytes.len()) >= self.text.len()
     }
 
     /// The line without its leading blanks.
-    pub fn whole(&self) -> Part<'a>
+    pub fn trimmed(&self) -> SourceSpan<'a>
         ensures { result.text.now ≡ self.now.text.now }
     {
         let blanks = self.bytes.len() - self.bytes.trim_ascii_start().len();
         let start = self.start.saturating_add(blanks);
-        Part::of(
+        SourceSpan::of(
             self.text,
             start,
             self.start.saturating_add(self.bytes.len()),
@@ -50,16 +50,16 @@ impl<'a> TextLine<'a> {
     }
 
     /// The word with this index in the line, from 0; the whole line if it has fewer.
-    pub fn word(&self, place: usize) -> Part<'a>
+    pub fn word(&self, place: usize) -> SourceSpan<'a>
         ensures { result.text.now ≡ self.now.text.now }
     {
         match word_span(self.bytes, place) {
-            Some((from, to)) => Part::of(
+            Some((from, to)) => SourceSpan::of(
                 self.text,
                 self.start.saturating_add(from),
                 self.start.saturating_add(to),
             ),
-            None => self.whole(),
+            None => self.trimmed(),
         }
     }
 }

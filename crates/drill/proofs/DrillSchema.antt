@@ -9,7 +9,7 @@ use Rattle.mrpc_table.specs.declared.table.Message.{Message}
 use Rattle.frame_transport.specs.Frames.{IsFrame}
 use Rattle.frame_transport.specs.declared.format.Frame.{Frame}
 use Rattle.frame_transport.specs.declared.format.TheConstants.{HELLO, HELLO_VERSION, MAX_PAYLOAD}
-use Rattle.schema_binding.specs.Agreement.{FieldText, Offers, Prints, field_text}
+use Rattle.schema_binding.specs.Agreement.{FieldText, HasMethodOf, IsPrintedAs, field_text}
 use Rattle.schema_binding.specs.Hello.{IsHello, hello_payload}
 use Rattle.drill.specs.Drill.{field, message, method, schema}
 use Rattle.drill.proofs.Itself.{PrintsOnce}
@@ -69,14 +69,14 @@ valid = record {
 
 -- ---- it agrees with itself
 
-pub offers : Offers schema service
+pub offers : HasMethodOf schema service
 offers = (0, lit< tt, refl)
 
 only : {X : Type 0} (x y : X) → Contains (x ∷ []) y → y ≡ x
 only x y (zero, within, same) = sym same
 only x y (suc k, within, same) = absurd (omega (arith, within))
 
-printed-so : (type : List ℕ) (number : ℕ) (text : FieldText) → Prints schema type number text
+printed-so : (type : List ℕ) (number : ℕ) (text : FieldText) → IsPrintedAs schema type number text
     → text ≡ field_text schema message field
 printed-so type number text prints =
     let same : prints.message ≡ message = only message prints.message prints.known in

@@ -5,35 +5,35 @@ use Rattle.std.specs.Prelude.{Contains, filter}
 use Rattle.std.proofs.lemmas.Bool.{eqb-true, eqb-false, ne_eqb}
 use Rattle.std.proofs.lemmas.List.{map-append}
 use Rattle.std.proofs.lemmas.List.Elements.{Contains-append_cases, Contains-push, Contains-push_cases}
-use Rattle.call_history.specs.Behind.{Behind, taken, stands, standing}
-use Rattle.call_history.specs.Legal.{IsPrefix}
-use Rattle.call_history.specs.Rules.{IsFirst, IsRefusedAtOnce, May, RefusesMalformed, Under}
+use Rattle.call_history.specs.Trace.{Trace, taken, is_pending, pending_calls}
+use Rattle.call_history.specs.Legal.{IsLegalPrefix}
+use Rattle.call_history.specs.Rules.{IsOldest, IsRefusedAtOnce, CanFollow, IsMalformedRefusedAtOnce, JudgeContext}
 use Rattle.call_history.specs.declared.happening.Cause.{Cause}
 use Rattle.call_history.specs.declared.happening.Cause.TheVariants as cause
 use Rattle.call_history.specs.declared.happening.Happening.TheVariants.{Took, Refused, Sent}
-use Rattle.call_history.specs.declared.happening.Taken.{Taken}
+use Rattle.call_history.specs.declared.happening.AcceptedCall.{AcceptedCall}
 use Rattle.call_history.specs.declared.happening.TookCopy.{TookCopy}
 use Rattle.call_history.specs.declared.happening.TookCopy.TheVariants.{Copy, Malformed}
 
 -- ---- calls whose numbers rise
 
 -- numbers rise along the calls, above one number and up to another
-abbrev pub Rising : ℕ → ℕ → List Taken → Type 0
+abbrev pub Rising : ℕ → ℕ → List AcceptedCall → Type 0
 Rising low top [] = Unit {0}
 Rising low top (call ∷ calls) = (low < call.seq) × (call.seq ≤ top) × Rising call.seq top calls
 
 -- the calls except the one with a number
-abbrev pub others_of : ℕ → List Taken → List Taken
+abbrev pub others_of : ℕ → List AcceptedCall → List AcceptedCall
 others_of seq calls = filter (λ call. not (seq == call.seq)) calls
 
-abbrev numbers_of : List Taken → List ℕ
-numbers_of calls = map (λ (call : Taken). call.seq) calls
+abbrev numbers_of : List AcceptedCall → List ℕ
+numbers_of calls = map (λ (call : AcceptedCall). call.seq) calls
 
-rising-from : (low lower top : ℕ) (calls : List Taken) → lower ≤ low → Rising low top calls → Rising lower top calls
+rising-from : (low lower top : ℕ) (calls : List AcceptedCall) → lower ≤ low → Rising low top calls → Rising lower top calls
 rising-from low lower top [] le rises = tt
 rising-from low lower top (call ∷ calls) le rises = (omega (arith, le, rises.0), rises.1, rises.2)
 
-rising-kept : (p : Taken → Bool) (low top : ℕ) (calls : List Taken) → Rising low top calls → Rising low top (filter p calls)
+rising-kept : (p : AcceptedCall → Bool) (low top : ℕ) (calls : List AcceptedCall) → Rising low top calls → Rising low top (filter p calls)
 rising-kept p low top [] rises = tt
 rising-kept p low top (call ∷ calls) rises =
     let rest : Rising call.seq top (filter p calls) = rising-kept p call.seq top calls rises.2 in
@@ -42,7 +42,7 @@ rising-kept p low top (call ∷ calls) rises =
       | false ↦ rising-from call.seq low top (filter p calls) (omega (arith, rises.0)) rest
     ]
 
-rising-next : (low top : ℕ) (calls : List Taken) (call : Taken) → low ≤ top → call.seq ≡ top + 1 → Rising low top calls
+rising-next : (low top : ℕ) (calls : List AcceptedCall) (call : AcceptedCall) → low ≤ top → call.seq ≡ top + 1 → Rising low top calls
     → Rising low (top + 1) (calls ++ call ∷ [])
 rising-next low top [] call le next rises = (omega (arith, le, next), omega (arith, next), tt)
 rising-next low top (first ∷ calls) call le next rises =
@@ -61,7 +61,7 @@ contains-cases n ns seq has = elim (Contains-append_cases (n ∷ []) ns seq has)
 ]
 
 -- none has a number that isn't above the lower bound
-none-gone : (low top seq : ℕ) (calls : List Taken) → seq ≤ low → Rising low top calls → others_of seq calls ≡ calls
+none-gone : (low top seq : ℕ) (calls : List AcceptedCall) → seq ≤ low → Rising low top calls → others_of seq calls ≡ calls
 none-gone low top seq [] le rises = refl
 none-gone low top seq (call ∷ calls) le rises =
     let apart : (seq == call.seq) ≡ false = ne_eqb seq call.seq (λ same. omega (arith, same, le, rises.0)) in
@@ -69,7 +69,7 @@ none-gone low top seq (call ∷ calls) le rises =
     ap (λ b. cond (not b) (call ∷ others_of seq calls) (others_of seq calls)) apart ∙ ap (λ cs. call ∷ cs) rest
 
 -- without the call with a number there is one less
-one-gone : (low top seq : ℕ) (calls : List Taken) → Rising low top calls → Contains (numbers_of calls) seq
+one-gone : (low top seq : ℕ) (calls : List AcceptedCall) → Rising low top calls → Contains (numbers_of calls) seq
     → length (others_of seq calls) + 1 ≡ length calls
 one-gone low top seq [] rises has = absurd (contains-none seq has)
 one-gone low top seq (call ∷ calls) rises has =
@@ -95,7 +95,7 @@ one-gone low top seq (call ∷ calls) rises has =
 
 -- ---- the calls of a legal history
 
-taken-rise : (u : Under) (past : Behind) → IsPrefix u past → Rising 0 (length (taken past)) (taken past)
+taken-rise : (u : JudgeContext) (past : Trace) → IsLegalPrefix u past → Rising 0 (length (taken past)) (taken past)
 taken-rise u [] prefix = tt
 taken-rise u (Took call ∷ past) prefix =
     let long : length (taken past ++ call ∷ []) ≡ length (taken past) + 1 = length-append (taken past) (call ∷ []) in
@@ -103,17 +103,17 @@ taken-rise u (Took call ∷ past) prefix =
     (rising-next 0 (length (taken past)) (taken past) call (omega arith) prefix.1.numbered.number (taken-rise u past prefix.0))
 taken-rise u (x ∷ past) prefix = taken-rise u past prefix.0
 
-standing-rise : (u : Under) (past : Behind) → IsPrefix u past → Rising 0 (length (taken past)) (standing past)
-standing-rise u past prefix = rising-kept (stands past) 0 (length (taken past)) (taken past) (taken-rise u past prefix)
+standing-rise : (u : JudgeContext) (past : Trace) → IsLegalPrefix u past → Rising 0 (length (taken past)) (pending_calls past)
+standing-rise u past prefix = rising-kept (is_pending past) 0 (length (taken past)) (taken past) (taken-rise u past prefix)
 
 contains-first : (n : ℕ) (ns : List ℕ) (seq : ℕ) → n ≡ seq → Contains (n ∷ ns) seq
 contains-first n ns seq same = (0, omega arith, same)
 
-first-there : (calls others : List Taken) (call : Taken) → calls ≡ call ∷ others → Contains (numbers_of calls) call.seq
-first-there calls others call is = subst (λ (cs : List Taken). Contains (numbers_of cs) call.seq) (sym is)
+first-there : (calls others : List AcceptedCall) (call : AcceptedCall) → calls ≡ call ∷ others → Contains (numbers_of calls) call.seq
+first-there calls others call is = subst (λ (cs : List AcceptedCall). Contains (numbers_of cs) call.seq) (sym is)
     (contains-first call.seq (numbers_of others) call.seq refl)
 
-is-first-there : (calls : List Taken) (seq : ℕ) → IsFirst calls seq → Contains (numbers_of calls) seq
+is-first-there : (calls : List AcceptedCall) (seq : ℕ) → IsOldest calls seq → Contains (numbers_of calls) seq
 is-first-there [] seq is = absurd is
 is-first-there (call ∷ calls) seq is = contains-first call.seq (numbers_of calls) seq is
 
@@ -124,61 +124,61 @@ refused-at-once (Malformed reason place value) n seq is = cc
 
 -- how the pending calls change, by the laws of histories
 abbrev pub TakesOne : Type 0
-TakesOne = (u : Under) (past : Behind) (call : Taken) → IsPrefix u past → call.seq ≡ length (taken past) + 1
-    → standing (Took call ∷ past) ≡ standing past ++ call ∷ []
+TakesOne = (u : JudgeContext) (past : Trace) (call : AcceptedCall) → IsLegalPrefix u past → call.seq ≡ length (taken past) + 1
+    → pending_calls (Took call ∷ past) ≡ pending_calls past ++ call ∷ []
 
 abbrev pub SendsOne : Type 0
-SendsOne = (past : Behind) (seq bytes : ℕ) → standing (Sent seq bytes ∷ past) ≡ others_of seq (standing past)
+SendsOne = (past : Trace) (seq bytes : ℕ) → pending_calls (Sent seq bytes ∷ past) ≡ others_of seq (pending_calls past)
 
 abbrev pub RefusesOne : Type 0
-RefusesOne = (past : Behind) (seq : ℕ) (why : Cause)
-    → standing (Refused seq why ∷ past) ≡ others_of seq (standing past)
+RefusesOne = (past : Trace) (seq : ℕ) (why : Cause)
+    → pending_calls (Refused seq why ∷ past) ≡ others_of seq (pending_calls past)
 
 -- a malformed call is pending until it is refused
-malformed-stood : (u : Under) (past : Behind) (seq : ℕ) → TakesOne → IsPrefix u past
-    → RefusesMalformed past (Refused seq cause.Malformed) → Contains (numbers_of (standing past)) seq
+malformed-stood : (u : JudgeContext) (past : Trace) (seq : ℕ) → TakesOne → IsLegalPrefix u past
+    → IsMalformedRefusedAtOnce past (Refused seq cause.Malformed) → Contains (numbers_of (pending_calls past)) seq
 malformed-stood u (Took call ∷ past) seq takes prefix is =
     let same : seq ≡ call.seq = refused-at-once call.copy call.seq seq is in
-    let stands : standing (Took call ∷ past) ≡ standing past ++ call ∷ [] =
+    let is_pending : pending_calls (Took call ∷ past) ≡ pending_calls past ++ call ∷ [] =
     takes u past call prefix.0 prefix.1.numbered.number in
-    let last : numbers_of (standing (Took call ∷ past)) ≡ numbers_of (standing past) ++ call.seq ∷ [] =
-    ap (λ (cs : List Taken). numbers_of cs) stands ∙ map-append (λ (other : Taken). other.seq) (standing past) (call ∷ []) in
+    let last : numbers_of (pending_calls (Took call ∷ past)) ≡ numbers_of (pending_calls past) ++ call.seq ∷ [] =
+    ap (λ (cs : List AcceptedCall). numbers_of cs) is_pending ∙ map-append (λ (other : AcceptedCall). other.seq) (pending_calls past) (call ∷ []) in
     subst (λ (ns : List ℕ). Contains ns seq) (sym last)
-    (subst (λ n. Contains (numbers_of (standing past) ++ call.seq ∷ []) n) (sym same)
-    (Contains-push (numbers_of (standing past)) call.seq))
+    (subst (λ n. Contains (numbers_of (pending_calls past) ++ call.seq ∷ []) n) (sym same)
+    (Contains-push (numbers_of (pending_calls past)) call.seq))
 malformed-stood u past seq takes prefix is = absurd is
 
 -- a refusal is that of a pending call
-refused-stood : (u : Under) (past : Behind) (seq : ℕ) (why : Cause) → TakesOne → IsPrefix u past
-    → May u past (Refused seq why) → Contains (numbers_of (standing past)) seq
+refused-stood : (u : JudgeContext) (past : Trace) (seq : ℕ) (why : Cause) → TakesOne → IsLegalPrefix u past
+    → CanFollow u past (Refused seq why) → Contains (numbers_of (pending_calls past)) seq
 refused-stood u past seq cause.Malformed takes prefix may = malformed-stood u past seq takes prefix may.malformed
-refused-stood u past seq (cause.Access name version rule) takes prefix may = may.answered.at.call_stands
-refused-stood u past seq (cause.Rate name left cost) takes prefix may = may.answered.at.call_stands
-refused-stood u past seq (cause.Quota name ticket cap) takes prefix may = may.answered.at.call_stands
-refused-stood u past seq cause.Transport takes prefix may = is-first-there (standing past) seq may.link_end.1
+refused-stood u past seq (cause.Access name version rule) takes prefix may = may.answered.at.is_pending
+refused-stood u past seq (cause.Rate name left cost) takes prefix may = may.answered.at.is_pending
+refused-stood u past seq (cause.Quota name ticket cap) takes prefix may = may.answered.at.is_pending
+refused-stood u past seq cause.Transport takes prefix may = is-first-there (pending_calls past) seq may.link_end.1
 
-sent-stood : (u : Under) (past : Behind) (seq bytes : ℕ) → May u past (Sent seq bytes)
-    → Contains (numbers_of (standing past)) seq
+sent-stood : (u : JudgeContext) (past : Trace) (seq bytes : ℕ) → CanFollow u past (Sent seq bytes)
+    → Contains (numbers_of (pending_calls past)) seq
 sent-stood u past seq bytes may =
     let next = may.in_order in
-    subst (λ n. Contains (numbers_of (standing past)) n) next.number (first-there (standing past) next.others next.call next.first)
+    subst (λ n. Contains (numbers_of (pending_calls past)) n) next.number (first-there (pending_calls past) next.others next.call next.first)
 
 -- ---- one more call, or one less
 
-pub one-taken : (u : Under) (past : Behind) (call : Taken) → TakesOne → IsPrefix u (Took call ∷ past)
-    → length (standing (Took call ∷ past)) ≡ length (standing past) + 1
+pub one-taken : (u : JudgeContext) (past : Trace) (call : AcceptedCall) → TakesOne → IsLegalPrefix u (Took call ∷ past)
+    → length (pending_calls (Took call ∷ past)) ≡ length (pending_calls past) + 1
 one-taken u past call takes prefix =
-    ap length (takes u past call prefix.0 prefix.1.numbered.number) ∙ length-append (standing past) (call ∷ [])
+    ap length (takes u past call prefix.0 prefix.1.numbered.number) ∙ length-append (pending_calls past) (call ∷ [])
 
-pub one-sent : (u : Under) (past : Behind) (seq bytes : ℕ) → SendsOne → IsPrefix u (Sent seq bytes ∷ past)
-    → length (standing (Sent seq bytes ∷ past)) + 1 ≡ length (standing past)
+pub one-sent : (u : JudgeContext) (past : Trace) (seq bytes : ℕ) → SendsOne → IsLegalPrefix u (Sent seq bytes ∷ past)
+    → length (pending_calls (Sent seq bytes ∷ past)) + 1 ≡ length (pending_calls past)
 one-sent u past seq bytes sends prefix =
-    ap (λ (cs : List Taken). length cs + 1) (sends past seq bytes)
-    ∙ one-gone 0 (length (taken past)) seq (standing past) (standing-rise u past prefix.0) (sent-stood u past seq bytes prefix.1)
+    ap (λ (cs : List AcceptedCall). length cs + 1) (sends past seq bytes)
+    ∙ one-gone 0 (length (taken past)) seq (pending_calls past) (standing-rise u past prefix.0) (sent-stood u past seq bytes prefix.1)
 
-pub one-refused : (u : Under) (past : Behind) (seq : ℕ) (why : Cause) → TakesOne → RefusesOne
-    → IsPrefix u (Refused seq why ∷ past) → length (standing (Refused seq why ∷ past)) + 1 ≡ length (standing past)
+pub one-refused : (u : JudgeContext) (past : Trace) (seq : ℕ) (why : Cause) → TakesOne → RefusesOne
+    → IsLegalPrefix u (Refused seq why ∷ past) → length (pending_calls (Refused seq why ∷ past)) + 1 ≡ length (pending_calls past)
 one-refused u past seq why takes refuses prefix =
-    ap (λ (cs : List Taken). length cs + 1) (refuses past seq why)
-    ∙ one-gone 0 (length (taken past)) seq (standing past) (standing-rise u past prefix.0)
+    ap (λ (cs : List AcceptedCall). length cs + 1) (refuses past seq why)
+    ∙ one-gone 0 (length (taken past)) seq (pending_calls past) (standing-rise u past prefix.0)
     (refused-stood u past seq why takes prefix.0 prefix.1)

@@ -5,27 +5,27 @@ use Rattle.std.proofs.lemmas.List.Elements.{All-nil, All-cons}
 use Rattle.std.proofs.lemmas.List.FromFn.{length-range_with_len}
 use Rattle.app_program.specs.declared.program.ProgramLine.{ProgramLine}
 use Rattle.app_program.specs.declared.program.ProgramLine.TheVariants.{Store, Submit}
-use Rattle.app_program.specs.Programs.{IsClientLine, IsClientProgram, stores_of, submits_of}
-use Rattle.drill.specs.Drill.{address, call_lines, program, value}
+use Rattle.app_program.specs.Programs.{IsClientLine, IsClientProgram, program_stores, program_submits}
+use Rattle.drill.specs.Drill.{address, client_call_lines, program, value}
 
-lines-each : (calls client : ℕ) (ks : List ℕ) → All (IsClientLine 64) (flat_map (call_lines calls client) ks)
+lines-each : (calls client : ℕ) (ks : List ℕ) → All (IsClientLine 64) (flat_map (client_call_lines calls client) ks)
 lines-each calls client [] = All-nil (IsClientLine 64)
 lines-each calls client (k ∷ ks) =
-    let more : List ProgramLine = flat_map (call_lines calls client) ks in
+    let more : List ProgramLine = flat_map (client_call_lines calls client) ks in
     All-cons (IsClientLine 64) (Store (address k) (value calls client k)) (Submit 0 (address k) ∷ more)
     (record { from_one = omega arith; in_heap = omega arith })
     (All-cons (IsClientLine 64) (Submit 0 (address k)) more tt (lines-each calls client ks))
 
-lines-long : (calls client : ℕ) (ks : List ℕ) → length (flat_map (call_lines calls client) ks) ≡ 2 * length ks
+lines-long : (calls client : ℕ) (ks : List ℕ) → length (flat_map (client_call_lines calls client) ks) ≡ 2 * length ks
 lines-long calls client [] = refl
 lines-long calls client (k ∷ ks) = let rest = lines-long calls client ks in omega (arith, rest)
 
-stores-long : (calls client : ℕ) (ks : List ℕ) → length (stores_of (flat_map (call_lines calls client) ks)) ≡ length ks
+stores-long : (calls client : ℕ) (ks : List ℕ) → length (program_stores (flat_map (client_call_lines calls client) ks)) ≡ length ks
 stores-long calls client [] = refl
 stores-long calls client (k ∷ ks) = let rest = stores-long calls client ks in omega (arith, rest)
 
 submits-long : (calls client made : ℕ) (ks : List ℕ)
-    → length (submits_of made (flat_map (call_lines calls client) ks)) ≡ length ks
+    → length (program_submits made (flat_map (client_call_lines calls client) ks)) ≡ length ks
 submits-long calls client made [] = refl
 submits-long calls client made (k ∷ ks) = let rest = submits-long calls client (made + 1 + 0) ks in omega (arith, rest)
 
@@ -39,5 +39,5 @@ is-program calls client few =
       few = omega (arith, lines-long calls client ks, many);
     }
 
-pub submits-in : (calls client : ℕ) → length (submits_of 0 (program calls client)) ≡ calls
+pub submits-in : (calls client : ℕ) → length (program_submits 0 (program calls client)) ≡ calls
 submits-in calls client = submits-long calls client 0 (range_with_len 1 calls) ∙ length-range_with_len 1 calls

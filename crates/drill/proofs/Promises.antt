@@ -7,18 +7,18 @@ use Rattle.mrpc_table.specs.Names.{IsName}
 use Rattle.mrpc_table.specs.Text.{table_text}
 use Rattle.mrpc_table.specs.Valid.{AreDistinct, IsEnum, IsField, IsMessage, IsMethod, IsValid}
 use Rattle.mrpc_table.specs.declared.limits.TheConstants.{MAX_TEXT}
-use Rattle.engine_core.specs.Chains.{Chain, Changes, IsAgainst, Refusal, attaches, detaches_none, is_full, is_other, is_past, is_taken, new_entry, upgrades_none}
+use Rattle.engine_core.specs.Chains.{Chain, HasChanged, IsReasonToReject, Refusal, attaches, detaches_none, is_full, is_other, is_past, is_taken, new_entry, upgrades_none}
 use Rattle.engine_core.specs.declared.op.Op.{Op}
 use Rattle.engine_core.specs.declared.op.Op.TheVariants.{Attach}
 use Rattle.engine_core.specs.declared.policy.Policy.TheVariants.{Access}
-use Rattle.policy_declarations.specs.declared.item.NamedPolicy.{NamedPolicy}
-use Rattle.policy_declarations.specs.declared.item.Tenant.{Tenant}
+use Rattle.policy_declarations.specs.declared.declaration.NamedPolicy.{NamedPolicy}
+use Rattle.policy_declarations.specs.declared.declaration.Tenant.{Tenant}
 use Rattle.engine_core.specs.Policies.{IsPolicy, KnowsTenantOf}
-use Rattle.policy_declarations.specs.Declarations.{IsSound}
+use Rattle.policy_declarations.specs.Declarations.{AreValidDeclarations}
 use Rattle.run_plan.specs.Chains.{IsReadUnder, empty_chain}
 use Rattle.run_plan.specs.Plans.{IsApplication, IsOperator, IsPlan, HasWindow}
-use Rattle.run_plan.specs.Ports.{ArePaired, HasClient}
-use Rattle.run_plan.specs.declared.plan.Pair.{Pair}
+use Rattle.run_plan.specs.Links.{ArePaired, HasClient}
+use Rattle.run_plan.specs.declared.plan.LinkPlan.{LinkPlan}
 use Rattle.drill.specs.Drill.{acl, applications, big_line, client, default_line, drill, echo, field, links, message, method, named_acl, only_acl, schema}
 use Rattle.drill.proofs.Policies.{text-of-acl}
 use Rattle.drill.proofs.Programs.{is-program, submits-in}
@@ -104,7 +104,7 @@ eight-there = All-from_recursion (Contains eight) eight (
   ),
 )
 
-abbrev HasOne : ℕ → Pair → Type 0
+abbrev HasOne : ℕ → LinkPlan → Type 0
 HasOne calls link = HasClient (applications calls) link.a ⊎ HasClient (applications calls) link.b
 
 paired : (calls : ℕ) → ArePaired (applications calls) links
@@ -132,7 +132,7 @@ attaching = Attach 0 (codes "acl") (codes "acl") (Access acl)
 abbrev one_entry : Chain
 one_entry = record { entries = new_entry (codes "acl") 1 (Access acl) ∷ []; attached = 1 }
 
-nothing-against : (refusal : Refusal) → IsAgainst [] attaching refusal → ⊥
+nothing-against : (refusal : Refusal) → IsReasonToReject [] attaching refusal → ⊥
 nothing-against refusal (detaches_none name is none to) = cc
 nothing-against refusal (upgrades_none name label policy is none to) = cc
 nothing-against refusal (is_taken at name label policy is has to) = omega (arith, has.1)
@@ -141,10 +141,10 @@ nothing-against refusal (is_past at name label policy is past to) =
 nothing-against refusal (is_full at name label policy is full to) = omega (arith, full)
 nothing-against refusal (is_other name label policy e is has named other to) = cc
 
-attached : Changes empty_chain attaching one_entry
+attached : HasChanged empty_chain attaching one_entry
 attached = record {
   free = nothing-against;
-  makes = attaches 0 (codes "acl") (codes "acl") (Access acl) [] [] refl refl refl refl;
+  effect = attaches 0 (codes "acl") (codes "acl") (Access acl) [] [] refl refl refl refl;
 }
 
 -- ---- the applications
@@ -202,7 +202,7 @@ all-are calls few = All-from_recursion (IsApplication (drill calls)) (applicatio
 
 -- ---- the plan
 
-declared-sound : IsSound only_acl
+declared-sound : AreValidDeclarations only_acl
 declared-sound = record {
   few = lit≤ tt;
   tenants_distinct = tt;

@@ -1,7 +1,7 @@
 -- The scenario of the drill (this project's own).
 use Rattle.std.specs.Prelude.{ℕ, ◌+◌, ◌-◌, ◌*◌, ◌%◌, true, false, List, [], ◌∷◌, map, flat_map, codes, Some, None}
 use Rattle.std.specs.List.{range_with_len}
-use Rattle.mrpc_table.specs.declared.call.Sort.TheVariants.{Request}
+use Rattle.mrpc_table.specs.declared.call.CallKind.TheVariants.{Request}
 use Rattle.mrpc_table.specs.declared.path.Path.{Path}
 use Rattle.mrpc_table.specs.declared.table.Field.{Field}
 use Rattle.mrpc_table.specs.declared.table.Kind.TheVariants.{Uint64}
@@ -10,19 +10,19 @@ use Rattle.mrpc_table.specs.declared.table.Message.{Message}
 use Rattle.mrpc_table.specs.declared.table.Method.{Method}
 use Rattle.mrpc_table.specs.declared.table.Table.{Table}
 use Rattle.policy_access.specs.Verdict.{AccessPolicy}
-use Rattle.policy_access.specs.declared.rule.About.TheVariants.{Calls as OfCalls}
+use Rattle.policy_access.specs.declared.rule.CallSelector.TheVariants.{Calls as OfCalls}
 use Rattle.policy_access.specs.declared.rule.Comparison.TheVariants.{Greater}
 use Rattle.policy_access.specs.declared.rule.Condition.TheVariants.{Compares}
 use Rattle.policy_access.specs.declared.rule.Operand.TheVariants.{Number}
 use Rattle.policy_access.specs.declared.rule.Rule.{Rule}
 use Rattle.engine_core.specs.declared.policy.Policy.TheVariants.{Access}
 use Rattle.policy_declarations.specs.Declarations.{Declared}
-use Rattle.policy_declarations.specs.declared.item.NamedPolicy.{NamedPolicy}
+use Rattle.policy_declarations.specs.declared.declaration.NamedPolicy.{NamedPolicy}
 use Rattle.app_program.specs.declared.program.ProgramLine.{ProgramLine}
 use Rattle.app_program.specs.declared.program.ProgramLine.TheVariants.{Store, Submit}
 use Rattle.run_plan.specs.declared.application.Application.{Application}
 use Rattle.run_plan.specs.declared.application.Role.TheVariants as role
-use Rattle.run_plan.specs.declared.plan.Pair.{Pair}
+use Rattle.run_plan.specs.declared.plan.LinkPlan.{LinkPlan}
 use Rattle.run_plan.specs.declared.plan.Plan.{Plan}
 
 -- ---- the schema: `message M { uint64 a = 1; } service S { rpc Get (M) returns (M); }`
@@ -84,11 +84,11 @@ abbrev pub address : (call : ℕ) → ℕ
 address call = 2 + 2 * ((call - 1) % 6)
 
 -- a call's value is stored immediately before the call is submitted
-abbrev pub call_lines : (calls client call : ℕ) → List ProgramLine
-call_lines calls client call = Store (address call) (value calls client call) ∷ Submit 0 (address call) ∷ []
+abbrev pub client_call_lines : (calls client call : ℕ) → List ProgramLine
+client_call_lines calls client call = Store (address call) (value calls client call) ∷ Submit 0 (address call) ∷ []
 
 abbrev pub program : (calls client : ℕ) → List ProgramLine
-program calls client = flat_map (call_lines calls client) (range_with_len 1 calls)
+program calls client = flat_map (client_call_lines calls client) (range_with_len 1 calls)
 
 -- ---- applications and links
 
@@ -129,11 +129,11 @@ client_and_echo calls number = client calls number ∷ echo number ∷ []
 abbrev pub applications : (calls : ℕ) → List Application
 applications calls = flat_map (client_and_echo calls) clients
 
-abbrev pub link_of : (number : ℕ) → Pair
-link_of number = record { a = 2 * number - 1; b = 2 * number }
+abbrev pub link_of_client : (number : ℕ) → LinkPlan
+link_of_client number = record { a = 2 * number - 1; b = 2 * number }
 
-abbrev pub links : List Pair
-links = map link_of clients
+abbrev pub links : List LinkPlan
+links = map link_of_client clients
 
 -- ---- the whole plan, in which each client submits this many calls
 

@@ -6,7 +6,7 @@ use Rattle.mrpc_base.specs.declared.link.Link.{Ghosts as LinkMembers}
 
 -- what one end gave is known, as it was all along; it is a prefix of what was handed to the other, and all of it
 -- after the end
-pub record IsHandedOn {L : Type 0} (of_link : LinkMembers L) (from to : L) : Type 0 where
+pub record IsLinkDelivery {L : Type 0} (of_link : LinkMembers L) (from to : L) : Type 0 where
   pub given : List ℕ
   pub known : of_link.given to ≡ Some given
   pub all_along : (first : L) → of_link.since first to → of_link.given first ≢ None
@@ -15,4 +15,4 @@ pub record IsHandedOn {L : Type 0} (of_link : LinkMembers L) (from to : L) : Typ
 
 -- the two ends of a link have met
 abbrev pub HaveMet : {L : Type 0} → LinkMembers L → L → L → Type 0
-HaveMet of_link a b = IsHandedOn of_link a b × IsHandedOn of_link b a
+HaveMet of_link a b = IsLinkDelivery of_link a b × IsLinkDelivery of_link b a

@@ -5,7 +5,7 @@
 //!
 //! The laws are functions that do nothing; their contracts are the laws. Each accepted call is counted exactly once
 //! more, as sent, refused or pending ([`each_call_is_counted_once`]). If no policy ever holds a call, none is pending
-//! at the end ([`none_stands_unheld`]). So the counts of a drill add up ([`drills_add_up`]). Each of its connections
+//! at the end ([`none_pending_unheld`]). So the counts of a drill add up ([`drills_add_up`]). Each of its connections
 //! was bound if no link failed and the two ends of each have met ([`drills_are_bound`]), as those of a link in memory
 //! have ([`links_in_memory_meet`]).
 //!
@@ -24,6 +24,6 @@ mod schema;
 
 pub use laws::{
     drills_add_up, drills_are_bound, each_call_is_counted_once, links_in_memory_meet,
-    none_stands_unheld,
+    none_pending_unheld,
 };
 pub use plan::{MAX_CALLS, drill_plan};

@@ -8,7 +8,7 @@ use crate::application::{CLIENTS, applications};
 use crate::policy::declared;
 use crate::schema::{SERVICE, name, schema};
 use mrpc_table::{Memory, Sequence};
-use run_plan::{Pair, Plan};
+use run_plan::{LinkPlan, Plan};
 use std::alloc::Global;
 
 /// The maximum number of calls that each client submits.
@@ -53,12 +53,12 @@ fn plan(alloc: Global, calls: u64) -> Result<Plan, Memory>
 }
 
 // The links between the clients and their echoes.
-fn links(alloc: Global) -> Result<Sequence<Pair>, Memory>
+fn links(alloc: Global) -> Result<Sequence<LinkPlan>, Memory>
     ensures { IfOk result (λ pairs. pairs ≡ links) }
 {
     let mut pairs = Sequence::new(alloc);
     for before in 0..CLIENTS {
-        pairs.push(Pair {
+        pairs.push(LinkPlan {
             a: 2 * before + 1,
             b: 2 * before + 2,
         })?;

@@ -7,7 +7,7 @@ use crate::schema::name;
 use engine_core::Policy;
 use mrpc_table::{Bytes, Lines, Memory, RuleFault, Table};
 use policy_access::{Access, read_access};
-use policy_declarations::{Declarations, Item, NamedPolicy};
+use policy_declarations::{Declaration, Declarations, NamedPolicy};
 use std::alloc::Global;
 
 // The rule that denies requests with values above 49.
@@ -25,7 +25,7 @@ pub(crate) fn declared(alloc: Global, table: &Table) -> Result<Declarations, Mem
         name: name(alloc, b"acl")?,
         policy: Policy::Access(acl(alloc, table)?),
     };
-    Declarations::new(alloc).with(alloc, Item::Policy(policy))
+    Declarations::new(alloc).with(alloc, Declaration::Policy(policy))
 }
 
 // The policy of the two lines, which have no fault.

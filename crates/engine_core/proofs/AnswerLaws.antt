@@ -17,7 +17,7 @@ use Rattle.policy_redact.specs.Redacting.{cleared}
 use Rattle.policy_redact.specs.declared.redact.Clear.{Clear}
 use Rattle.engine_core.specs.Policies.{IsNoting}
 use Rattle.engine_core.specs.Answers.{Past, nothing, charged, drawn, counted, Answer, pass, deny, hold, refuse, over}
-use Rattle.engine_core.specs.Answers.{note, redact, ticket_in, Answers, allows, denies, was_charged, charges, holds}
+use Rattle.engine_core.specs.Answers.{note, redact, ticket_in, IsEntryAnswer, allows, denies, was_charged, charges, holds}
 use Rattle.engine_core.specs.Answers.{refuses, is_within, is_over, draws, was_counted, counts, is_clear, redacts}
 use Rattle.engine_core.specs.declared.policy.Policy.{Policy}
 use Rattle.engine_core.specs.declared.policy.Policy.TheVariants.{Access, Rate, Quota, Count, Redact}
@@ -56,31 +56,31 @@ same-tree t u = elim (same-code (node_code.code t) (node_code.code u)) [ inl sam
 -- ---- there is an answer
 
 by-verdict : (p : AccessPolicy) (level moment : ℕ) (form : Call) (past : Past) (b : Bool) → (verdict p form).allow ≡ b
-    → (answer : Answer) × Answers (Access p) level moment form past answer
+    → (answer : Answer) × IsEntryAnswer (Access p) level moment form past answer
 by-verdict p level moment form past true is = (pass, allows p refl is refl)
 by-verdict p level moment form past false is = (deny (verdict p form).rule, denies p refl is refl)
 
-by-mode : (r : RatePolicy) (level moment : ℕ) (form : Call) (b : Bool) → level < r.per → r.hold ≡ b → (answer : Answer) × Answers (Rate r) level moment form nothing answer
+by-mode : (r : RatePolicy) (level moment : ℕ) (form : Call) (b : Bool) → level < r.per → r.hold ≡ b → (answer : Answer) × IsEntryAnswer (Rate r) level moment form nothing answer
 by-mode r level moment form true less is = (hold level r.per, holds r refl refl less is refl)
 by-mode r level moment form false less is = (refuse level r.per, refuses r refl refl less is refl)
 
-by-level : (r : RatePolicy) (level moment : ℕ) (form : Call) → (answer : Answer) × Answers (Rate r) level moment form nothing answer
+by-level : (r : RatePolicy) (level moment : ℕ) (form : Call) → (answer : Answer) × IsEntryAnswer (Rate r) level moment form nothing answer
 by-level r level moment form = elim (cases_lt level r.per)
     [ inl less ↦ by-mode r level moment form r.hold less refl | inr enough ↦ (note (Charged (level - r.per)), charges r refl refl enough refl) ]
 
-by-ticket : (tenant per cap level moment ticket : ℕ) (form : Call) → (answer : Answer) × Answers (Quota tenant per cap) level moment form (drawn ticket) answer
+by-ticket : (tenant per cap level moment ticket : ℕ) (form : Call) → (answer : Answer) × IsEntryAnswer (Quota tenant per cap) level moment form (drawn ticket) answer
 by-ticket tenant per cap level moment ticket form = elim (cases_lt ticket cap)
     [ inl less ↦ (pass, is_within tenant per cap ticket refl refl less refl) | inr more ↦ (over ticket cap, is_over tenant per cap ticket refl refl more refl) ]
 
 by-draw : (tenant per cap level moment : ℕ) (form : Call) (past : Past) → ((t : ℕ) → past ≢ drawn t)
-    → (answer : Answer) × Answers (Quota tenant per cap) level moment form past answer
+    → (answer : Answer) × IsEntryAnswer (Quota tenant per cap) level moment form past answer
 by-draw tenant per cap level moment form past none = (note (Drawn (min (moment / per) 1023) 0), draws tenant per cap 0 refl none refl)
 
-by-clears : (clears : List Clear) (level moment : ℕ) (form : Call) (past : Past) → (answer : Answer) × Answers (Redact clears) level moment form past answer
+by-clears : (clears : List Clear) (level moment : ℕ) (form : Call) (past : Past) → (answer : Answer) × IsEntryAnswer (Redact clears) level moment form past answer
 by-clears clears level moment form past = elim (same-tree (cleared clears form) form.tree)
     [ inl same ↦ (pass, is_clear clears refl same refl) | inr other ↦ (redact, redacts clears refl other refl) ]
 
-pub some_answer : (policy : Policy) (level moment : ℕ) (form : Call) (past : Past) → (answer : Answer) × Answers policy level moment form past answer
+pub some_answer : (policy : Policy) (level moment : ℕ) (form : Call) (past : Past) → (answer : Answer) × IsEntryAnswer policy level moment form past answer
 some_answer (Access p) level moment form past = by-verdict p level moment form past (verdict p form).allow refl
 some_answer (Rate r) level moment form nothing = by-level r level moment form
 some_answer (Rate r) level moment form charged = (pass, was_charged r refl (λ none. cc) refl)
@@ -99,7 +99,7 @@ some_answer (Redact clears) level moment form past = by-clears clears level mome
 -- ---- at most one
 
 pub one_answer : (policy : Policy) (level moment : ℕ) (form : Call) (past : Past) (a b : Answer)
-    → Answers policy level moment form past a → Answers policy level moment form past b → ticket_in a ≡ ticket_in b → a ≡ b
+    → IsEntryAnswer policy level moment form past a → IsEntryAnswer policy level moment form past b → ticket_in a ≡ ticket_in b → a ≡ b
 one_answer policy level moment form past a b (allows p is allow first) second same = grind (arith, common_steps)
 one_answer policy level moment form past a b (denies p is denied first) second same = grind (arith, common_steps)
 one_answer policy level moment form past a b (was_charged r is some first) second same = grind (arith, common_steps)
@@ -123,7 +123,7 @@ deciding-by k n = grind (arith, nat_tests, common_steps)
 pub deciding-within : (p : AccessPolicy) (form : Call) → (verdict p form).rule ≤ length p.rules
 deciding-within p form = deciding-by (position_or_len (λ (r : Rule). matches r form) p.rules) (length p.rules)
 
-pub denied-within : (p : AccessPolicy) (level moment rule : ℕ) (form : Call) (past : Past) → Answers (Access p) level moment form past (deny rule) → rule ≤ length p.rules
+pub denied-within : (p : AccessPolicy) (level moment rule : ℕ) (form : Call) (past : Past) → IsEntryAnswer (Access p) level moment form past (deny rule) → rule ≤ length p.rules
 denied-within p level moment rule form past (allows q is allow at) = absurd cc
 denied-within p level moment rule form past (denies q is denied at) =
     let policies : q ≡ p = cc in
@@ -142,7 +142,7 @@ denied-within p level moment rule form past (is_clear clears is left at) = absur
 denied-within p level moment rule form past (redacts clears is other at) = absurd cc
 
 pub allows_at_any_time : (policy : Policy) (level moment other later : ℕ) (form : Call) (past : Past)
-    → Answers policy level moment form past pass → Answers policy other later form past pass
+    → IsEntryAnswer policy level moment form past pass → IsEntryAnswer policy other later form past pass
 allows_at_any_time policy level moment other later form past (allows p is allow at) = allows p is allow at
 allows_at_any_time policy level moment other later form past (denies p is denied at) = absurd cc
 allows_at_any_time policy level moment other later form past (was_charged r is some at) = was_charged r is some at
@@ -158,7 +158,7 @@ allows_at_any_time policy level moment other later form past (is_clear clears is
 allows_at_any_time policy level moment other later form past (redacts clears is differs at) = absurd cc
 
 pub allows_by_notes : (policy : Policy) (level moment other later : ℕ) (form another : Call) (past : Past)
-    → IsNoting policy → Answers policy level moment form past pass → Answers policy other later another past pass
+    → IsNoting policy → IsEntryAnswer policy level moment form past pass → IsEntryAnswer policy other later another past pass
 allows_by_notes policy level moment other later form another past noting (allows p is allow at) = absurd (rw is at noting)
 allows_by_notes policy level moment other later form another past noting (denies p is denied at) = absurd cc
 allows_by_notes policy level moment other later form another past noting (was_charged r is some at) = was_charged r is some at

@@ -12,8 +12,8 @@ use Rattle.std.proofs.lemmas.Slice.Eq.{bytes_eq-Decides}
 use Rattle.mrpc_table.specs.Valid.{AreDistinct}
 use Rattle.engine_core.specs.Policies.{is_same_kind}
 use Rattle.engine_core.specs.Chains.{Entry, Chain, IsChain, Refusal, no_such, taken, no_place, full, other_kind}
-use Rattle.engine_core.specs.Chains.{order_of, IsAgainst, detaches_none, upgrades_none, is_taken, is_past, is_full}
-use Rattle.engine_core.specs.Chains.{is_other, Refuses, Makes, attaches, detaches, upgrades, Changes, names_of}
+use Rattle.engine_core.specs.Chains.{refusal_rank, IsReasonToReject, detaches_none, upgrades_none, is_taken, is_past, is_full}
+use Rattle.engine_core.specs.Chains.{is_other, IsRejection, IsChangeOf, attaches, detaches, upgrades, HasChanged, names_of}
 use Rattle.engine_core.specs.Chains.{attachments_of, new_entry, upgraded, is_named, changed}
 use Rattle.engine_core.specs.declared.policy.Policy.{Policy}
 use Rattle.engine_core.specs.declared.op.Op.{Op}
@@ -21,7 +21,7 @@ use Rattle.engine_core.specs.declared.op.Op.TheVariants.{Attach, Detach, Upgrade
 
 -- ---- at most one reason
 
-same-against : (entries : List Entry) (op : Op) (r s : Refusal) → IsAgainst entries op r → IsAgainst entries op s → order_of r ≡ order_of s → r ≡ s
+same-against : (entries : List Entry) (op : Op) (r s : Refusal) → IsReasonToReject entries op r → IsReasonToReject entries op s → refusal_rank r ≡ refusal_rank s → r ≡ s
 same-against entries op r s (detaches_none name is none first) second same = grind (arith, common_steps)
 same-against entries op r s (upgrades_none name label policy is none first) second same = grind (arith, common_steps)
 same-against entries op r s (is_taken at name label policy is some first) second same = grind (arith, common_steps)
@@ -29,16 +29,16 @@ same-against entries op r s (is_past at name label policy is past first) second 
 same-against entries op r s (is_full at name label policy is more first) second same = grind (arith, common_steps)
 same-against entries op r s (is_other name label policy e is there named other first) second same = grind (arith, common_steps)
 
-same-order : (chain : Chain) (op : Op) (r s : Refusal) → Refuses chain op r → Refuses chain op s → order_of r ≡ order_of s
-same-order chain op r s first second = elim (cases_lt (order_of r) (order_of s)) [
+same-order : (chain : Chain) (op : Op) (r s : Refusal) → IsRejection chain op r → IsRejection chain op s → refusal_rank r ≡ refusal_rank s
+same-order chain op r s first second = elim (cases_lt (refusal_rank r) (refusal_rank s)) [
   | inl less ↦ absurd (second.first r less first.against)
-  | inr more ↦ elim (cases_lt (order_of s) (order_of r)) [ inl less ↦ absurd (first.first s less second.against) | inr more' ↦ omega arith ]
+  | inr more ↦ elim (cases_lt (refusal_rank s) (refusal_rank r)) [ inl less ↦ absurd (first.first s less second.against) | inr more' ↦ omega arith ]
 ]
 
-pub one_refusal : (chain : Chain) (op : Op) (r s : Refusal) → Refuses chain op r → Refuses chain op s → r ≡ s
+pub one_refusal : (chain : Chain) (op : Op) (r s : Refusal) → IsRejection chain op r → IsRejection chain op s → r ≡ s
 one_refusal chain op r s first second = same-against chain.entries op r s first.against second.against (same-order chain op r s first second)
 
-pub not_both : (before after : Chain) (op : Op) (refusal : Refusal) → Changes before op after → Refuses before op refusal → ⊥
+pub not_both : (before after : Chain) (op : Op) (refusal : Refusal) → HasChanged before op after → IsRejection before op refusal → ⊥
 not_both before after op refusal changes refuses = changes.free refusal refuses.against
 
 -- ---- names are texts, and so equal or not
@@ -136,7 +136,7 @@ pub split : (es : List Entry) (name : List ℕ) → Contains (names_of es) name
     → (front : List Entry) × (e : Entry) × (back : List Entry) × (es ≡ front ++ e ∷ back) × (e.name ≡ name)
 split es name has = split-at es has.0 name has.1 has.2
 
-pub one_chain : (before after other : Chain) (op : Op) → IsChain before → Makes before op after → Makes before op other → after ≡ other
+pub one_chain : (before after other : Chain) (op : Op) → IsChain before → IsChangeOf before op after → IsChangeOf before op other → after ≡ other
 one_chain before after other op chain (attaches at name label policy front back is whole at_is result) (attaches at' name' label' policy' front' back' is' whole' at_is' result') =
     let places : at ≡ at' = cc in
     let same = same-front front back front' back' (sym whole ∙ whole') (at_is ∙ places ∙ sym at_is') in
@@ -166,30 +166,30 @@ one_chain before after other op chain (upgrades name label policy e front back i
 -- ---- an operation changes a chain or is rejected
 
 -- no reason against an attachment comes before the first of the three
-against-attach : (entries : List Entry) (at : ℕ) (name label : List ℕ) (policy : Policy) (other : Refusal) → IsAgainst entries (Attach at name label policy) other
-    → ((order_of other ≡ 2) × Contains (names_of entries) name) ⊎ (((order_of other ≡ 3) × (length entries < at)) ⊎ ((order_of other ≡ 4) × (8 ≤ length entries)))
+against-attach : (entries : List Entry) (at : ℕ) (name label : List ℕ) (policy : Policy) (other : Refusal) → IsReasonToReject entries (Attach at name label policy) other
+    → ((refusal_rank other ≡ 2) × Contains (names_of entries) name) ⊎ (((refusal_rank other ≡ 3) × (length entries < at)) ⊎ ((refusal_rank other ≡ 4) × (8 ≤ length entries)))
 against-attach entries at name label policy other (detaches_none n is none r) = absurd cc
 against-attach entries at name label policy other (upgrades_none n l p is none r) = absurd cc
 against-attach entries at name label policy other (is_taken a n l p is some r) =
-    let names : n ≡ name = cc in inl (ap order_of r, subst (λ (m : List ℕ). Contains (names_of entries) m) names some)
+    let names : n ≡ name = cc in inl (ap refusal_rank r, subst (λ (m : List ℕ). Contains (names_of entries) m) names some)
 against-attach entries at name label policy other (is_past a n l p is past r) =
-    let places : a ≡ at = cc in inr (inl (ap order_of r, rw (← places) past))
-against-attach entries at name label policy other (is_full a n l p is more r) = inr (inr (ap order_of r, more))
+    let places : a ≡ at = cc in inr (inl (ap refusal_rank r, rw (← places) past))
+against-attach entries at name label policy other (is_full a n l p is more r) = inr (inr (ap refusal_rank r, more))
 against-attach entries at name label policy other (is_other n l p e is there named differs r) = absurd cc
 
 attach-changes : (before : Chain) (at : ℕ) (name label : List ℕ) (policy : Policy)
     → (Contains (names_of before.entries) name → ⊥) → at ≤ length before.entries → length before.entries < 8
-    → (after : Chain) × Changes before (Attach at name label policy) after
+    → (after : Chain) × HasChanged before (Attach at name label policy) after
 attach-changes before at name label policy none within few = (
   record { entries = take at before.entries ++ new_entry name (before.attached + 1) policy ∷ drop at before.entries; attached = before.attached + 1 },
   record {
     free = λ other against. elim (against-attach before.entries at name label policy other against)
         [ inl taken' ↦ none taken'.1 | inr rest ↦ elim rest [ inl past ↦ omega (arith, past.1) | inr more ↦ omega (arith, more.1) ] ];
-    makes = attaches at name label policy (take at before.entries) (drop at before.entries) refl (sym (take-append-drop at before.entries)) (length-take-le at before.entries within) refl;
+    effect = attaches at name label policy (take at before.entries) (drop at before.entries) refl (sym (take-append-drop at before.entries)) (length-take-le at before.entries within) refl;
   },
 )
 
-attach-taken : (before : Chain) (at : ℕ) (name label : List ℕ) (policy : Policy) → Contains (names_of before.entries) name → Refuses before (Attach at name label policy) (taken name)
+attach-taken : (before : Chain) (at : ℕ) (name label : List ℕ) (policy : Policy) → Contains (names_of before.entries) name → IsRejection before (Attach at name label policy) (taken name)
 attach-taken before at name label policy some = record {
   against = is_taken at name label policy refl some refl;
   first = λ other less against. elim (against-attach before.entries at name label policy other against)
@@ -198,7 +198,7 @@ attach-taken before at name label policy some = record {
 
 attach-past : (before : Chain) (at : ℕ) (name label : List ℕ) (policy : Policy)
     → (Contains (names_of before.entries) name → ⊥) → length before.entries < at
-    → Refuses before (Attach at name label policy) (no_place at)
+    → IsRejection before (Attach at name label policy) (no_place at)
 attach-past before at name label policy none past = record {
   against = is_past at name label policy refl past refl;
   first = λ other less against. elim (against-attach before.entries at name label policy other against)
@@ -207,7 +207,7 @@ attach-past before at name label policy none past = record {
 
 attach-full : (before : Chain) (at : ℕ) (name label : List ℕ) (policy : Policy)
     → (Contains (names_of before.entries) name → ⊥) → at ≤ length before.entries → 8 ≤ length before.entries
-    → Refuses before (Attach at name label policy) (full (length before.entries))
+    → IsRejection before (Attach at name label policy) (full (length before.entries))
 attach-full before at name label policy none within more = record {
   against = is_full at name label policy refl more refl;
   first = λ other less against. elim (against-attach before.entries at name label policy other against)
@@ -215,7 +215,7 @@ attach-full before at name label policy none within more = record {
 }
 
 either-attach : (before : Chain) (at : ℕ) (name label : List ℕ) (policy : Policy)
-    → ((after : Chain) × Changes before (Attach at name label policy) after) ⊎ ((refusal : Refusal) × Refuses before (Attach at name label policy) refusal)
+    → ((after : Chain) × HasChanged before (Attach at name label policy) after) ⊎ ((refusal : Refusal) × IsRejection before (Attach at name label policy) refusal)
 either-attach before at name label policy = elim (named name (names_of before.entries)) [
   | inl some ↦ inr (taken name, attach-taken before at name label policy some)
   | inr none ↦ elim (cases_lt (length before.entries) at) [
@@ -227,9 +227,9 @@ either-attach before at name label policy = elim (named name (names_of before.en
   ]
 ]
 
-against-detach : (entries : List Entry) (name : List ℕ) (other : Refusal) → IsAgainst entries (Detach name) other → (order_of other ≡ 1) × (Contains (names_of entries) name → ⊥)
+against-detach : (entries : List Entry) (name : List ℕ) (other : Refusal) → IsReasonToReject entries (Detach name) other → (refusal_rank other ≡ 1) × (Contains (names_of entries) name → ⊥)
 against-detach entries name other (detaches_none n is none r) =
-    let names : n ≡ name = cc in (ap order_of r, λ has. none (subst (λ (m : List ℕ). Contains (names_of entries) m) (sym names) has))
+    let names : n ≡ name = cc in (ap refusal_rank r, λ has. none (subst (λ (m : List ℕ). Contains (names_of entries) m) (sym names) has))
 against-detach entries name other (upgrades_none n l p is none r) = absurd cc
 against-detach entries name other (is_taken a n l p is some r) = absurd cc
 against-detach entries name other (is_past a n l p is past r) = absurd cc
@@ -237,7 +237,7 @@ against-detach entries name other (is_full a n l p is more r) = absurd cc
 against-detach entries name other (is_other n l p e is there named differs r) = absurd cc
 
 either-detach : (before : Chain) (name : List ℕ)
-    → ((after : Chain) × Changes before (Detach name) after) ⊎ ((refusal : Refusal) × Refuses before (Detach name) refusal)
+    → ((after : Chain) × HasChanged before (Detach name) after) ⊎ ((refusal : Refusal) × IsRejection before (Detach name) refusal)
 either-detach before name = elim (named name (names_of before.entries)) [
   | inl some ↦ inl (detach-changes (split before.entries name some))
   | inr none ↦ inr (
@@ -250,12 +250,12 @@ either-detach before name = elim (named name (names_of before.entries)) [
 ]
   where
     detach-changes : (front : List Entry) × (e : Entry) × (back : List Entry) × (before.entries ≡ front ++ e ∷ back)
-        × (e.name ≡ name) → (after : Chain) × Changes before (Detach name) after
+        × (e.name ≡ name) → (after : Chain) × HasChanged before (Detach name) after
     detach-changes cut = (
       record { entries = cut.0 ++ cut.2; attached = before.attached },
       record {
         free = λ other against. (against-detach before.entries name other against).1 (rw cut.3 (rw (← cut.4) (has-entry cut.0 cut.2 cut.1)));
-        makes = detaches name cut.1 cut.0 cut.2 refl cut.3 cut.4 refl;
+        effect = detaches name cut.1 cut.0 cut.2 refl cut.3 cut.4 refl;
       },
     )
 
@@ -274,23 +274,23 @@ one_entry es front back e f apart whole has named =
     let same = same-place front back cut.0 cut.1 e f (rw whole at apart) (sym whole ∙ cut.2) (sym named) in
     sym same.1
 
-against-upgrade : (entries : List Entry) (name label : List ℕ) (policy : Policy) (other : Refusal) → IsAgainst entries (Upgrade name label policy) other
-    → ((order_of other ≡ 1) × (Contains (names_of entries) name → ⊥))
-    ⊎ ((order_of other ≡ 5)
+against-upgrade : (entries : List Entry) (name label : List ℕ) (policy : Policy) (other : Refusal) → IsReasonToReject entries (Upgrade name label policy) other
+    → ((refusal_rank other ≡ 1) × (Contains (names_of entries) name → ⊥))
+    ⊎ ((refusal_rank other ≡ 5)
     × ((e : Entry) × Contains entries e × (e.name ≡ name) × (is_same_kind e.policy policy ≡ false)))
 against-upgrade entries name label policy other (detaches_none n is none r) = absurd cc
 against-upgrade entries name label policy other (upgrades_none n l p is none r) =
-    let names : n ≡ name = cc in inl (ap order_of r, λ has. none (subst (λ (m : List ℕ). Contains (names_of entries) m) (sym names) has))
+    let names : n ≡ name = cc in inl (ap refusal_rank r, λ has. none (subst (λ (m : List ℕ). Contains (names_of entries) m) (sym names) has))
 against-upgrade entries name label policy other (is_taken a n l p is some r) = absurd cc
 against-upgrade entries name label policy other (is_past a n l p is past r) = absurd cc
 against-upgrade entries name label policy other (is_full a n l p is more r) = absurd cc
 against-upgrade entries name label policy other (is_other n l p e is there named differs r) =
     let names : n ≡ name = cc in
     let policies : p ≡ policy = cc in
-    inr (ap order_of r, (e, there, named ∙ names, subst (λ (q : Policy). is_same_kind e.policy q ≡ false) policies differs))
+    inr (ap refusal_rank r, (e, there, named ∙ names, subst (λ (q : Policy). is_same_kind e.policy q ≡ false) policies differs))
 
 abbrev Upgraded : Chain → List ℕ → List ℕ → Policy → Type 0
-Upgraded before name label policy = ((after : Chain) × Changes before (Upgrade name label policy) after) ⊎ ((refusal : Refusal) × Refuses before (Upgrade name label policy) refusal)
+Upgraded before name label policy = ((after : Chain) × HasChanged before (Upgrade name label policy) after) ⊎ ((refusal : Refusal) × IsRejection before (Upgrade name label policy) refusal)
 
 upgrade-by : (before : Chain) (name label : List ℕ) (policy : Policy) (front back : List Entry) (e : Entry) (b : Bool) → is_same_kind e.policy policy ≡ b
     → IsChain before → before.entries ≡ front ++ e ∷ back → e.name ≡ name → Contains (names_of before.entries) name → Upgraded before name label policy
@@ -302,7 +302,7 @@ upgrade-by before name label policy front back e true kind chain whole is some =
           | inl none ↦ none.1 some
           | inr differs ↦ apart-kinds (one_entry before.entries front back e differs.1.0 chain.names whole differs.1.1 (differs.1.2 ∙ sym is)) differs.1.3
         ];
-        makes = upgrades name label policy e front back refl whole is refl;
+        effect = upgrades name label policy e front back refl whole is refl;
       },
     )
   where
@@ -334,7 +334,7 @@ either-upgrade before name label policy chain = elim (named name (names_of befor
         × (before.entries ≡ front ++ e ∷ back) × (e.name ≡ name) → Upgraded before name label policy
     by-cut some cut = upgrade-by before name label policy cut.0 cut.2 cut.1 (is_same_kind cut.1.policy policy) refl chain cut.3 cut.4 some
 
-pub either : (before : Chain) (op : Op) → IsChain before → ((after : Chain) × Changes before op after) ⊎ ((refusal : Refusal) × Refuses before op refusal)
+pub either : (before : Chain) (op : Op) → IsChain before → ((after : Chain) × HasChanged before op after) ⊎ ((refusal : Refusal) × IsRejection before op refusal)
 either before (Attach at name label policy) chain = either-attach before at name label policy
 either before (Detach name) chain = either-detach before name
 either before (Upgrade name label policy) chain = either-upgrade before name label policy chain
@@ -400,7 +400,7 @@ above-all : (ns : List ℕ) (n : ℕ) → All (λ a. a ≤ n) ns → Contains ns
 above-all ns n few has = omega (arith, All-contains (λ a. a ≤ n) ns (n + 1) few has)
 
 stays-attached : (before : Chain) (at : ℕ) (name label : List ℕ) (policy : Policy) (front back : List Entry) → IsChain before
-    → ((refusal : Refusal) → IsAgainst before.entries (Attach at name label policy) refusal → ⊥) → before.entries ≡ front ++ back
+    → ((refusal : Refusal) → IsReasonToReject before.entries (Attach at name label policy) refusal → ⊥) → before.entries ≡ front ++ back
     → IsChain (record { entries = front ++ new_entry name (before.attached + 1) policy ∷ back; attached = before.attached + 1 })
 stays-attached before at name label policy front back chain free whole =
     let few : length before.entries < 8 =
@@ -439,14 +439,14 @@ stays-upgraded before e policy front back chain whole = record {
   numbered = rw (map-replace (λ (f : Entry). f.attach) front back (upgraded e policy) e refl) (rw whole at chain.numbered);
 }
 
-stays-made : (before after : Chain) (op : Op) → IsChain before → ((refusal : Refusal) → IsAgainst before.entries op refusal → ⊥) → Makes before op after → IsChain after
+stays-made : (before after : Chain) (op : Op) → IsChain before → ((refusal : Refusal) → IsReasonToReject before.entries op refusal → ⊥) → IsChangeOf before op after → IsChain after
 stays-made before after op chain free (attaches at name label policy front back is whole at_is result) =
     rw result (stays-attached before at name label policy front back chain (λ refusal against. free refusal (rw is against)) whole)
 stays-made before after op chain free (detaches name e front back is whole named result) = rw result (stays-detached before e front back chain whole)
 stays-made before after op chain free (upgrades name label policy e front back is whole named result) = rw result (stays-upgraded before e policy front back chain whole)
 
-pub stays_chain : (before after : Chain) (op : Op) → IsChain before → Changes before op after → IsChain after
-stays_chain before after op chain changes = stays-made before after op chain changes.free changes.makes
+pub stays_chain : (before after : Chain) (op : Op) → IsChain before → HasChanged before op after → IsChain after
+stays_chain before after op chain changes = stays-made before after op chain changes.free changes.effect
 
 -- ---- the effect of an operation, as a function
 
@@ -497,7 +497,7 @@ drop-front : (front back : List Entry) → drop (length front) (front ++ back) �
 drop-front [] back = refl
 drop-front (x ∷ front) back = drop-front front back
 
-pub is-changed : (before after : Chain) (op : Op) → IsChain before → Makes before op after → after ≡ changed op before
+pub is-changed : (before after : Chain) (op : Op) → IsChain before → IsChangeOf before op after → after ≡ changed op before
 is-changed before after op chain (attaches at name label policy front back is whole at_is result) =
     let fronts : take at before.entries ≡ front = rw (whole, ← at_is) (take-front front back) in
     let backs : drop at before.entries ≡ back = rw (whole, ← at_is) (drop-front front back) in
@@ -509,8 +509,8 @@ is-changed before after op chain (upgrades name label policy e front back is who
     let left : map (upgraded_where name policy) before.entries ≡ front ++ upgraded e policy ∷ back = rw whole (map-one name policy front back e (rw whole at chain.names) named) in
     rw (result, is, left) refl
 
-pub changes-unless : (before : Chain) (op : Op) → IsChain before → ((refusal : Refusal) → Refuses before op refusal → ⊥) → Changes before op (changed op before)
+pub changes-unless : (before : Chain) (op : Op) → IsChain before → ((refusal : Refusal) → IsRejection before op refusal → ⊥) → HasChanged before op (changed op before)
 changes-unless before op chain free = elim (either before op chain) [
-  | inl made ↦ subst (λ (after : Chain). Changes before op after) (is-changed before made.0 op chain made.1.makes) made.1
+  | inl made ↦ subst (λ (after : Chain). HasChanged before op after) (is-changed before made.0 op chain made.1.effect) made.1
   | inr refused ↦ absurd (free refused.0 refused.1)
 ]

@@ -3,7 +3,7 @@ use Rattle.std.proofs.Common.{◌≡◌, ℕ, ◌+◌, ◌-◌, ◌<◌, max, Li
 use Rattle.std.proofs.lemmas.List.{drop-drop, drop-set-lt, map_more, take_more_set}
 use Rattle.engine_core.specs.Chains.{Entry}
 use Rattle.engine_core.specs.Engines.{EngineParts, clocked}
-use Rattle.engine_core.specs.Policies.{level_at}
+use Rattle.engine_core.specs.Policies.{level_after_time}
 
 -- ---- one more engine
 
@@ -25,9 +25,9 @@ pub others-one-more : {X : Type 0} (items init : List X) (i : ℕ) (y : X) → d
 others-one-more {X = X} items init i y others =
     drop-set-lt (i + 1) items i y (omega arith) ∙ (sym (drop-drop 1 i items) ∙ (ap (λ (zs : List X). drop 1 zs) others ∙ drop-drop 1 i init))
 
-pub clocked-is : (now : ℕ) (e e' : EngineParts) → e'.entry ≡ e.entry → e'.level ≡ level_at e.entry.policy e.level (now - e.last)
+pub clocked-is : (now : ℕ) (e e' : EngineParts) → e'.entry ≡ e.entry → e'.level ≡ level_after_time e.entry.policy e.level (now - e.last)
     → e'.last ≡ max e.last now → e' ≡ clocked now e
 clocked-is now e e' entry level last =
     ap {B = EngineParts} (λ (x : Entry). record { entry = x; level = e'.level; last = e'.last }) entry
     ∙ (ap {B = EngineParts} (λ (l : ℕ). record { entry = e.entry; level = l; last = e'.last }) level
-    ∙ ap {B = EngineParts} (λ (m : ℕ). record { entry = e.entry; level = level_at e.entry.policy e.level (now - e.last); last = m }) last)
+    ∙ ap {B = EngineParts} (λ (m : ℕ). record { entry = e.entry; level = level_after_time e.entry.policy e.level (now - e.last); last = m }) last)

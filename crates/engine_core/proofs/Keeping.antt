@@ -9,8 +9,8 @@ use Rattle.std.specs.List.{list_any}
 use Rattle.engine_core.specs.Engines.{EngineParts}
 use Rattle.engine_core.specs.Marks.{IsOneEach, note_of, other_marks}
 use Rattle.engine_core.specs.declared.mark.Mark.{Mark}
-use Rattle.engine_core.specs.declared.mark.Note.{Note}
-use Rattle.engine_core.specs.declared.mark.Note.TheVariants.{Counted}
+use Rattle.engine_core.specs.declared.mark.MarkNote.{MarkNote}
+use Rattle.engine_core.specs.declared.mark.MarkNote.TheVariants.{Counted}
 use Rattle.engine_core.proofs.MarkLemmas.{find-kept, none-other, swapped, IsOneEach-filter}
 
 -- one of the engines has the attachment, or one of the marks
@@ -75,7 +75,7 @@ behind-first e es b ms true at has known = grind (arith, nat_tests, common_steps
 behind-first e es b ms false at has known = grind (arith, nat_tests, common_steps)
 
 -- a mark after those of the others
-abbrev joined : ℕ → Note → List Mark → List Mark
+abbrev joined : ℕ → MarkNote → List Mark → List Mark
 joined a n ms = other_marks a ms ++ record { attach = a; note = n } ∷ []
 
 any-push : {X : Type 0} (t : X → Bool) (xs : List X) (y : X) → list_any t xs ≡ false → t y ≡ false → list_any t (xs ++ y ∷ []) ≡ false
@@ -93,7 +93,7 @@ IsOneEach-push [] m one new = (refl, tt)
 IsOneEach-push (n ∷ ms) m one new =
     (any-push (λ o. o.attach == n.attach) ms m one.0 (swapped n.attach m.attach (first-false _ _ new)), IsOneEach-push ms m one.1 (second-false _ _ new))
 
-IsOneEach-joined : (a : ℕ) (n : Note) (ms : List Mark) → IsOneEach ms → IsOneEach (joined a n ms)
+IsOneEach-joined : (a : ℕ) (n : MarkNote) (ms : List Mark) → IsOneEach ms → IsOneEach (joined a n ms)
 IsOneEach-joined a n ms one =
     IsOneEach-push (other_marks a ms) (record { attach = a; note = n }) (IsOneEach-filter (λ m. not (m.attach == a)) ms one) (none-other a ms)
 
@@ -134,7 +134,7 @@ known-by es ms b alone has false at = absurd (has-note b ms has (alone b (apart-
 known-of : (es : List EngineParts) (ms : List Mark) → HasMarks es ms → (b : ℕ) → has_mark ms b ≡ true → has_engine es b ≡ true
 known-of es ms alone b has = known-by es ms b alone has (has_engine es b) refl
 
-known-joined : (es : List EngineParts) (a b : ℕ) (ms : List Mark) (n : Note) → HasMarks es ms → has_engine es a ≡ true
+known-joined : (es : List EngineParts) (a b : ℕ) (ms : List Mark) (n : MarkNote) → HasMarks es ms → has_engine es a ≡ true
     → has_mark (joined a n ms) b ≡ true → has_engine es b ≡ true
 known-joined es a b ms n alone known has = grind (
   arith,

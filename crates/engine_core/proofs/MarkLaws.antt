@@ -2,7 +2,7 @@
 use Rattle.std.proofs.Common.{◌≡◌, ◌+◌, false, true, None, refl, arith}
 use Rattle.engine_core.specs.Chains.{Entry, upgraded}
 use Rattle.engine_core.specs.Answers.{Past, nothing}
-use Rattle.engine_core.specs.Marks.{StandingCall, IsSilent, IsTrueFor, note_of, past_of}
+use Rattle.engine_core.specs.Marks.{PendingCall, IsSilent, IsTrueFor, note_of, past_of}
 use Rattle.engine_core.specs.Policies.{is_same_kind}
 use Rattle.engine_core.specs.declared.policy.Policy.{Policy}
 use Rattle.engine_core.specs.declared.policy.Policy.TheVariants.{Access, Rate, Quota, Count, Redact}
@@ -18,7 +18,7 @@ no_mark : {X : Type 0} → false ≡ true → X
 no_mark impossible = absurd cc
 
 -- if there is no mark of its attachment
-pub unmarked-true : (e : Entry) (s : StandingCall) → note_of s.marks e.attach ≡ None → IsTrueFor e s
+pub unmarked-true : (e : Entry) (s : PendingCall) → note_of s.marks e.attach ≡ None → IsTrueFor e s
 unmarked-true e s none = record {
   silent = rw none (nothing-silent e.policy);
   present = λ v is. no_mark (rw none at is);
@@ -37,7 +37,7 @@ silent-under old Count past kind silent = tt
 silent-under old (Redact clears) past kind silent = tt
 
 -- after an upgrade, since no mark has the new version
-pub upgraded-true : (e : Entry) (policy : Policy) (s : StandingCall) → is_same_kind e.policy policy ≡ true → IsTrueFor e s → IsTrueFor (upgraded e policy) s
+pub upgraded-true : (e : Entry) (policy : Policy) (s : PendingCall) → is_same_kind e.policy policy ≡ true → IsTrueFor e s → IsTrueFor (upgraded e policy) s
 upgraded-true e policy s kind h = record {
   silent = silent-under e.policy policy (past_of s.marks e.attach) kind h.silent;
   present = λ v is. omega (arith, h.present v is);

@@ -8,22 +8,22 @@ use Rattle.std.proofs.lemmas.List.Quantifiers.{position-Some}
 use Rattle.std.proofs.lemmas.List.Sums.{fails_before_first}
 use Rattle.std.specs.List.{list_any, position_or_len}
 use Rattle.engine_core.specs.Marks.{IsOneEach, is_allowed, is_allowing, note_of, other_marks, past_of}
-use Rattle.engine_core.specs.Steps.{IsUnallowed, marked}
+use Rattle.engine_core.specs.EngineSteps.{IsUnallowed, marks_with}
 use Rattle.engine_core.specs.declared.mark.Mark.{Mark}
-use Rattle.engine_core.specs.declared.mark.Note.{Note}
-use Rattle.engine_core.specs.declared.mark.Note.TheVariants.{Allowed, Charged, Drawn, Counted}
+use Rattle.engine_core.specs.declared.mark.MarkNote.{MarkNote}
+use Rattle.engine_core.specs.declared.mark.MarkNote.TheVariants.{Allowed, Charged, Drawn, Counted}
 
 pub find-kept : (p : ℕ → Bool) (b : ℕ) (ms : List Mark) → find (λ m. m.attach == b) (filter (λ m. p m.attach) ms) ≡ (if p b then find (λ m. m.attach == b) ms else None)
 find-kept p b [] = grind (arith, common_steps)
 find-kept p b (m ∷ ms) = grind (arith, nat_tests, common_steps, find-kept p b ms)
 
 -- the mark that was set
-pub note_of-marked : (a : ℕ) (n : Note) (ms : List Mark) → note_of (marked a n ms) a ≡ Some n
+pub note_of-marked : (a : ℕ) (n : MarkNote) (ms : List Mark) → note_of (marks_with a n ms) a ≡ Some n
 note_of-marked a n [] = grind (arith, nat_tests, common_steps)
 note_of-marked a n (m ∷ ms) = grind (arith, nat_tests, common_steps, note_of-marked a n ms)
 
 -- the marks of the others
-pub note_of-marked-other : (a b : ℕ) (n : Note) (ms : List Mark) → b ≢ a → note_of (marked a n ms) b ≡ note_of ms b
+pub note_of-marked-other : (a b : ℕ) (n : MarkNote) (ms : List Mark) → b ≢ a → note_of (marks_with a n ms) b ≡ note_of ms b
 note_of-marked-other a b n [] other = grind (arith, nat_tests, common_steps)
 note_of-marked-other a b n (m ∷ ms) other = grind (arith, nat_tests, common_steps, note_of-marked-other a b n ms other)
 
@@ -47,8 +47,8 @@ none-other a [] = refl
 none-other a (m ∷ ms) = grind (arith, nat_tests, common_steps, none-other a ms)
 
 -- if no mark is of an attachment, none is after setting another's mark
-any-marked : (a b : ℕ) (n : Note) (ms : List Mark) → (a == b) ≡ false → list_any (λ m. m.attach == b) ms ≡ false
-    → list_any (λ m. m.attach == b) (marked a n ms) ≡ false
+any-marked : (a b : ℕ) (n : MarkNote) (ms : List Mark) → (a == b) ≡ false → list_any (λ m. m.attach == b) ms ≡ false
+    → list_any (λ m. m.attach == b) (marks_with a n ms) ≡ false
 any-marked a b n [] other none = grind (arith, nat_tests, common_steps)
 any-marked a b n (m ∷ ms) other none = grind (arith, nat_tests, common_steps, any-marked a b n ms other)
 
@@ -58,13 +58,13 @@ swapped a b apart = grind (arith, nat_tests, common_steps)
 equal-is : (a b : ℕ) → (a == b) ≡ true → a ≡ b
 equal-is a b same = grind (arith, nat_tests, common_steps)
 
-IsOneEach-first : (a : ℕ) (n : Note) (m : Mark) (ms : List Mark) (b : Bool) → (m.attach == a) ≡ b → IsOneEach (m ∷ ms) → IsOneEach (marked a n ms)
-    → IsOneEach (cond b (record { attach = a; note = n } ∷ ms) (m ∷ marked a n ms))
+IsOneEach-first : (a : ℕ) (n : MarkNote) (m : Mark) (ms : List Mark) (b : Bool) → (m.attach == a) ≡ b → IsOneEach (m ∷ ms) → IsOneEach (marks_with a n ms)
+    → IsOneEach (cond b (record { attach = a; note = n } ∷ ms) (m ∷ marks_with a n ms))
 IsOneEach-first a n m ms true is one behind =
     (subst (λ (b : ℕ). list_any (λ k. k.attach == b) ms ≡ false) (equal-is m.attach a is) one.0, one.1)
 IsOneEach-first a n m ms false is one behind = (any-marked a m.attach n ms (swapped m.attach a is) one.0, behind)
 
-pub IsOneEach-marked : (a : ℕ) (n : Note) (ms : List Mark) → IsOneEach ms → IsOneEach (marked a n ms)
+pub IsOneEach-marked : (a : ℕ) (n : MarkNote) (ms : List Mark) → IsOneEach ms → IsOneEach (marks_with a n ms)
 IsOneEach-marked a n [] one = (refl, tt)
 IsOneEach-marked a n (m ∷ ms) one = IsOneEach-first a n m ms (m.attach == a) refl one (IsOneEach-marked a n ms one.1)
 
@@ -89,8 +89,8 @@ note-at a (suc i) (k ∷ ms) m one at is =
     grind (arith, nat_tests, common_steps, note-at a i ms m one.1 there is)
 
 -- a mark that replaces the first one of an attachment
-put-first : (a i : ℕ) (n : Note) (d : Mark) (ms : List Mark) → i < length ms → ((get_or ms i d).attach == a) ≡ true
-    → ((k : ℕ) → k < i → ((get_or ms k d).attach == a) ≡ false) → set ms i (record { attach = a; note = n }) ≡ marked a n ms
+put-first : (a i : ℕ) (n : MarkNote) (d : Mark) (ms : List Mark) → i < length ms → ((get_or ms i d).attach == a) ≡ true
+    → ((k : ℕ) → k < i → ((get_or ms k d).attach == a) ≡ false) → set ms i (record { attach = a; note = n }) ≡ marks_with a n ms
 put-first a i n d [] within at before = absurd (omega arith)
 put-first a zero n d (m ∷ ms) within at before =
     let mine : (m.attach == a) ≡ true = at in
@@ -100,8 +100,8 @@ put-first a (suc i) n d (m ∷ ms) within at before =
     rw other (ap (λ ks. m ∷ ks) (put-first a i n d ms (omega (arith, within)) at (λ k lt. before (suc k) (omega (arith, lt)))))
 
 -- a mark that is appended to those of others
-put-behind : (a : ℕ) (n : Note) (d : Mark) (ms : List Mark) → ((k : ℕ) → k < length ms → ((get_or ms k d).attach == a) ≡ false)
-    → ms ++ record { attach = a; note = n } ∷ [] ≡ marked a n ms
+put-behind : (a : ℕ) (n : MarkNote) (d : Mark) (ms : List Mark) → ((k : ℕ) → k < length ms → ((get_or ms k d).attach == a) ≡ false)
+    → ms ++ record { attach = a; note = n } ∷ [] ≡ marks_with a n ms
 put-behind a n d [] none = refl
 put-behind a n d (m ∷ ms) none =
     let other : (m.attach == a) ≡ false = none 0 (omega arith) in
@@ -121,14 +121,14 @@ all-others a d (m ∷ ms) none =
     grind (arith, nat_tests, common_steps, all-others a d ms (λ k lt. none (suc k) (omega (arith, lt))))
 
 -- the mark of an attachment, by its index
-pub marked-at : (a i : ℕ) (n : Note) (ms : List Mark) → position (λ m. m.attach == a) ms ≡ Some i → set ms i (record { attach = a; note = n }) ≡ marked a n ms
+pub marked-at : (a i : ℕ) (n : MarkNote) (ms : List Mark) → position (λ m. m.attach == a) ms ≡ Some i → set ms i (record { attach = a; note = n }) ≡ marks_with a n ms
 marked-at a i n ms at =
     let new : Mark = record { attach = a; note = n } in
     let there = position-Some (λ (m : Mark). m.attach == a) ms i new at in
     put-first a i n new ms there.0 there.1 there.2
 
 -- and if it has none
-pub marked-behind : (a : ℕ) (n : Note) (ms : List Mark) → position (λ m. m.attach == a) ms ≡ None → ms ++ record { attach = a; note = n } ∷ [] ≡ marked a n ms
+pub marked-behind : (a : ℕ) (n : MarkNote) (ms : List Mark) → position (λ m. m.attach == a) ms ≡ None → ms ++ record { attach = a; note = n } ∷ [] ≡ marks_with a n ms
 marked-behind a n ms none =
     let new : Mark = record { attach = a; note = n } in
     put-behind a n new ms (λ k lt. no-place a ms none new k lt)
@@ -147,7 +147,7 @@ none-kept b [] none = refl
 none-kept b (m ∷ ms) none = grind (arith, common_steps, none-kept b ms)
 
 -- the first of the marks is removed, or kept
-past-first : (b : ℕ) (m : Mark) (ms : List Mark) (n : Note) → m.note ≡ n → (mine : Bool) → (m.attach == b) ≡ mine → (mine ≡ true → find (λ m. m.attach == b) ms ≡ None)
+past-first : (b : ℕ) (m : Mark) (ms : List Mark) (n : MarkNote) → m.note ≡ n → (mine : Bool) → (m.attach == b) ≡ mine → (mine ≡ true → find (λ m. m.attach == b) ms ≡ None)
     → past_of (filter (λ m. not (is_allowing m.note)) ms) b ≡ past_of ms b
     → past_of (filter (λ m. not (is_allowing m.note)) (m ∷ ms)) b ≡ past_of (m ∷ ms) b
 past-first b m ms (Allowed v) is true at alone same = simp (is, at, none-kept b ms (alone refl)) refl
@@ -166,7 +166,7 @@ past-unallowed : (b : ℕ) (ms : List Mark) → IsOneEach ms → past_of (filter
 past-unallowed b [] one = refl
 past-unallowed b (m ∷ ms) one = past-first b m ms m.note refl (m.attach == b) refl (alone-first b m ms one.0) (past-unallowed b ms one.1)
 
-allowed-first : (b v : ℕ) (m : Mark) (ms : List Mark) (n : Note) → m.note ≡ n → (mine : Bool) → (m.attach == b) ≡ mine
+allowed-first : (b v : ℕ) (m : Mark) (ms : List Mark) (n : MarkNote) → m.note ≡ n → (mine : Bool) → (m.attach == b) ≡ mine
     → is_allowed (filter (λ m. not (is_allowing m.note)) ms) b v ≡ false
     → is_allowed (filter (λ m. not (is_allowing m.note)) (m ∷ ms)) b v ≡ false
 allowed-first b v m ms (Allowed w) is mine at none = simp is none
@@ -186,7 +186,7 @@ length-filter_filter p q [] = omega arith
 length-filter_filter p q (x ∷ xs) = grind (arith, common_steps, length-filter_filter p q xs)
 
 -- the marks of the others, after one is set
-pub other_marks-marked : (a : ℕ) (n : Note) (ms : List Mark) → length (other_marks a (marked a n ms)) ≤ length (other_marks a ms)
+pub other_marks-marked : (a : ℕ) (n : MarkNote) (ms : List Mark) → length (other_marks a (marks_with a n ms)) ≤ length (other_marks a ms)
 other_marks-marked a n [] = grind (arith, nat_tests, common_steps)
 other_marks-marked a n (m ∷ ms) = grind (arith, nat_tests, common_steps, other_marks-marked a n ms)
 

@@ -1,8 +1,8 @@
 -- A turn has one outcome.
 use Rattle.std.proofs.Common.{◌≡◌, ℕ, None, refl, ap, sym, ◌∙◌, subst}
 use Rattle.mrpc_table.specs.declared.call.Call.{Call}
-use Rattle.engine_core.specs.Answers.{Past, Answer, pass, deny, hold, refuse, over, note, redact, ticket_in, Answers, level_left, past_after}
-use Rattle.engine_core.specs.Turns.{ComesOut, passes, is_noted, is_held, is_refused, is_noted_and_refused, is_redacted, noted_in}
+use Rattle.engine_core.specs.Answers.{Past, Answer, pass, deny, hold, refuse, over, note, redact, ticket_in, IsEntryAnswer, level_after_note, past_after}
+use Rattle.engine_core.specs.Turns.{IsTurnOutcome, passes, is_noted_and_passes, is_held, is_refused, is_noted_and_refused, is_redacted, noted_in}
 use Rattle.engine_core.specs.declared.policy.Policy.{Policy}
 use Rattle.engine_core.specs.declared.outcome.Noted.{Noted}
 use Rattle.engine_core.specs.declared.outcome.Noted.TheVariants.{Nothing}
@@ -13,7 +13,7 @@ use Rattle.engine_core.proofs.AnswerLaws.{allows_at_any_time, one_answer}
 
 -- the level and the note after an answer
 abbrev level_by : Answer → ℕ → ℕ
-level_by (note n) level = level_left n level
+level_by (note n) level = level_after_note n level
 level_by _ level = level
 
 abbrev past_by : Answer → Past → Past
@@ -39,18 +39,18 @@ outcome_by redact last = Redacted
 record Parts (policy : Policy) (level moment : ℕ) (form : Call) (past : Past) (outcome : Outcome) : Type 0 where
   first : Answer
   last : Answer
-  answers : Answers policy level moment form past first
-  then : Answers policy (level_by first level) moment form (past_by first past) last
+  answers : IsEntryAnswer policy level moment form past first
+  then : IsEntryAnswer policy (level_by first level) moment form (past_by first past) last
   no_draw : ticket_in last ≡ None
   is : outcome ≡ outcome_by first last
 
-alone : {policy : Policy} {level moment : ℕ} {form : Call} {past : Past} {outcome : Outcome} (a : Answer) → Answers policy level moment form past a
-    → Answers policy (level_by a level) moment form (past_by a past) a → ticket_in a ≡ None → outcome ≡ outcome_by a a → Parts policy level moment form past outcome
+alone : {policy : Policy} {level moment : ℕ} {form : Call} {past : Past} {outcome : Outcome} (a : Answer) → IsEntryAnswer policy level moment form past a
+    → IsEntryAnswer policy (level_by a level) moment form (past_by a past) a → ticket_in a ≡ None → outcome ≡ outcome_by a a → Parts policy level moment form past outcome
 alone a answers then no_draw is = record { first = a; last = a; answers = answers; then = then; no_draw = no_draw; is = is }
 
-parts : (policy : Policy) (level moment : ℕ) (form : Call) (past : Past) (a : Outcome) → ComesOut policy level moment form past a → Parts policy level moment form past a
+parts : (policy : Policy) (level moment : ℕ) (form : Call) (past : Past) (a : Outcome) → IsTurnOutcome policy level moment form past a → Parts policy level moment form past a
 parts policy level moment form past a (passes first out) = alone pass first first refl out
-parts policy level moment form past a (is_noted n first last out) = record { first = note n; last = pass; answers = first; then = last; no_draw = refl; is = out }
+parts policy level moment form past a (is_noted_and_passes n first last out) = record { first = note n; last = pass; answers = first; then = last; no_draw = refl; is = out }
 parts policy level moment form past a (is_held l cost first out) = alone (hold l cost) first first refl out
 parts policy level moment form past a (is_refused (Denied rule) first out) = alone (deny rule) first first refl out
 parts policy level moment form past a (is_refused (Short l cost) first out) = alone (refuse l cost) first first refl out
@@ -82,7 +82,7 @@ ticket-first (over ticket cap) last = refl
 ticket-first (note n) last = ap (λ (m : Noted). ticket_in (note m)) (ticket-behind n last)
 ticket-first redact last = refl
 
-pub one_outcome : (policy : Policy) (level moment : ℕ) (form : Call) (past : Past) (a b : Outcome) → ComesOut policy level moment form past a → ComesOut policy level moment form past b
+pub one_outcome : (policy : Policy) (level moment : ℕ) (form : Call) (past : Past) (a b : Outcome) → IsTurnOutcome policy level moment form past a → IsTurnOutcome policy level moment form past b
     → ticket_in (note (noted_in a)) ≡ ticket_in (note (noted_in b)) → a ≡ b
 one_outcome policy level moment form past a b left right same =
     let p = parts policy level moment form past a left in
@@ -92,18 +92,18 @@ one_outcome policy level moment form past a b left right same =
     ∙ (same ∙ (ap (λ (o : Outcome). ticket_in (note (noted_in o))) q.is ∙ ticket-first q.first q.last))) in
     let firsts : p.first ≡ q.first = one_answer policy level moment form past p.first q.first p.answers q.answers tickets in
     let lasts : p.last ≡ q.last = one_answer policy (level_by q.first level) moment form (past_by q.first past) p.last q.last
-    (subst (λ (x : Answer). Answers policy (level_by x level) moment form (past_by x past) p.last) firsts p.then) q.then (p.no_draw ∙ sym q.no_draw) in
+    (subst (λ (x : Answer). IsEntryAnswer policy (level_by x level) moment form (past_by x past) p.last) firsts p.then) q.then (p.no_draw ∙ sym q.no_draw) in
     p.is ∙ (ap (λ (x : Answer). outcome_by x p.last) firsts ∙ (ap (λ (x : Answer). outcome_by q.first x) lasts ∙ sym q.is))
 
 -- what passed is allowed
-pub passed_is_allowed : (policy : Policy) (level moment other later : ℕ) (form : Call) (past : Past) (n : Noted) → ComesOut policy level moment form past (Passed n)
-    → Answers policy other later form (past_after n past) pass
+pub passed_is_allowed : (policy : Policy) (level moment other later : ℕ) (form : Call) (past : Past) (n : Noted) → IsTurnOutcome policy level moment form past (Passed n)
+    → IsEntryAnswer policy other later form (past_after n past) pass
 passed_is_allowed policy level moment other later form past n (passes first out) =
     let none : n ≡ Nothing = cc in
     rw none (allows_at_any_time policy level moment other later form past first)
-passed_is_allowed policy level moment other later form past n (is_noted m first last out) =
+passed_is_allowed policy level moment other later form past n (is_noted_and_passes m first last out) =
     let same : n ≡ m = cc in
-    rw same (allows_at_any_time policy (level_left m level) moment other later form (past_after m past) last)
+    rw same (allows_at_any_time policy (level_after_note m level) moment other later form (past_after m past) last)
 passed_is_allowed policy level moment other later form past n (is_held l cost first out) = absurd cc
 passed_is_allowed policy level moment other later form past n (is_refused why first out) = absurd cc
 passed_is_allowed policy level moment other later form past n (is_noted_and_refused m why first last out) = absurd cc

@@ -3,9 +3,9 @@ use Rattle.std.proofs.Common.{◌≡◌, ◌<◌, ℕ, zero, suc, Bool, true, fa
 use Rattle.std.proofs.lemmas.Option.{slice_get_read}
 use Rattle.std.specs.Bool.{OnTrue}
 use Rattle.engine_core.specs.Engines.{EngineParts}
-use Rattle.engine_core.specs.Marks.{StandingCall}
-use Rattle.engine_core.specs.Steps.{Steps}
-use Rattle.engine_core.specs.Working.{HasOnlyMarksOf, Works}
+use Rattle.engine_core.specs.Marks.{PendingCall}
+use Rattle.engine_core.specs.EngineSteps.{IsEngineStep}
+use Rattle.engine_core.specs.Working.{HasOnlyMarksOf, HasWorked}
 use Rattle.engine_core.specs.declared.outcome.Noted.TheVariants.{Nothing}
 use Rattle.engine_core.specs.declared.outcome.Outcome.TheVariants.{Passed}
 use Rattle.engine_core.proofs.Turning.{turn-step, engine-step, call-step, marks-step}
@@ -24,16 +24,16 @@ same-set (y ∷ ys) zero x at = cc
 same-set (y ∷ ys) (suc i) x at = ap (λ zs. y ∷ zs) (same-set ys i x at)
 
 -- the call that the code reads at an index is the one that callers see there
-pub seen-at : (items calls : List StandingCall) (j : ℕ) (s : StandingCall) → items ≡ calls → j < length calls → s ≡ slice_index_or items j s
+pub seen-at : (items calls : List PendingCall) (j : ℕ) (s : PendingCall) → items ≡ calls → j < length calls → s ≡ slice_index_or items j s
     → slice_get calls j ≡ Some s
-seen-at items calls j s same within read = subst (λ (calls : List StandingCall). slice_get calls j ≡ Some s) same
+seen-at items calls j s same within read = subst (λ (calls : List PendingCall). slice_get calls j ≡ Some s) same
     (slice_get_read items (length items) j s refl (rw same within) read)
 
 -- the engine is unchanged, and the call may have one more mark
-pub works-unnoted : (es : List EngineParts) (calls calls' : List StandingCall) (p j moment : ℕ) (e : EngineParts) (s s' : StandingCall)
+pub works-unnoted : (es : List EngineParts) (calls calls' : List PendingCall) (p j moment : ℕ) (e : EngineParts) (s s' : PendingCall)
     → slice_get es p ≡ Some e → slice_get calls j ≡ Some s → HasOnlyMarksOf es s → calls' ≡ set calls j s'
-    → Steps e.entry.policy e.entry.attach e.entry.version e.level moment s s' e.level (Passed Nothing)
-    → Works es calls p j moment (Passed Nothing) es calls'
+    → IsEngineStep e.entry.policy e.entry.attach e.entry.version e.level moment s s' e.level (Passed Nothing)
+    → HasWorked es calls p j moment (Passed Nothing) es calls'
 works-unnoted es calls calls' p j moment e s s' is_engine is_call marks same step = record {
   engine = e;
   engine' = e;

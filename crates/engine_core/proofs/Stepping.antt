@@ -4,10 +4,10 @@ use Rattle.std.proofs.lemmas.Bool.{cases_lt}
 use Rattle.policy_rate.specs.declared.bucket.Step.{Step}
 use Rattle.policy_rate.specs.declared.bucket.Step.TheVariants.{Pass, Short}
 use Rattle.engine_core.specs.Answers.{drawn}
-use Rattle.engine_core.specs.Marks.{StandingCall, past_of}
-use Rattle.engine_core.specs.Steps.{Steps, with_mark, is_within, is_over, draws_within, draws_over}
+use Rattle.engine_core.specs.Marks.{PendingCall, past_of}
+use Rattle.engine_core.specs.EngineSteps.{IsEngineStep, with_mark, is_within, is_over, draws_within, draws_over}
 use Rattle.engine_core.specs.declared.policy.Policy.TheVariants.{Quota}
-use Rattle.engine_core.specs.declared.mark.Note.TheVariants as marks
+use Rattle.engine_core.specs.declared.mark.MarkNote.TheVariants as marks
 use Rattle.engine_core.specs.declared.outcome.Noted.TheVariants.{Nothing, Drawn}
 use Rattle.engine_core.specs.declared.outcome.Why.TheVariants.{Over}
 use Rattle.engine_core.specs.declared.outcome.Outcome.{Outcome}
@@ -26,9 +26,9 @@ falls_short cost level s left l c pass is = elim (cases_lt level cost) [ inl les
   unequal other = cc
 
 -- a call whose ticket was drawn before
-pub ticket_again : (tenant per cap attach version level moment ticket : ℕ) (s : StandingCall) (outcome : Outcome) → past_of s.marks attach ≡ drawn ticket
+pub ticket_again : (tenant per cap attach version level moment ticket : ℕ) (s : PendingCall) (outcome : Outcome) → past_of s.marks attach ≡ drawn ticket
     → (ticket < cap → outcome ≡ Passed Nothing) → (cap ≤ ticket → outcome ≡ Refused Nothing (Over ticket cap))
-    → Steps (Quota tenant per cap) attach version level moment s s level outcome
+    → IsEngineStep (Quota tenant per cap) attach version level moment s s level outcome
 ticket_again tenant per cap attach version level moment ticket s outcome past within over =
     elim (cases_lt ticket cap) [
       | inl less ↦ is_within tenant per cap ticket refl past less
@@ -37,10 +37,10 @@ ticket_again tenant per cap attach version level moment ticket s outcome past wi
     ]
 
 -- a call whose ticket is drawn now
-pub ticket_now : (tenant per cap attach version level moment ticket : ℕ) (old new : StandingCall) (outcome : Outcome) → ((t : ℕ) → past_of old.marks attach ≢ drawn t)
+pub ticket_now : (tenant per cap attach version level moment ticket : ℕ) (old new : PendingCall) (outcome : Outcome) → ((t : ℕ) → past_of old.marks attach ≢ drawn t)
     → new ≡ with_mark attach (marks.Drawn ticket) old
     → (ticket < cap → outcome ≡ Passed (Drawn (min (moment / per) 1023) ticket)) → (cap ≤ ticket → outcome ≡ Refused (Drawn (min (moment / per) 1023) ticket) (Over ticket cap))
-    → Steps (Quota tenant per cap) attach version level moment old new level outcome
+    → IsEngineStep (Quota tenant per cap) attach version level moment old new level outcome
 ticket_now tenant per cap attach version level moment ticket old new outcome past is within over =
     elim (cases_lt ticket cap) [
       | inl less ↦ draws_within tenant per cap ticket refl past less

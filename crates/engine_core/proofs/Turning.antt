@@ -8,26 +8,26 @@ use Rattle.mrpc_table.specs.Weight.{weight}
 use Rattle.mrpc_table.specs.declared.table.Table.{Table}
 use Rattle.mrpc_table.specs.Calls.{IsCallOf}
 use Rattle.policy_access.specs.Verdict.{AccessPolicy, verdict}
-use Rattle.policy_rate.specs.Level.{BucketHappening, charge, rate_after}
+use Rattle.policy_rate.specs.Level.{BucketEvent, charge, rate_after}
 use Rattle.policy_rate.specs.Level as bucket
 use Rattle.policy_rate.specs.declared.rate.Rate.{Rate as RatePolicy}
 use Rattle.engine_core.specs.Policies.{IsAccess, KnowsTenantOf}
 use Rattle.engine_core.specs.Chains.{Entry}
-use Rattle.engine_core.specs.Engines.{EngineParts, HasPast, past_behind}
-use Rattle.engine_core.specs.Working.{IsAllowance, IsTurn, LeavesCall, LeavesEngine, LeavesMarks}
-use Rattle.engine_core.specs.Answers.{nothing, level_left, past_after}
+use Rattle.engine_core.specs.Engines.{EngineParts, IsHistoryOfBucket, past_after_note}
+use Rattle.engine_core.specs.Working.{IsAllowance, IsTurn, IsCallAfter, IsEngineAfter, AreMarksAfterTurn}
+use Rattle.engine_core.specs.Answers.{nothing, level_after_note, past_after}
 use Rattle.engine_core.specs.Answers as answers
-use Rattle.engine_core.specs.Marks.{StandingCall, IsAllowing, IsSilent, IsTrueFor, is_allowed, is_allowed_by, note_of, other_marks, past_by, past_of}
-use Rattle.engine_core.specs.Turns.{ComesOut, form_after, is_redacted_by, noted_in}
+use Rattle.engine_core.specs.Marks.{PendingCall, IsAllowing, IsSilent, IsTrueFor, is_allowed, is_allowed_by, note_of, other_marks, past_by, past_of}
+use Rattle.engine_core.specs.Turns.{IsTurnOutcome, form_after, is_redacted_by, noted_in}
 use Rattle.engine_core.specs.Turns as turns
-use Rattle.engine_core.specs.Steps.{IsUnallowed, Steps, with_mark, was_allowed, allows, denies, was_charged, charges}
-use Rattle.engine_core.specs.Steps.{holds, refuses, is_within, is_over, draws_within, draws_over, was_counted, counts}
-use Rattle.engine_core.specs.Steps.{is_clear, redacts}
+use Rattle.engine_core.specs.EngineSteps.{IsUnallowed, IsEngineStep, with_mark, was_allowed, allows, denies, was_charged, charges}
+use Rattle.engine_core.specs.EngineSteps.{holds, refuses, is_within, is_over, draws_within, draws_over, was_counted, counts}
+use Rattle.engine_core.specs.EngineSteps.{is_clear, redacts}
 use Rattle.engine_core.specs.declared.policy.Policy.{Policy}
 use Rattle.engine_core.specs.declared.policy.Policy.TheVariants.{Access, Rate, Quota, Count, Redact}
 use Rattle.engine_core.specs.declared.outcome.Noted.{Noted}
-use Rattle.engine_core.specs.declared.mark.Note.{Note}
-use Rattle.engine_core.specs.declared.mark.Note.TheVariants as marks
+use Rattle.engine_core.specs.declared.mark.MarkNote.{MarkNote}
+use Rattle.engine_core.specs.declared.mark.MarkNote.TheVariants as marks
 use Rattle.engine_core.specs.declared.outcome.Outcome.{Outcome}
 use Rattle.engine_core.specs.declared.outcome.Outcome.TheVariants.{Passed, Refused, Redacted}
 use Rattle.engine_core.specs.declared.outcome.Noted.TheVariants.{Nothing, Charged, Drawn, Counted}
@@ -36,9 +36,9 @@ use Rattle.engine_core.proofs.AnswerLaws.{deciding-within}
 use Rattle.engine_core.proofs.MarkLemmas.{note_of-marked, note_of-marked-other, other_marks-marked}
 
 -- the level of the bucket afterwards
-pub level-step : (policy : Policy) (attach version level moment : ℕ) (old new : StandingCall) (left : ℕ) (outcome : Outcome)
-    → Steps policy attach version level moment old new left outcome
-    → left ≡ level_left (noted_in outcome) level
+pub level-step : (policy : Policy) (attach version level moment : ℕ) (old new : PendingCall) (left : ℕ) (outcome : Outcome)
+    → IsEngineStep policy attach version level moment old new left outcome
+    → left ≡ level_after_note (noted_in outcome) level
 level-step policy attach version level moment old new left outcome (was_allowed p is marked out same l) = rw out l
 level-step policy attach version level moment old new left outcome (allows p is unmarked allow out same l) = rw out l
 level-step policy attach version level moment old new left outcome (denies p is unmarked deny out same l) = rw out l
@@ -56,8 +56,8 @@ level-step policy attach version level moment old new left outcome (is_clear cle
 level-step policy attach version level moment old new left outcome (redacts clears is other_tree out form less fits taken l) = rw out l
 
 -- the form of the call
-pub form-step : (policy : Policy) (attach version level moment : ℕ) (old new : StandingCall) (left : ℕ) (outcome : Outcome)
-    → Steps policy attach version level moment old new left outcome
+pub form-step : (policy : Policy) (attach version level moment : ℕ) (old new : PendingCall) (left : ℕ) (outcome : Outcome)
+    → IsEngineStep policy attach version level moment old new left outcome
     → new.call ≡ form_after outcome policy old.call
 form-step policy attach version level moment old new left outcome (was_allowed p is marked out same l) = rw (out, same) refl
 form-step policy attach version level moment old new left outcome (allows p is unmarked allow out same l) = rw (out, same) refl
@@ -76,17 +76,17 @@ form-step policy attach version level moment old new left outcome (is_clear clea
 form-step policy attach version level moment old new left outcome (redacts clears is other_tree out form less fits taken l) = rw (out, is) form
 
 -- the turn is one of the entry, if the policy allows a call with a mark that it did
-pub comes-step : (policy : Policy) (attach version level moment : ℕ) (old new : StandingCall) (left : ℕ) (outcome : Outcome)
-    → Steps policy attach version level moment old new left outcome
+pub comes-step : (policy : Policy) (attach version level moment : ℕ) (old new : PendingCall) (left : ℕ) (outcome : Outcome)
+    → IsEngineStep policy attach version level moment old new left outcome
     → (is_allowed old.marks attach version ≡ true → IsAllowing policy old.call)
-    → ComesOut policy level moment old.call (past_of old.marks attach) outcome
+    → IsTurnOutcome policy level moment old.call (past_of old.marks attach) outcome
 comes-step policy attach version level moment old new left outcome (was_allowed p is marked out same l) true_for = turns.passes (answers.allows p is (rw is at (true_for marked)) refl) out
 comes-step policy attach version level moment old new left outcome (allows p is unmarked allow out same l) true_for = turns.passes (answers.allows p is allow refl) out
 comes-step policy attach version level moment old new left outcome (denies p is unmarked deny out same l) true_for =
     turns.is_refused (Denied (verdict p old.call).rule) (answers.denies p is deny refl) out
 comes-step policy attach version level moment old new left outcome (was_charged r is past out same l) true_for = turns.passes (answers.was_charged r is past refl) out
 comes-step policy attach version level moment old new left outcome (charges r is past enough out same l) true_for =
-    turns.is_noted (Charged (level - r.per)) (answers.charges r is past enough refl)
+    turns.is_noted_and_passes (Charged (level - r.per)) (answers.charges r is past enough refl)
     (answers.was_charged r is (λ none. cc) refl) out
 comes-step policy attach version level moment old new left outcome (holds r is past less mode out same l) true_for = turns.is_held level r.per (answers.holds r is past less mode refl) out
 comes-step policy attach version level moment old new left outcome (refuses r is past less mode out same l) true_for =
@@ -98,7 +98,7 @@ comes-step policy attach version level moment old new left outcome (is_over t pe
     true_for = turns.is_refused (Over ticket cap) (answers.is_over t per cap ticket is past more refl) out
 comes-step policy attach version level moment old new left outcome
     (draws_within t per cap ticket is past less out same l) true_for =
-    turns.is_noted (Drawn (min (moment / per) 1023) ticket) (answers.draws t per cap ticket is past refl)
+    turns.is_noted_and_passes (Drawn (min (moment / per) 1023) ticket) (answers.draws t per cap ticket is past refl)
     (answers.is_within t per cap ticket is refl less refl) out
 comes-step policy attach version level moment old new left outcome
     (draws_over t per cap ticket is past more out same l) true_for =
@@ -106,15 +106,15 @@ comes-step policy attach version level moment old new left outcome
     (answers.draws t per cap ticket is past refl) (answers.is_over t per cap ticket is refl more refl) out
 comes-step policy attach version level moment old new left outcome (was_counted is past out same l) true_for = turns.passes (answers.was_counted is past refl) out
 comes-step policy attach version level moment old new left outcome (counts is past out same l) true_for =
-    turns.is_noted Counted (answers.counts is past refl) (answers.was_counted is (λ none. cc) refl) out
+    turns.is_noted_and_passes Counted (answers.counts is past refl) (answers.was_counted is (λ none. cc) refl) out
 comes-step policy attach version level moment old new left outcome (is_clear clears is same_tree out same l) true_for = turns.passes (answers.is_clear clears is same_tree refl) out
 comes-step policy attach version level moment old new left outcome
     (redacts clears is other_tree out form less fits taken l) true_for =
     turns.is_redacted (answers.redacts clears is other_tree refl) out
 
 -- a call that the policy has allowed passes
-pub allowed-step : (policy : Policy) (attach version level moment : ℕ) (old new : StandingCall) (left : ℕ) (outcome : Outcome)
-    → Steps policy attach version level moment old new left outcome
+pub allowed-step : (policy : Policy) (attach version level moment : ℕ) (old new : PendingCall) (left : ℕ) (outcome : Outcome)
+    → IsEngineStep policy attach version level moment old new left outcome
     → is_allowed old.marks attach version ≡ true → IsAccess policy → outcome ≡ Passed Nothing
 allowed-step policy attach version level moment old new left outcome (was_allowed p is marked out same l) has access = out
 allowed-step policy attach version level moment old new left outcome (allows p is unmarked allow out same l) has access = absurd cc
@@ -133,8 +133,8 @@ allowed-step policy attach version level moment old new left outcome (is_clear c
 allowed-step policy attach version level moment old new left outcome (redacts clears is other_tree out form less fits taken l) has access = absurd (rw is at access)
 
 -- a redaction makes the tree smaller
-pub smaller-step : (policy : Policy) (attach version level moment : ℕ) (old new : StandingCall) (left : ℕ) (outcome : Outcome)
-    → Steps policy attach version level moment old new left outcome
+pub smaller-step : (policy : Policy) (attach version level moment : ℕ) (old new : PendingCall) (left : ℕ) (outcome : Outcome)
+    → IsEngineStep policy attach version level moment old new left outcome
     → outcome ≡ Redacted → weight new.call.tree < weight old.call.tree
 smaller-step policy attach version level moment old new left outcome (was_allowed p is marked out same l) redacted = absurd cc
 smaller-step policy attach version level moment old new left outcome (allows p is unmarked allow out same l) redacted = absurd cc
@@ -153,8 +153,8 @@ smaller-step policy attach version level moment old new left outcome (is_clear c
 smaller-step policy attach version level moment old new left outcome (redacts clears is other_tree out form less fits taken l) redacted = less
 
 -- the call still fits its table
-pub fits-step : (policy : Policy) (attach version level moment : ℕ) (old new : StandingCall) (left : ℕ) (outcome : Outcome)
-    → Steps policy attach version level moment old new left outcome
+pub fits-step : (policy : Policy) (attach version level moment : ℕ) (old new : PendingCall) (left : ℕ) (outcome : Outcome)
+    → IsEngineStep policy attach version level moment old new left outcome
     → (T : Table) → IsCallOf T old.call → IsCallOf T new.call
 fits-step policy attach version level moment old new left outcome (was_allowed p is marked out same l) T h = rw same h
 fits-step policy attach version level moment old new left outcome (allows p is unmarked allow out same l) T h = rw same h
@@ -173,8 +173,8 @@ fits-step policy attach version level moment old new left outcome (is_clear clea
 fits-step policy attach version level moment old new left outcome (redacts clears is other_tree out form less fits taken l) T h = fits T h
 
 -- the note of the turn is added to earlier ones
-pub noted-step : (policy : Policy) (attach version level moment : ℕ) (old new : StandingCall) (left : ℕ) (outcome : Outcome)
-    → Steps policy attach version level moment old new left outcome
+pub noted-step : (policy : Policy) (attach version level moment : ℕ) (old new : PendingCall) (left : ℕ) (outcome : Outcome)
+    → IsEngineStep policy attach version level moment old new left outcome
     → IsSilent policy (past_of old.marks attach) → past_of new.marks attach ≡ past_after (noted_in outcome) (past_of old.marks attach)
 noted-step policy attach version level moment old new left outcome (was_allowed p is marked out same l) silent = rw (out, same) refl
 noted-step policy attach version level moment old new left outcome (allows p is unmarked allow out same l) silent =
@@ -198,8 +198,8 @@ noted-step policy attach version level moment old new left outcome (is_clear cle
 noted-step policy attach version level moment old new left outcome (redacts clears is other_tree out form less fits taken l) silent = rw out (taken.pasts attach)
 
 -- what was noted for others is unchanged
-pub others-step : (policy : Policy) (attach version level moment : ℕ) (old new : StandingCall) (left : ℕ) (outcome : Outcome)
-    → Steps policy attach version level moment old new left outcome
+pub others-step : (policy : Policy) (attach version level moment : ℕ) (old new : PendingCall) (left : ℕ) (outcome : Outcome)
+    → IsEngineStep policy attach version level moment old new left outcome
     → (a : ℕ) → a ≢ attach → past_of new.marks a ≡ past_of old.marks a
 others-step policy attach version level moment old new left outcome (was_allowed p is marked out same l) a other = rw same refl
 others-step policy attach version level moment old new left outcome (allows p is unmarked allow out same l) a other =
@@ -224,8 +224,8 @@ others-step policy attach version level moment old new left outcome (is_clear cl
 others-step policy attach version level moment old new left outcome (redacts clears is other_tree out form less fits taken l) a other = taken.pasts a
 
 -- an access engine sets a mark
-pub allowing-step : (policy : Policy) (attach version level moment : ℕ) (old new : StandingCall) (left : ℕ) (outcome : Outcome)
-    → Steps policy attach version level moment old new left outcome
+pub allowing-step : (policy : Policy) (attach version level moment : ℕ) (old new : PendingCall) (left : ℕ) (outcome : Outcome)
+    → IsEngineStep policy attach version level moment old new left outcome
     → IsAccess policy → outcome ≡ Passed Nothing → is_allowed new.marks attach version ≡ true
 allowing-step policy attach version level moment old new left outcome (was_allowed p is marked out same l) access passed = rw same marked
 allowing-step policy attach version level moment old new left outcome (allows p is unmarked allow out same l) access
@@ -245,8 +245,8 @@ allowing-step policy attach version level moment old new left outcome (is_clear 
 allowing-step policy attach version level moment old new left outcome (redacts clears is other_tree out form less fits taken l) access passed = absurd (rw is at access)
 
 -- the marks of other access engines are kept, except by a redaction
-pub others_allowing-step : (policy : Policy) (attach version level moment : ℕ) (old new : StandingCall) (left : ℕ) (outcome : Outcome)
-    → Steps policy attach version level moment old new left outcome
+pub others_allowing-step : (policy : Policy) (attach version level moment : ℕ) (old new : PendingCall) (left : ℕ) (outcome : Outcome)
+    → IsEngineStep policy attach version level moment old new left outcome
     → (a v : ℕ) → a ≢ attach → is_allowed new.marks a v ≡ (if is_redacted_by outcome then false else is_allowed old.marks a v)
 others_allowing-step policy attach version level moment old new left outcome (was_allowed p is marked out same l) a v other = rw (out, same) refl
 others_allowing-step policy attach version level moment old new left outcome (allows p is unmarked allow out same l) a
@@ -272,8 +272,8 @@ others_allowing-step policy attach version level moment old new left outcome (is
 others_allowing-step policy attach version level moment old new left outcome (redacts clears is other_tree out form less fits taken l) a v other = rw out (taken.none a v)
 
 -- the number of marks of others doesn't grow
-pub room-step : (policy : Policy) (attach version level moment : ℕ) (old new : StandingCall) (left : ℕ) (outcome : Outcome)
-    → Steps policy attach version level moment old new left outcome
+pub room-step : (policy : Policy) (attach version level moment : ℕ) (old new : PendingCall) (left : ℕ) (outcome : Outcome)
+    → IsEngineStep policy attach version level moment old new left outcome
     → length (other_marks attach new.marks) ≤ length (other_marks attach old.marks)
 room-step policy attach version level moment old new left outcome (was_allowed p is marked out same l) = rw same (omega arith)
 room-step policy attach version level moment old new left outcome (allows p is unmarked allow out same l) = rw same (other_marks-marked attach (marks.Allowed version) old.marks)
@@ -297,7 +297,7 @@ no_allowed : {b : Bool} {X : Type 0} → b ≡ false → b ≡ true → X
 no_allowed none some = absurd cc
 
 -- a note is true for its entry
-own-noted : (e : Entry) (n : Note) (s : StandingCall) → ((v : ℕ) → is_allowed_by v (Some n) ≡ false) → IsSilent e.policy (past_by (Some n)) → IsTrueFor e (with_mark e.attach n s)
+own-noted : (e : Entry) (n : MarkNote) (s : PendingCall) → ((v : ℕ) → is_allowed_by v (Some n) ≡ false) → IsSilent e.policy (past_by (Some n)) → IsTrueFor e (with_mark e.attach n s)
 own-noted e n s none silent = record {
   silent = rw (note_of-marked e.attach n s.marks) silent;
   present = λ v is. no_allowed (none v) (rw (note_of-marked e.attach n s.marks) at is);
@@ -308,7 +308,7 @@ at_most : (a b : ℕ) → (a == b) ≡ true → b ≤ a
 at_most a b same = grind (arith, nat_tests, common_steps)
 
 -- so is the mark of an access policy that allows the call
-own-allowed : (e : Entry) (s : StandingCall) → IsSilent e.policy nothing → IsAllowing e.policy s.call → IsTrueFor e (with_mark e.attach (marks.Allowed e.version) s)
+own-allowed : (e : Entry) (s : PendingCall) → IsSilent e.policy nothing → IsAllowing e.policy s.call → IsTrueFor e (with_mark e.attach (marks.Allowed e.version) s)
 own-allowed e s silent allowing = record {
   silent = rw (note_of-marked e.attach (marks.Allowed e.version) s.marks) silent;
   present = λ v is. at_most e.version v (rw (note_of-marked e.attach (marks.Allowed e.version) s.marks) at is);
@@ -316,27 +316,27 @@ own-allowed e s silent allowing = record {
 }
 
 -- a mark has no meaning for other entries
-other-true : (e : Entry) (a : ℕ) (n : Note) (s : StandingCall) → e.attach ≢ a → IsTrueFor e s → IsTrueFor e (with_mark a n s)
+other-true : (e : Entry) (a : ℕ) (n : MarkNote) (s : PendingCall) → e.attach ≢ a → IsTrueFor e s → IsTrueFor e (with_mark a n s)
 other-true e a n s other h = record {
   silent = rw (note_of-marked-other a e.attach n s.marks other) h.silent;
   present = λ v is. h.present v (rw (note_of-marked-other a e.attach n s.marks other) at is);
   allowing = λ is. h.allowing (rw (note_of-marked-other a e.attach n s.marks other) at is);
 }
 
-marked-true-by : (entry e : Entry) (n : Note) (s : StandingCall) (b : Bool) → (e.attach == entry.attach) ≡ b → (e.attach ≡ entry.attach → e ≡ entry)
+marked-true-by : (entry e : Entry) (n : MarkNote) (s : PendingCall) (b : Bool) → (e.attach == entry.attach) ≡ b → (e.attach ≡ entry.attach → e ≡ entry)
     → IsTrueFor entry (with_mark entry.attach n s) → IsTrueFor e s → IsTrueFor e (with_mark entry.attach n s)
 marked-true-by entry e n s true is one own h = rw (one (grind (arith, nat_tests, common_steps))) own
 marked-true-by entry e n s false is one own h = other-true e entry.attach n s (λ same. grind (arith, nat_tests, common_steps)) h
 
-marked-true : (entry e : Entry) (n : Note) (old new : StandingCall) → new ≡ with_mark entry.attach n old → (e.attach ≡ entry.attach → e ≡ entry)
+marked-true : (entry e : Entry) (n : MarkNote) (old new : PendingCall) → new ≡ with_mark entry.attach n old → (e.attach ≡ entry.attach → e ≡ entry)
     → IsTrueFor entry (with_mark entry.attach n old) → IsTrueFor e old → IsTrueFor e new
 marked-true entry e n old new is one own h = rw is (marked-true-by entry e n old (e.attach == entry.attach) refl one own h)
 
-same-true : (e : Entry) (old new : StandingCall) → new ≡ old → IsTrueFor e old → IsTrueFor e new
+same-true : (e : Entry) (old new : PendingCall) → new ≡ old → IsTrueFor e old → IsTrueFor e new
 same-true e old new same h = rw same h
 
 -- a redaction keeps no mark that could be untrue
-redacted-true : (e : Entry) (old new : StandingCall) → IsUnallowed old.marks new.marks → IsTrueFor e old → IsTrueFor e new
+redacted-true : (e : Entry) (old new : PendingCall) → IsUnallowed old.marks new.marks → IsTrueFor e old → IsTrueFor e new
 redacted-true e old new taken h = record {
   silent = rw (taken.pasts e.attach) h.silent;
   present = λ v is. no_allowed (taken.none e.attach v) is;
@@ -344,8 +344,8 @@ redacted-true e old new taken h = record {
 }
 
 -- the marks of a call remain true for every entry
-pub stays_true-step : (entry : Entry) (level moment : ℕ) (old new : StandingCall) (left : ℕ) (outcome : Outcome)
-    → Steps entry.policy entry.attach entry.version level moment old new left outcome
+pub stays_true-step : (entry : Entry) (level moment : ℕ) (old new : PendingCall) (left : ℕ) (outcome : Outcome)
+    → IsEngineStep entry.policy entry.attach entry.version level moment old new left outcome
     → (e : Entry) → (e.attach ≡ entry.attach → e ≡ entry) → IsTrueFor e old → IsTrueFor e new
 stays_true-step entry level moment old new left outcome (was_allowed p is marked out same l) e one h = same-true e old new same h
 stays_true-step entry level moment old new left outcome (allows p is unmarked allow out same l) e one h =
@@ -375,15 +375,15 @@ stays_true-step entry level moment old new left outcome (redacts clears is other
 
 -- Either they are unchanged; or the engine's own is set, by a note or since its access policy allows the call; or a
 -- redaction removes those of access engines.
-data Became (policy : Policy) (attach version : ℕ) (old new : StandingCall) (outcome : Outcome) : Type 0 where
+data Became (policy : Policy) (attach version : ℕ) (old new : PendingCall) (outcome : Outcome) : Type 0 where
   stays : new ≡ old → Became policy attach version old new outcome
-  noted : (n : Note) → new ≡ with_mark attach n old → ((v : ℕ) → is_allowed_by v (Some n) ≡ false)
+  noted : (n : MarkNote) → new ≡ with_mark attach n old → ((v : ℕ) → is_allowed_by v (Some n) ≡ false)
       → noted_in outcome ≢ Nothing → Became policy attach version old new outcome
   allowed : new ≡ with_mark attach (marks.Allowed version) old → IsAccess policy → outcome ≡ Passed Nothing → Became policy attach version old new outcome
   unallowed : IsUnallowed old.marks new.marks → Became policy attach version old new outcome
 
-became-step : (policy : Policy) (attach version level moment : ℕ) (old new : StandingCall) (left : ℕ) (outcome : Outcome)
-    → Steps policy attach version level moment old new left outcome
+became-step : (policy : Policy) (attach version level moment : ℕ) (old new : PendingCall) (left : ℕ) (outcome : Outcome)
+    → IsEngineStep policy attach version level moment old new left outcome
     → Became policy attach version old new outcome
 became-step policy attach version level moment old new left outcome (was_allowed p is marked out same l) = stays same
 became-step policy attach version level moment old new left outcome (allows p is unmarked allow out same l) = allowed same (rw is tt) out
@@ -411,7 +411,7 @@ equal a b same = grind (arith, nat_tests, common_steps)
 apart : {b : Bool} {X : Type 0} → b ≡ false → b ≡ true → X
 apart none some = absurd cc
 
-allowing_alone-became : (policy : Policy) (attach version : ℕ) (old new : StandingCall) (outcome : Outcome) → Became policy attach version old new outcome
+allowing_alone-became : (policy : Policy) (attach version : ℕ) (old new : PendingCall) (outcome : Outcome) → Became policy attach version old new outcome
     → (v : ℕ) → is_allowed old.marks attach v ≡ false → is_allowed new.marks attach v ≡ true → IsAllowance policy outcome × (v ≡ version)
 allowing_alone-became policy attach version old new outcome (stays same) v before after = apart before (rw same at after)
 allowing_alone-became policy attach version old new outcome (noted n same none some) v before after = apart (none v) (rw (same, note_of-marked attach n old.marks) at after)
@@ -419,14 +419,14 @@ allowing_alone-became policy attach version old new outcome (allowed same access
     ((access, passed), equal version v (rw (same, note_of-marked attach (marks.Allowed version) old.marks) at after))
 allowing_alone-became policy attach version old new outcome (unallowed taken) v before after = apart (taken.none attach v) after
 
-none-became : (policy : Policy) (attach version : ℕ) (old new : StandingCall) (outcome : Outcome) → Became policy attach version old new outcome
+none-became : (policy : Policy) (attach version : ℕ) (old new : PendingCall) (outcome : Outcome) → Became policy attach version old new outcome
     → noted_in outcome ≡ Nothing → (IsAllowance policy outcome → ⊥) → note_of old.marks attach ≡ None → note_of new.marks attach ≡ None
 none-became policy attach version old new outcome (stays same) nothing_noted other none = rw same none
 none-became policy attach version old new outcome (noted n same by some) nothing_noted other none = absurd (some nothing_noted)
 none-became policy attach version old new outcome (allowed same access passed) nothing_noted other none = absurd (other (access, passed))
 none-became policy attach version old new outcome (unallowed taken) nothing_noted other none = taken.unmarked attach none
 
-others_none-became : (policy : Policy) (attach version : ℕ) (old new : StandingCall) (outcome : Outcome) → Became policy attach version old new outcome
+others_none-became : (policy : Policy) (attach version : ℕ) (old new : PendingCall) (outcome : Outcome) → Became policy attach version old new outcome
     → (a : ℕ) → a ≢ attach → note_of old.marks a ≡ None → note_of new.marks a ≡ None
 others_none-became policy attach version old new outcome (stays same) a other none = rw same none
 others_none-became policy attach version old new outcome (noted n same by some) a other none = rw (same, note_of-marked-other attach a n old.marks other) none
@@ -435,8 +435,8 @@ others_none-became policy attach version old new outcome (unallowed taken) a oth
 
 -- ---- the rule of a denial
 
-rule-step : (policy : Policy) (attach version level moment : ℕ) (old new : StandingCall) (left : ℕ) (outcome : Outcome)
-    → Steps policy attach version level moment old new left outcome
+rule-step : (policy : Policy) (attach version level moment : ℕ) (old new : PendingCall) (left : ℕ) (outcome : Outcome)
+    → IsEngineStep policy attach version level moment old new left outcome
     → (p : AccessPolicy) (n : Noted) (rule : ℕ) → policy ≡ Access p → outcome ≡ Refused n (Denied rule) → rule ≤ length p.rules
 rule-step policy attach version level moment old new left outcome (was_allowed q is marked out same l) p n rule access refused = absurd cc
 rule-step policy attach version level moment old new left outcome (allows q is unmarked allow out same l) p n rule access refused = absurd cc
@@ -459,9 +459,9 @@ rule-step policy attach version level moment old new left outcome (redacts clear
 
 -- ---- the past of a bucket
 
-kept-past : (before after : EngineParts) (outcome : Outcome) (first : RatePolicy) (start : ℕ) (past : List BucketHappening) → HasPast before first start past
-    → after.level ≡ before.level → after.last ≡ before.last → after.entry ≡ before.entry → past_behind (noted_in outcome) past ≡ past
-    → HasPast after first start (past_behind (noted_in outcome) past)
+kept-past : (before after : EngineParts) (outcome : Outcome) (first : RatePolicy) (start : ℕ) (past : List BucketEvent) → IsHistoryOfBucket before first start past
+    → after.level ≡ before.level → after.last ≡ before.last → after.entry ≡ before.entry → past_after_note (noted_in outcome) past ≡ past
+    → IsHistoryOfBucket after first start (past_after_note (noted_in outcome) past)
 kept-past before after outcome first start past h level last entry same = rw same (record {
   policy = ap (λ (e : Entry). e.policy) entry ∙ h.policy;
   level = level ∙ h.level;
@@ -469,26 +469,26 @@ kept-past before after outcome first start past h level last entry same = rw sam
   paid = h.paid;
 })
 
-charged-past : (before after : EngineParts) (r : RatePolicy) (first : RatePolicy) (start : ℕ) (past : List BucketHappening) → HasPast before first start past
+charged-past : (before after : EngineParts) (r : RatePolicy) (first : RatePolicy) (start : ℕ) (past : List BucketEvent) → IsHistoryOfBucket before first start past
     → before.entry.policy ≡ Rate r → r.per ≤ before.level
     → after.level ≡ before.level - r.per → after.last ≡ before.last → after.entry ≡ before.entry
-    → HasPast after first start (charge ∷ past)
+    → IsHistoryOfBucket after first start (charge ∷ past)
 charged-past before after r first start past h is enough level last entry =
     let rate : r ≡ rate_after first past = same_rate (sym is ∙ h.policy) in
     record {
       policy = ap (λ (e : Entry). e.policy) entry ∙ h.policy;
-      level = level ∙ (ap (λ (l : ℕ). l - r.per) h.level ∙ ap (λ (s : RatePolicy). bucket.level first start past - s.per) rate);
+      level = level ∙ (ap (λ (l : ℕ). l - r.per) h.level ∙ ap (λ (s : RatePolicy). bucket.level_of_past first start past - s.per) rate);
       last = last ∙ h.last;
-      paid = (subst (λ (s : RatePolicy). s.per ≤ bucket.level first start past) rate (rw h.level at enough), h.paid);
+      paid = (subst (λ (s : RatePolicy). s.per ≤ bucket.level_of_past first start past) rate (rw h.level at enough), h.paid);
     }
   where
     same_rate : {a b : RatePolicy} → Rate a ≡ Rate b → a ≡ b
     same_rate same = cc
 
-past-step : (before after : EngineParts) (moment : ℕ) (old new : StandingCall) (outcome : Outcome)
-    → Steps before.entry.policy before.entry.attach before.entry.version before.level moment old new after.level outcome
+past-step : (before after : EngineParts) (moment : ℕ) (old new : PendingCall) (outcome : Outcome)
+    → IsEngineStep before.entry.policy before.entry.attach before.entry.version before.level moment old new after.level outcome
     → after.last ≡ before.last → after.entry ≡ before.entry
-    → (first : RatePolicy) (start : ℕ) (past : List BucketHappening) → HasPast before first start past → HasPast after first start (past_behind (noted_in outcome) past)
+    → (first : RatePolicy) (start : ℕ) (past : List BucketEvent) → IsHistoryOfBucket before first start past → IsHistoryOfBucket after first start (past_after_note (noted_in outcome) past)
 past-step before after moment old new outcome (was_allowed p is marked out same l) last entry first start past h =
     kept-past before after outcome first start past h l last entry (rw out refl)
 past-step before after moment old new outcome (allows p is unmarked allow out same l) last entry first start past h =
@@ -521,17 +521,17 @@ past-step before after moment old new outcome (redacts clears is other_tree out 
 
 -- ---- together
 
-pub turn-step : (e : EngineParts) (moment : ℕ) (old new : StandingCall) (left : ℕ) (outcome : Outcome)
-    → Steps e.entry.policy e.entry.attach e.entry.version e.level moment old new left outcome → IsTurn e moment old outcome
+pub turn-step : (e : EngineParts) (moment : ℕ) (old new : PendingCall) (left : ℕ) (outcome : Outcome)
+    → IsEngineStep e.entry.policy e.entry.attach e.entry.version e.level moment old new left outcome → IsTurn e moment old outcome
 turn-step e moment old new left outcome step = record {
   comes = comes-step _ _ _ _ _ _ _ _ _ step;
   allowed = allowed-step _ _ _ _ _ _ _ _ _ step;
   rule = rule-step _ _ _ _ _ _ _ _ _ step;
 }
 
-pub engine-step : (before after : EngineParts) (moment : ℕ) (old new : StandingCall) (outcome : Outcome)
-    → Steps before.entry.policy before.entry.attach before.entry.version before.level moment old new after.level outcome
-    → after.last ≡ before.last → after.entry ≡ before.entry → LeavesEngine outcome before after
+pub engine-step : (before after : EngineParts) (moment : ℕ) (old new : PendingCall) (outcome : Outcome)
+    → IsEngineStep before.entry.policy before.entry.attach before.entry.version before.level moment old new after.level outcome
+    → after.last ≡ before.last → after.entry ≡ before.entry → IsEngineAfter outcome before after
 engine-step before after moment old new outcome step last entry = record {
   level = level-step _ _ _ _ _ _ _ _ _ step;
   last = last;
@@ -539,17 +539,17 @@ engine-step before after moment old new outcome step last entry = record {
   past = past-step before after moment old new outcome step last entry;
 }
 
-pub call-step : (policy : Policy) (attach version level moment : ℕ) (old new : StandingCall) (left : ℕ) (outcome : Outcome)
-    → Steps policy attach version level moment old new left outcome
-    → LeavesCall policy outcome old.call new.call
+pub call-step : (policy : Policy) (attach version level moment : ℕ) (old new : PendingCall) (left : ℕ) (outcome : Outcome)
+    → IsEngineStep policy attach version level moment old new left outcome
+    → IsCallAfter policy outcome old.call new.call
 call-step policy attach version level moment old new left outcome step = record {
   form = form-step _ _ _ _ _ _ _ _ _ step;
   smaller = smaller-step _ _ _ _ _ _ _ _ _ step;
   fits = fits-step _ _ _ _ _ _ _ _ _ step;
 }
 
-pub marks-step : (entry : Entry) (level moment : ℕ) (old new : StandingCall) (left : ℕ) (outcome : Outcome)
-    → Steps entry.policy entry.attach entry.version level moment old new left outcome → LeavesMarks entry outcome old new
+pub marks-step : (entry : Entry) (level moment : ℕ) (old new : PendingCall) (left : ℕ) (outcome : Outcome)
+    → IsEngineStep entry.policy entry.attach entry.version level moment old new left outcome → AreMarksAfterTurn entry outcome old new
 marks-step entry level moment old new left outcome step =
     let became = became-step _ _ _ _ _ _ _ _ _ step in
     record {

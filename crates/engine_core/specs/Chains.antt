@@ -50,45 +50,45 @@ pub data Refusal : Type 0 where
   other_kind : List ℕ → Refusal
 
 -- if there are two reasons to reject an operation, the first in this order counts
-abbrev pub order_of : Refusal → ℕ
-order_of (no_such name) = 1
-order_of (taken name) = 2
-order_of (no_place at) = 3
-order_of (full entries) = 4
-order_of (other_kind name) = 5
+abbrev pub refusal_rank : Refusal → ℕ
+refusal_rank (no_such name) = 1
+refusal_rank (taken name) = 2
+refusal_rank (no_place at) = 3
+refusal_rank (full entries) = 4
+refusal_rank (other_kind name) = 5
 
-pub data IsAgainst (entries : List Entry) (op : Op) (refusal : Refusal) : Type 0 where
+pub data IsReasonToReject (entries : List Entry) (op : Op) (refusal : Refusal) : Type 0 where
   -- no entry has the name
   detaches_none : (name : List ℕ) → op ≡ Detach name → (Contains (names_of entries) name → ⊥) → refusal ≡ no_such name
-      → IsAgainst entries op refusal
+      → IsReasonToReject entries op refusal
   upgrades_none : (name label : List ℕ) (policy : Policy) → op ≡ Upgrade name label policy
       → (Contains (names_of entries) name → ⊥) → refusal ≡ no_such name
-      → IsAgainst entries op refusal
+      → IsReasonToReject entries op refusal
   -- an entry has the name already
   is_taken : (at : ℕ) (name label : List ℕ) (policy : Policy) → op ≡ Attach at name label policy
       → Contains (names_of entries) name → refusal ≡ taken name
-      → IsAgainst entries op refusal
+      → IsReasonToReject entries op refusal
   -- the position is past the end
   is_past : (at : ℕ) (name label : List ℕ) (policy : Policy) → op ≡ Attach at name label policy → length entries < at
       → refusal ≡ no_place at
-      → IsAgainst entries op refusal
+      → IsReasonToReject entries op refusal
   -- the chain has 8 entries
   is_full : (at : ℕ) (name label : List ℕ) (policy : Policy) → op ≡ Attach at name label policy → 8 ≤ length entries
       → refusal ≡ full (length entries)
-      → IsAgainst entries op refusal
+      → IsReasonToReject entries op refusal
   -- the entry with the name has a policy of another kind
   is_other : (name label : List ℕ) (policy : Policy) (e : Entry) → op ≡ Upgrade name label policy → Contains entries e
       → e.name ≡ name
-      → is_same_kind e.policy policy ≡ false → refusal ≡ other_kind name → IsAgainst entries op refusal
+      → is_same_kind e.policy policy ≡ false → refusal ≡ other_kind name → IsReasonToReject entries op refusal
 
 -- a chain rejects an operation, for the first reason
-pub record Refuses (c : Chain) (op : Op) (refusal : Refusal) : Type 0 where
-  pub against : IsAgainst c.entries op refusal
-  pub first : (other : Refusal) → order_of other < order_of refusal → IsAgainst c.entries op other → ⊥
+pub record IsRejection (c : Chain) (op : Op) (refusal : Refusal) : Type 0 where
+  pub against : IsReasonToReject c.entries op refusal
+  pub first : (other : Refusal) → refusal_rank other < refusal_rank refusal → IsReasonToReject c.entries op other → ⊥
 
 -- ---- the effect of an operation on a chain
 
-pub data Makes (before : Chain) (op : Op) (after : Chain) : Type 0 where
+pub data IsChangeOf (before : Chain) (op : Op) (after : Chain) : Type 0 where
   -- a new entry is at the position, with the next attachment number
   attaches : (at : ℕ) (name label : List ℕ) (policy : Policy) (front back : List Entry)
       → op ≡ Attach at name label policy
@@ -97,22 +97,22 @@ pub data Makes (before : Chain) (op : Op) (after : Chain) : Type 0 where
         entries = front ++ new_entry name (before.attached + 1) policy ∷ back;
         attached = before.attached + 1;
       }
-      → Makes before op after
+      → IsChangeOf before op after
   -- the entry with the name is removed
   detaches : (name : List ℕ) (e : Entry) (front back : List Entry) → op ≡ Detach name
       → before.entries ≡ front ++ e ∷ back → e.name ≡ name
-      → after ≡ record { entries = front ++ back; attached = before.attached } → Makes before op after
+      → after ≡ record { entries = front ++ back; attached = before.attached } → IsChangeOf before op after
   -- the entry with the name has the new policy, and its next version
   upgrades : (name label : List ℕ) (policy : Policy) (e : Entry) (front back : List Entry)
       → op ≡ Upgrade name label policy
       → before.entries ≡ front ++ e ∷ back → e.name ≡ name
       → after ≡ record { entries = front ++ upgraded e policy ∷ back; attached = before.attached }
-      → Makes before op after
+      → IsChangeOf before op after
 
 -- an operation changes a chain if there is no reason to reject it
-pub record Changes (before : Chain) (op : Op) (after : Chain) : Type 0 where
-  pub free : (refusal : Refusal) → IsAgainst before.entries op refusal → ⊥
-  pub makes : Makes before op after
+pub record HasChanged (before : Chain) (op : Op) (after : Chain) : Type 0 where
+  pub free : (refusal : Refusal) → IsReasonToReject before.entries op refusal → ⊥
+  pub effect : IsChangeOf before op after
 
 -- the entry has the name
 abbrev pub is_named : List ℕ → Entry → Bool

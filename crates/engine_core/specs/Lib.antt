@@ -5,5 +5,5 @@ pub mod Marks
 pub mod Turns
 pub mod Engines
 pub mod Moves
-pub mod Steps
+pub mod EngineSteps
 pub mod Working

@@ -14,32 +14,32 @@ abbrev pub first_at : ℕ → Row → Option (ℕ × ℕ)
 first_at position row = find (λ call. call.1 == position) row
 
 -- calls past a position return to it
-abbrev pub back_to : ℕ → Row → Row
-back_to position row = map (λ call. (call.0, min call.1 position)) row
+abbrev pub returned_to : ℕ → Row → Row
+returned_to position row = map (λ call. (call.0, min call.1 position)) row
 
 -- calls past a detached entry move up
 abbrev pub moved_up : ℕ → Row → Row
 moved_up position row = map (λ call. (call.0, if nat_lt position call.1 then call.1 - 1 else call.1)) row
 
 -- one call advances by an entry
-abbrev pub goes_on : ℕ → Row → Row
-goes_on seq row = map (λ call. (call.0, if call.0 == seq then call.1 + 1 else call.1)) row
+abbrev pub advanced : ℕ → Row → Row
+advanced seq row = map (λ call. (call.0, if call.0 == seq then call.1 + 1 else call.1)) row
 
 -- a call and those with greater numbers start over
-abbrev pub begin_again : ℕ → Row → Row
-begin_again seq row = map (λ call. (call.0, if nat_lt call.0 seq then call.1 else 0)) row
+abbrev pub restarted : ℕ → Row → Row
+restarted seq row = map (λ call. (call.0, if nat_lt call.0 seq then call.1 else 0)) row
 
 -- one call is removed
 abbrev pub without_call : ℕ → Row → Row
 without_call seq row = filter (λ call. not (seq == call.0)) row
 
 -- the position of the entry with a name; the number of entries if there is none
-abbrev pub place_of : List ℕ → List Entry → ℕ
-place_of name [] = 0
-place_of name (e ∷ entries) = if is_named name e then 0 else place_of name entries + 1
+abbrev pub position_of : List ℕ → List Entry → ℕ
+position_of name [] = 0
+position_of name (e ∷ entries) = if is_named name e then 0 else position_of name entries + 1
 
 -- how an operation moves calls
 abbrev pub moved_by : Op → List Entry → Row → Row
-moved_by (Attach at name label policy) entries row = back_to at row
-moved_by (Detach name) entries row = moved_up (place_of name entries) row
-moved_by (Upgrade name label policy) entries row = back_to (place_of name entries) row
+moved_by (Attach at name label policy) entries row = returned_to at row
+moved_by (Detach name) entries row = moved_up (position_of name entries) row
+moved_by (Upgrade name label policy) entries row = returned_to (position_of name entries) row

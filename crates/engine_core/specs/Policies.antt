@@ -39,16 +39,16 @@ KnowsTenantOf Knows _ = Unit {0}
 -- A rate policy has a bucket; for other policies the level is 0.
 
 -- the level at the attachment
-abbrev pub first_level : Policy → ℕ
-first_level (Rate r) = full_level r
-first_level _ = 0
+abbrev pub initial_level : Policy → ℕ
+initial_level (Rate r) = full_level r
+initial_level _ = 0
 
 -- the level after some milliseconds
-abbrev pub level_at : Policy → ℕ → ℕ → ℕ
-level_at (Rate r) level passed = level_after r level passed
-level_at _ level passed = level
+abbrev pub level_after_time : Policy → ℕ → ℕ → ℕ
+level_after_time (Rate r) level passed = level_after r level passed
+level_after_time _ level passed = level
 
 -- the level under a new policy
-abbrev pub level_under : Policy → Policy → ℕ → ℕ
-level_under (Rate old) (Rate new) level = converted_level old new level
-level_under _ _ level = level
+abbrev pub level_after_upgrade : Policy → Policy → ℕ → ℕ
+level_after_upgrade (Rate old) (Rate new) level = converted_level old new level
+level_after_upgrade _ _ level = level

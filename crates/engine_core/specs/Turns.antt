@@ -2,7 +2,7 @@
 use Rattle.std.specs.Prelude.{◌≡◌, ◌≢◌, ℕ, Bool, true, false, ◌⊎◌, List, [], ◌∷◌, ◌++◌, Option, IfSome, IsSomeAnd}
 use Rattle.mrpc_table.specs.declared.call.Call.{Call}
 use Rattle.policy_redact.specs.Redacting.{cleared_call}
-use Rattle.engine_core.specs.Answers.{Past, Answer, pass, deny, hold, refuse, over, note, redact, Answers, past_after, level_left}
+use Rattle.engine_core.specs.Answers.{Past, Answer, pass, deny, hold, refuse, over, note, redact, IsEntryAnswer, past_after, level_after_note}
 use Rattle.engine_core.specs.declared.policy.Policy.{Policy}
 use Rattle.engine_core.specs.declared.policy.Policy.TheVariants.{Quota, Redact}
 use Rattle.engine_core.specs.declared.outcome.Noted.{Noted}
@@ -20,21 +20,21 @@ refusal (Over ticket cap) = over ticket cap
 
 -- a turn: first it notes what must be noted; then the call passes, is held or is refused, or fields are cleared,
 -- which ends the turn
-pub data ComesOut (policy : Policy) (level moment : ℕ) (form : Call) (past : Past) (outcome : Outcome) : Type 0 where
-  passes : Answers policy level moment form past pass → outcome ≡ Passed Nothing
-      → ComesOut policy level moment form past outcome
-  is_noted : (n : Noted) → Answers policy level moment form past (note n)
-      → Answers policy (level_left n level) moment form (past_after n past) pass
-      → outcome ≡ Passed n → ComesOut policy level moment form past outcome
-  is_held : (l cost : ℕ) → Answers policy level moment form past (hold l cost) → outcome ≡ Held l cost
-      → ComesOut policy level moment form past outcome
-  is_refused : (why : Why) → Answers policy level moment form past (refusal why) → outcome ≡ Refused Nothing why
-      → ComesOut policy level moment form past outcome
-  is_noted_and_refused : (n : Noted) (why : Why) → Answers policy level moment form past (note n)
-      → Answers policy (level_left n level) moment form (past_after n past) (refusal why)
-      → outcome ≡ Refused n why → ComesOut policy level moment form past outcome
-  is_redacted : Answers policy level moment form past redact → outcome ≡ Redacted
-      → ComesOut policy level moment form past outcome
+pub data IsTurnOutcome (policy : Policy) (level moment : ℕ) (form : Call) (past : Past) (outcome : Outcome) : Type 0 where
+  passes : IsEntryAnswer policy level moment form past pass → outcome ≡ Passed Nothing
+      → IsTurnOutcome policy level moment form past outcome
+  is_noted_and_passes : (n : Noted) → IsEntryAnswer policy level moment form past (note n)
+      → IsEntryAnswer policy (level_after_note n level) moment form (past_after n past) pass
+      → outcome ≡ Passed n → IsTurnOutcome policy level moment form past outcome
+  is_held : (l cost : ℕ) → IsEntryAnswer policy level moment form past (hold l cost) → outcome ≡ Held l cost
+      → IsTurnOutcome policy level moment form past outcome
+  is_refused : (why : Why) → IsEntryAnswer policy level moment form past (refusal why) → outcome ≡ Refused Nothing why
+      → IsTurnOutcome policy level moment form past outcome
+  is_noted_and_refused : (n : Noted) (why : Why) → IsEntryAnswer policy level moment form past (note n)
+      → IsEntryAnswer policy (level_after_note n level) moment form (past_after n past) (refusal why)
+      → outcome ≡ Refused n why → IsTurnOutcome policy level moment form past outcome
+  is_redacted : IsEntryAnswer policy level moment form past redact → outcome ≡ Redacted
+      → IsTurnOutcome policy level moment form past outcome
 
 -- what a turn noted
 abbrev pub noted_in : Outcome → Noted
@@ -65,10 +65,10 @@ IsNextTicket before after ticket =
 
 -- a draw was for the policy's tenant, in the window of the note; `before` and `after` are the tickets of each tenant
 -- and window
-abbrev pub TellsDraw : (ℕ → ℕ → Option (List ℕ)) → (ℕ → ℕ → Option (List ℕ)) → Policy → Noted → Type 0
-TellsDraw before after (Quota tenant per cap) (Drawn window ticket) =
+abbrev pub IsRecordedDraw : (ℕ → ℕ → Option (List ℕ)) → (ℕ → ℕ → Option (List ℕ)) → Policy → Noted → Type 0
+IsRecordedDraw before after (Quota tenant per cap) (Drawn window ticket) =
     IsNextTicket (before tenant window) (after tenant window) ticket
-TellsDraw before after _ _ = Unit {0}
+IsRecordedDraw before after _ _ = Unit {0}
 
 -- no ticket of this tenant and window was drawn
 abbrev pub IsElsewhere : Policy → Noted → ℕ → ℕ → Type 0

@@ -27,9 +27,9 @@ impl Model for CallRow {
     ghost use Rattle.std.specs.Prelude.{◌≤◌, List, length};
     ghost use Rattle.engine_core.specs.declared.call_row.TheConstants.{MAX_CALLS};
     ghost use Rattle.std.specs.VecDeque.{deque_capacity};
-    ghost use Rattle.engine_core.specs.Marks.{StandingCall};
+    ghost use Rattle.engine_core.specs.Marks.{PendingCall};
 
-    ghost Value = { List StandingCall };
+    ghost Value = { List PendingCall };
 
     ghost use Rattle.std.specs.Coded.{codes};
     ghost use Rattle.mrpc_table.specs.contracts.call.Call as c;
@@ -45,9 +45,9 @@ impl CallRow {
     ghost use Rattle.engine_core.specs.declared.call_row.TheConstants.{MAX_CALLS};
     ghost use Rattle.engine_core.specs.Policies.{KnowsTenantOf};
     ghost use Rattle.engine_core.specs.Turns.{noted_in};
-    ghost use Rattle.engine_core.specs.Working.{HasOnlyMarksOf, LeavesTickets, Works};
+    ghost use Rattle.engine_core.specs.Working.{HasOnlyMarksOf, AreTicketsAfterTurn, HasWorked};
     ghost use Rattle.engine_core.specs.Engines.{EngineParts};
-    ghost use Rattle.engine_core.specs.Marks.{StandingCall};
+    ghost use Rattle.engine_core.specs.Marks.{PendingCall};
     ghost use Rattle.engine_core.specs.declared.outcome.Noted.TheVariants.{Nothing};
     ghost use Rattle.engine_core.specs.declared.outcome.Outcome.TheVariants.{Passed};
 
@@ -132,10 +132,10 @@ impl CallRow {
         requires place { place < length self.old }
         requires engine { at < length engines.now }
         requires few { length engines.now ≤ 8 }
-        requires call { (s : StandingCall) → slice_get self.old place ≡ Some s → IsCallOf table.now s.call }
-        requires marks { (s : StandingCall) → slice_get self.old place ≡ Some s → HasOnlyMarksOf engines.now s }
+        requires call { (s : PendingCall) → slice_get self.old place ≡ Some s → IsCallOf table.now s.call }
+        requires marks { (s : PendingCall) → slice_get self.old place ≡ Some s → HasOnlyMarksOf engines.now s }
         ensures passed { OnTrue result ((moment : ℕ)
-            → Works engines.now self.old at place moment (Passed Nothing) engines.now self.new) }
+            → HasWorked engines.now self.old at place moment (Passed Nothing) engines.now self.new) }
         ensures as_before { OnFalse result (self.new ≡ self.old) }
     {
         let call = &mut self.calls[place];
@@ -158,17 +158,17 @@ impl CallRow {
         requires place { place < length self.old }
         requires engine { at < length engines.old }
         requires few { length engines.old ≤ 8 }
-        requires call { (s : StandingCall) → slice_get self.old place ≡ Some s → IsCallOf table.now s.call }
-        requires alone { OnTrue alone ((s : StandingCall) → slice_get self.old place ≡ Some s
+        requires call { (s : PendingCall) → slice_get self.old place ≡ Some s → IsCallOf table.now s.call }
+        requires alone { OnTrue alone ((s : PendingCall) → slice_get self.old place ≡ Some s
             → HasOnlyMarksOf engines.old s) }
         requires known { (e : EngineParts) → slice_get engines.old at ≡ Some e
             → KnowsTenantOf (Q.knows tickets.old) e.entry.policy }
-        ensures works { Works engines.old self.old at place now result engines.new self.new }
+        ensures works { HasWorked engines.old self.old at place now result engines.new self.new }
         ensures tickets { (e : EngineParts) → slice_get engines.old at ≡ Some e
-            → LeavesTickets Q.knows Q.drawn Q.since e.entry.policy (noted_in result) tickets.old tickets.new }
+            → AreTicketsAfterTurn Q.knows Q.drawn Q.since e.entry.policy (noted_in result) tickets.old tickets.new }
     {
         let call = &mut self.calls[place];
-        call.lose_others(engines, alone);
+        call.drop_other_marks(engines, alone);
         call.few_others(engines, at);
         let engine = &mut engines[at];
         engine.work(call, table, now, tickets)

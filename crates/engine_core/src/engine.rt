@@ -5,7 +5,7 @@ ghost use Rattle.std.specs.Prelude.{◌≡◌, ◌+◌, ◌-◌, ◌<◌, ◌≤
 use crate::outcome::{Noted, Outcome};
 use crate::policy::Policy;
 use crate::standing::Standing;
-use crate::work::{allow, allows, charge, clear, count, draw, is_noted, is_past, judge};
+use crate::work::{allow, allows, charge, clear, count, draw, has_note, is_noted, judge};
 use mrpc_base::{Tickets, WINDOWS};
 use mrpc_table::{Name, Table};
 use policy_rate::Bucket;
@@ -54,28 +54,28 @@ impl Model for State {
 
 impl Engine {
     ghost use Rattle.mrpc_table.specs.Calls.{IsCallOf};
-    ghost use Rattle.policy_rate.specs.Level.{BucketHappening, moment, upgrade};
+    ghost use Rattle.policy_rate.specs.Level.{BucketEvent, moment, upgrade};
     ghost use Rattle.policy_rate.specs.declared.rate.Rate.{Rate as RatePolicy};
-    ghost use Rattle.engine_core.specs.Policies.{IsPolicy, KnowsTenantOf, first_level, is_same_kind, level_at, level_under};
+    ghost use Rattle.engine_core.specs.Policies.{IsPolicy, KnowsTenantOf, initial_level, is_same_kind, level_after_time, level_after_upgrade};
     ghost use Rattle.engine_core.specs.Chains.{new_entry, upgraded};
-    ghost use Rattle.engine_core.specs.Engines.{HasPast};
-    ghost use Rattle.engine_core.specs.Answers.{Answers, hold};
-    ghost use Rattle.engine_core.specs.Marks.{IsTrueFor, StandingCall, other_marks, past_of};
+    ghost use Rattle.engine_core.specs.Engines.{IsHistoryOfBucket};
+    ghost use Rattle.engine_core.specs.Answers.{IsEntryAnswer, hold};
+    ghost use Rattle.engine_core.specs.Marks.{IsTrueFor, PendingCall, other_marks, past_of};
     ghost use Rattle.std.specs.Bool.{OnFalse, OnTrue};
-    ghost use Rattle.engine_core.specs.Steps.{Steps};
+    ghost use Rattle.engine_core.specs.EngineSteps.{IsEngineStep};
     ghost use Rattle.engine_core.specs.declared.outcome.Noted.TheVariants.{Nothing};
     ghost use Rattle.engine_core.specs.declared.outcome.Outcome.TheVariants.{Passed};
-    ghost use Rattle.engine_core.specs.Turns.{IsElsewhere, TellsDraw, is_draw, noted_in};
-    ghost use Rattle.engine_core.specs.Working.{IsTurn, LeavesCall, LeavesEngine, LeavesMarks, LeavesTickets};
+    ghost use Rattle.engine_core.specs.Turns.{IsElsewhere, IsRecordedDraw, is_draw, noted_in};
+    ghost use Rattle.engine_core.specs.Working.{IsTurn, IsCallAfter, IsEngineAfter, AreMarksAfterTurn, AreTicketsAfterTurn};
 
     /// An engine for a policy that is attached at the timestamp `now`, in milliseconds. It has version 1 and a full
     /// bucket. Like every call of an engine, it allocates nothing.
     pub fn new(name: Name, attach: u32, policy: Policy, now: u64) -> Engine
         requires { IsPolicy policy }
         ensures entry { result.entry ≡ new_entry name attach policy }
-        ensures level { result.level ≡ first_level policy }
+        ensures level { result.level ≡ initial_level policy }
         ensures last { result.last ≡ now }
-        ensures past { (rate : RatePolicy) → policy ≡ Policy.Rate rate → HasPast result rate now [] }
+        ensures past { (rate : RatePolicy) → policy ≡ Policy.Rate rate → IsHistoryOfBucket result rate now [] }
     {
         let bucket = match &policy {
             Policy::Rate(rate) => Bucket::full(rate, now),
@@ -124,11 +124,11 @@ impl Engine {
 
     /// Advances its bucket to a timestamp. An earlier timestamp counts as the last one.
     pub fn clock(&mut self, now: u64)
-        ensures level { self.new.level ≡ level_at self.old.entry.policy self.old.level (now - self.old.last) }
+        ensures level { self.new.level ≡ level_after_time self.old.entry.policy self.old.level (now - self.old.last) }
         ensures last { self.new.last ≡ max self.old.last now }
         ensures entry { self.new.entry ≡ self.old.entry }
-        ensures past { (first : RatePolicy) (start : ℕ) (past : List BucketHappening)
-            → HasPast self.old first start past → HasPast self.new first start (moment now ∷ past) }
+        ensures past { (first : RatePolicy) (start : ℕ) (past : List BucketEvent)
+            → IsHistoryOfBucket self.old first start past → IsHistoryOfBucket self.new first start (moment now ∷ past) }
     {
         match &self.policy {
             Policy::Rate(rate) => self.bucket.clock(rate, now),
@@ -155,10 +155,10 @@ impl Engine {
 
         // The outcome, and the effects of the turn.
         ensures comes_out { IsTurn self.old now call.old result }
-        ensures engine { LeavesEngine result self.old self.new }
-        ensures call { LeavesCall self.old.entry.policy result call.old.call call.new.call }
-        ensures marks { LeavesMarks self.old.entry result call.old call.new }
-        ensures tickets { LeavesTickets Q.knows Q.drawn Q.since self.old.entry.policy (noted_in result)
+        ensures engine { IsEngineAfter result self.old self.new }
+        ensures call { IsCallAfter self.old.entry.policy result call.old.call call.new.call }
+        ensures marks { AreMarksAfterTurn self.old.entry result call.old call.new }
+        ensures tickets { AreTicketsAfterTurn Q.knows Q.drawn Q.since self.old.entry.policy (noted_in result)
             tickets.old tickets.new }
     {
         self.turn(call, table, now, tickets)
@@ -170,7 +170,7 @@ impl Engine {
     pub(crate) fn pass_unnoted(&self, call: &mut Standing, likely: usize, table: &Table) -> bool
         requires call { IsCallOf table.now call.old.call }
         requires room { length (other_marks self.now.entry.attach call.old.marks) ≤ 7 }
-        ensures passed { OnTrue result ((moment : ℕ) → Steps self.now.entry.policy self.now.entry.attach
+        ensures passed { OnTrue result ((moment : ℕ) → IsEngineStep self.now.entry.policy self.now.entry.attach
             self.now.entry.version self.now.level moment call.old call.new self.now.level (Passed Nothing)) }
         ensures as_before { OnFalse result (call.new ≡ call.old) }
     {
@@ -180,8 +180,8 @@ impl Engine {
                 allows(note, self.version)
                     || allow(access, self.attach, self.version, note, call, table)
             }
-            Policy::Rate(_) => is_past(note),
-            Policy::Count => is_past(note),
+            Policy::Rate(_) => has_note(note),
+            Policy::Count => has_note(note),
             Policy::Quota { .. } | Policy::Redact(_) => false,
         }
     }
@@ -197,11 +197,11 @@ impl Engine {
         requires call { IsCallOf table.now call.old.call }
         requires room { length (other_marks self.old.entry.attach call.old.marks) ≤ 7 }
         requires known { KnowsTenantOf (Q.knows tickets.old) self.old.entry.policy }
-        ensures step { Steps self.old.entry.policy self.old.entry.attach self.old.entry.version
+        ensures step { IsEngineStep self.old.entry.policy self.old.entry.attach self.old.entry.version
             self.old.level now call.old call.new self.new.level result }
         ensures last { self.new.last ≡ self.old.last }
         ensures entry { self.new.entry ≡ self.old.entry }
-        ensures drawn { TellsDraw (Q.drawn tickets.old) (Q.drawn tickets.new) self.old.entry.policy (noted_in result) }
+        ensures drawn { IsRecordedDraw (Q.drawn tickets.old) (Q.drawn tickets.new) self.old.entry.policy (noted_in result) }
         ensures elsewhere { (t w : ℕ) → Q.knows tickets.old t → w < WINDOWS
             → IsElsewhere self.old.entry.policy (noted_in result) t w
             → Q.drawn tickets.new t w ≡ Q.drawn tickets.old t w }
@@ -224,10 +224,10 @@ impl Engine {
     /// the call has no mark of it, and the level is below the cost.
     pub fn held(&self, call: &Standing) -> Option<(u64, u64)>
         ensures holds { IfSome result (λ h. (moment : ℕ)
-            → Answers self.now.entry.policy self.now.level moment call.now.call
+            → IsEntryAnswer self.now.entry.policy self.now.level moment call.now.call
             (past_of call.now.marks self.now.entry.attach) (hold h.0 h.1)) }
         ensures none { IfNone result ((moment level cost : ℕ)
-            → Answers self.now.entry.policy self.now.level moment call.now.call
+            → IsEntryAnswer self.now.entry.policy self.now.level moment call.now.call
             (past_of call.now.marks self.now.entry.attach) (hold level cost) → ⊥) }
     {
         match &self.policy {
@@ -259,14 +259,14 @@ impl Engine {
         requires kind { is_same_kind state.entry.policy policy ≡ true }
         requires number { state.entry.version + 1 < 2 ^ 32 }
         ensures entry { result.entry ≡ upgraded state.entry policy }
-        ensures level { result.level ≡ level_under state.entry.policy policy state.level }
+        ensures level { result.level ≡ level_after_upgrade state.entry.policy policy state.level }
         ensures last { result.last ≡ state.last }
-        ensures past { (first rate : RatePolicy) (start : ℕ) (past : List BucketHappening)
-            → policy ≡ Policy.Rate rate → HasPast state first start past
-            → HasPast result first start (upgrade rate ∷ past) }
+        ensures past { (first rate : RatePolicy) (start : ℕ) (past : List BucketEvent)
+            → policy ≡ Policy.Rate rate → IsHistoryOfBucket state first start past
+            → IsHistoryOfBucket result first start (upgrade rate ∷ past) }
 
         // Marks that were true for the previous version are true for the new one.
-        ensures stays_true { (s : StandingCall) → IsTrueFor state.entry s → IsTrueFor result.entry s }
+        ensures stays_true { (s : PendingCall) → IsTrueFor state.entry s → IsTrueFor result.entry s }
     {
         let old = state.engine;
         let mut bucket = old.bucket;

@@ -8,14 +8,14 @@ use crate::engine::Engine;
 use mrpc_table::Name;
 
 /// The position of the engine with a name.
-pub fn place_of(engines: &[Engine], name: &Name) -> Option<usize>
+pub fn position_of(engines: &[Engine], name: &Name) -> Option<usize>
     ensures { result ≡ position (λ e. is_named name.now e.entry) engines.now }
 {
-    place_named(engines, name.as_slice())
+    position_named(engines, name.as_slice())
 }
 
-/// Like `place_of`, by the bytes of the name.
-pub fn place_named(engines: &[Engine], name: &[u8]) -> Option<usize>
+/// Like `position_of`, by the bytes of the name.
+pub fn position_named(engines: &[Engine], name: &[u8]) -> Option<usize>
     ensures { result ≡ position (λ e. is_named name.now e.entry) engines.now }
 {
     engines
@@ -24,7 +24,7 @@ pub fn place_named(engines: &[Engine], name: &[u8]) -> Option<usize>
 }
 
 /// Inserts an item at a position. There must be capacity for it.
-pub fn put<T>(items: &mut Vec<T>, at: usize, item: T)
+pub fn insert_within_capacity<T>(items: &mut Vec<T>, at: usize, item: T)
     requires at { at ≤ length items.old.items }
     requires room { length items.old.items < vec_capacity items.old }
     ensures items { items.new.items ≡ insert items.old.items at item }

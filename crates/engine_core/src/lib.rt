@@ -22,10 +22,11 @@ mod work;
 
 pub use call_row::{CallRow, MAX_CALLS};
 pub use engine::{Engine, State};
-pub use engines::{clock_all, place_named, place_of, put};
+pub use engines::{clock_all, insert_within_capacity, position_named, position_of};
 pub use laws::{
-    allows_at_any_time, bounded_charges_of_engines, change_is_changed, denied_by_a_rule,
-    one_answer, one_change, one_outcome, passed_is_allowed, stays_chain, unmarked_is_true,
+    allows_at_any_time, answer_is_unique, change_or_rejection, change_preserves_chain,
+    changed_is_the_change, denied_by_a_rule, engine_charges_are_bounded, outcome_is_unique,
+    passed_is_allowed, unmarked_is_true,
 };
 pub use op::Op;
 pub use outcome::{Noted, Outcome, Why};

@@ -3,7 +3,7 @@
 ghost use Rattle.std.specs.Prelude.{◌≡◌, ◌≤◌, ◌==◌, not, filter, length, position};
 ghost use Rattle.std.specs.List.{list_any};
 ghost use Rattle.engine_core.specs.Marks.{is_allowing, other_marks};
-ghost use Rattle.engine_core.specs.Steps.{marked};
+ghost use Rattle.engine_core.specs.EngineSteps.{marks_with};
 
 use crate::MAX_ENGINES;
 use crate::engine::Engine;
@@ -17,12 +17,12 @@ pub(crate) type Marks = ArrayVec<Mark, MAX_ENGINES>;
 pub(crate) struct Mark {
     // The number of the attachment.
     pub attach: u32,
-    pub note: Note,
+    pub note: MarkNote,
 }
 
 // The content of a mark.
 #[derive(Clone, Copy)]
-pub(crate) enum Note {
+pub(crate) enum MarkNote {
     // The access policy of this version allowed the call.
     Allowed { version: u32 },
     // The call was charged.
@@ -38,7 +38,7 @@ impl Mark {
     fn is_allowing(&self) -> bool
         ensures { result ≡ is_allowing self.now.note }
     {
-        matches!(self.note, Note::Allowed { .. })
+        matches!(self.note, MarkNote::Allowed { .. })
     }
 }
 
@@ -47,24 +47,24 @@ impl Default for Mark {
     fn default() -> Mark {
         Mark {
             attach: 0,
-            note: Note::Counted,
+            note: MarkNote::Counted,
         }
     }
 }
 
 // Sets the mark of an attachment, replacing an earlier one.
-pub(crate) fn set(marks: &mut Marks, attach: u32, note: Note)
+pub(crate) fn set(marks: &mut Marks, attach: u32, note: MarkNote)
     requires { length (other_marks attach marks.old.items) ≤ 7 }
-    ensures { marks.new.items ≡ marked attach note marks.old.items }
+    ensures { marks.new.items ≡ marks_with attach note marks.old.items }
 {
-    match place_of(marks.as_slice(), attach) {
+    match position_of(marks.as_slice(), attach) {
         Some(place) => marks[place] = Mark { attach, note },
         None => marks.push(Mark { attach, note }),
     }
 }
 
 // The index of the mark of an attachment, if there is one.
-fn place_of(marks: &[Mark], attach: u32) -> Option<usize>
+fn position_of(marks: &[Mark], attach: u32) -> Option<usize>
     ensures { result ≡ position (λ m. m.attach == attach) marks.now }
 {
     marks.iter().position(|mark| mark.attach == attach)

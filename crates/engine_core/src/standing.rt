@@ -5,14 +5,14 @@ ghost use Rattle.std.specs.Bool.{OnTrue, OnFalse};
 ghost use Rattle.mrpc_table.specs.Weight.{weight};
 ghost use Rattle.mrpc_table.specs.declared.table.Table.{Table as TheTable};
 ghost use Rattle.mrpc_table.specs.Calls.{IsCallOf};
-ghost use Rattle.policy_redact.specs.Redacting.{FitsSomeTable, cleared_call};
+ghost use Rattle.policy_redact.specs.Redacting.{IsCallOfSomeTable, cleared_call};
 ghost use Rattle.engine_core.specs.Engines.{EngineParts};
-ghost use Rattle.engine_core.specs.Marks.{IsOneEach, StandingCall, note_of, other_marks};
-ghost use Rattle.engine_core.specs.Steps.{IsUnallowed, with_mark};
-ghost use Rattle.engine_core.specs.Working.{HasOnlyMarksOf, KeepsMarksOf};
+ghost use Rattle.engine_core.specs.Marks.{IsOneEach, PendingCall, note_of, other_marks};
+ghost use Rattle.engine_core.specs.EngineSteps.{IsUnallowed, with_mark};
+ghost use Rattle.engine_core.specs.Working.{HasOnlyMarksOf, HasKeptMarksOf};
 
 use crate::engine::Engine;
-use crate::mark::{Marks, Note, forget_allowing, keep_of, set};
+use crate::mark::{MarkNote, Marks, forget_allowing, keep_of, set};
 use mrpc_table::Call;
 use policy_redact::Redact;
 use std::marker::Model;
@@ -25,9 +25,9 @@ pub struct Standing {
 }
 
 impl Model for Standing {
-    ghost use Rattle.engine_core.specs.Marks.{StandingCall, IsOneEach};
+    ghost use Rattle.engine_core.specs.Marks.{PendingCall, IsOneEach};
 
-    ghost Value = { StandingCall };
+    ghost Value = { PendingCall };
 
     ghost use Rattle.std.specs.Coded.{codes};
     ghost use Rattle.mrpc_table.specs.contracts.call.Call as c;
@@ -59,7 +59,7 @@ impl Standing {
     }
 
     // The content of an attachment's mark, if there is one.
-    pub(crate) fn note_of(&self, attach: u32) -> Option<Note>
+    pub(crate) fn note_of(&self, attach: u32) -> Option<MarkNote>
         ensures { result ≡ note_of self.now.marks attach }
     {
         self.marks
@@ -70,7 +70,7 @@ impl Standing {
     }
 
     // Like `note_of`, but looks at the index `likely` first.
-    pub(crate) fn note_at(&self, likely: usize, attach: u32) -> Option<Note>
+    pub(crate) fn note_at(&self, likely: usize, attach: u32) -> Option<MarkNote>
         ensures { result ≡ note_of self.now.marks attach }
     {
         let marks = self.marks.as_slice();
@@ -81,7 +81,7 @@ impl Standing {
     }
 
     // Sets the mark of an attachment.
-    pub(crate) fn mark(&mut self, attach: u32, note: Note)
+    pub(crate) fn mark(&mut self, attach: u32, note: MarkNote)
         requires { length (other_marks attach self.old.marks) ≤ 7 }
         ensures { self.new ≡ with_mark attach note self.old }
     {
@@ -91,7 +91,7 @@ impl Standing {
     // Clears the fields of a redacting policy. If that changes the tree, it removes the marks of access engines,
     // since their policies allowed another tree. Returns whether the tree changed.
     pub(crate) fn clear(&mut self, redact: &Redact) -> bool
-        requires { FitsSomeTable self.old.call }
+        requires { IsCallOfSomeTable self.old.call }
         ensures left { self.new.call ≡ cleared_call redact.now self.old.call }
         ensures changed { IsTrue result ↔ (self.new.call.tree ≢ self.old.call.tree) }
         ensures unallowed { OnTrue result (IsUnallowed self.old.marks self.new.marks) }
@@ -121,9 +121,9 @@ impl Standing {
     }
 
     // Removes the marks of all engines but these, unless the call is known (`alone`) to have no others.
-    pub(crate) fn lose_others(&mut self, engines: &[Engine], alone: bool)
+    pub(crate) fn drop_other_marks(&mut self, engines: &[Engine], alone: bool)
         requires { OnTrue alone (HasOnlyMarksOf engines.now self.old) }
-        ensures { KeepsMarksOf engines.now self.old self.new }
+        ensures { HasKeptMarksOf engines.now self.old self.new }
     {
         if !alone {
             self.keep_marks_of(engines);

@@ -4,15 +4,15 @@ ghost use Rattle.std.specs.Prelude.{◌≡◌, ◌≢◌, ◌<◌, ◌≤◌, �
 ghost use Rattle.std.specs.Bool.{OnTrue, OnFalse};
 ghost use Rattle.mrpc_table.specs.Calls.{IsCallOf};
 ghost use Rattle.policy_rate.specs.Level.{IsRate};
-ghost use Rattle.policy_redact.specs.Redacting.{FitsSomeTable};
+ghost use Rattle.policy_redact.specs.Redacting.{IsCallOfSomeTable};
 ghost use Rattle.engine_core.specs.Answers.{drawn, nothing};
 ghost use Rattle.engine_core.specs.Marks.{is_allowed_by, note_of, other_marks, past_by, past_of};
-ghost use Rattle.engine_core.specs.Steps.{Steps};
+ghost use Rattle.engine_core.specs.EngineSteps.{IsEngineStep};
 ghost use Rattle.engine_core.specs.declared.outcome.Noted.TheVariants.{Nothing};
 ghost use Rattle.engine_core.specs.declared.outcome.Outcome.TheVariants.{Passed};
-ghost use Rattle.engine_core.specs.Turns.{noted_in, is_draw, TellsDraw, IsElsewhere};
+ghost use Rattle.engine_core.specs.Turns.{noted_in, is_draw, IsRecordedDraw, IsElsewhere};
 
-use crate::mark::Note;
+use crate::mark::MarkNote;
 use crate::outcome::{Noted, Outcome, Why};
 use crate::policy::Policy;
 use crate::standing::Standing;
@@ -33,7 +33,7 @@ pub(crate) fn judge(
     requires call { IsCallOf table.now call.old.call }
     requires room { length (other_marks attach call.old.marks) ≤ 7 }
     ensures { (level moment : ℕ)
-        → Steps (Policy.Access access.now) attach version level moment call.old call.new level result }
+        → IsEngineStep (Policy.Access access.now) attach version level moment call.old call.new level result }
 {
     if allows(call.note_of(attach), version) {
         return Outcome::Passed(Noted::Nothing);
@@ -42,7 +42,7 @@ pub(crate) fn judge(
     if !verdict.allow {
         return Outcome::Refused(Noted::Nothing, Why::Denied { rule: verdict.rule });
     }
-    call.mark(attach, Note::Allowed { version });
+    call.mark(attach, MarkNote::Allowed { version });
     Outcome::Passed(Noted::Nothing)
 }
 
@@ -52,7 +52,7 @@ pub(crate) fn allow(
     access: &Access,
     attach: u32,
     version: u32,
-    note: Option<Note>,
+    note: Option<MarkNote>,
     call: &mut Standing,
     table: &Table,
 ) -> bool
@@ -61,13 +61,13 @@ pub(crate) fn allow(
     requires note { note ≡ note_of call.old.marks attach }
     requires unmarked { is_allowed_by version note ≡ false }
     ensures allows { OnTrue result ((level moment : ℕ)
-        → Steps (Policy.Access access.now) attach version level moment call.old call.new level (Passed Nothing)) }
+        → IsEngineStep (Policy.Access access.now) attach version level moment call.old call.new level (Passed Nothing)) }
     ensures as_before { OnFalse result (call.new ≡ call.old) }
 {
     if !access.judge(call.call(), table).allow {
         return false;
     }
-    call.mark(attach, Note::Allowed { version });
+    call.mark(attach, MarkNote::Allowed { version });
     true
 }
 
@@ -76,7 +76,7 @@ pub(crate) fn charge(rate: &Rate, bucket: &mut Bucket, attach: u32, call: &mut S
     requires rate { IsRate rate.now }
     requires room { length (other_marks attach call.old.marks) ≤ 7 }
     ensures step { (version moment : ℕ)
-        → Steps (Policy.Rate rate.now) attach version bucket.old.level moment
+        → IsEngineStep (Policy.Rate rate.now) attach version bucket.old.level moment
         call.old call.new bucket.new.level result }
     ensures last { bucket.new.last ≡ bucket.old.last }
 {
@@ -85,7 +85,7 @@ pub(crate) fn charge(rate: &Rate, bucket: &mut Bucket, attach: u32, call: &mut S
     }
     match bucket.step(rate) {
         Step::Pass { level } => {
-            call.mark(attach, Note::Charged);
+            call.mark(attach, MarkNote::Charged);
             Outcome::Passed(Noted::Charged { level })
         }
         Step::Short { level, cost } if rate.hold => Outcome::Held { level, cost },
@@ -107,8 +107,8 @@ pub(crate) fn draw<Q: Tickets>(
     requires room { length (other_marks attach call.old.marks) ≤ 7 }
     requires known { Q.knows tickets.old tenant }
     ensures step { (version level : ℕ)
-        → Steps (Policy.Quota tenant per cap) attach version level now call.old call.new level result }
-    ensures drawn { TellsDraw (Q.drawn tickets.old) (Q.drawn tickets.new)
+        → IsEngineStep (Policy.Quota tenant per cap) attach version level now call.old call.new level result }
+    ensures drawn { IsRecordedDraw (Q.drawn tickets.old) (Q.drawn tickets.new)
         (Policy.Quota tenant per cap) (noted_in result) }
     ensures elsewhere { (t w : ℕ) → Q.knows tickets.old t → w < WINDOWS
         → IsElsewhere (Policy.Quota tenant per cap) (noted_in result) t w
@@ -122,7 +122,7 @@ pub(crate) fn draw<Q: Tickets>(
     }
     let window = (now / per).min(WINDOWS - 1);
     let ticket = tickets.draw(tenant, window);
-    call.mark(attach, Note::Drawn { ticket });
+    call.mark(attach, MarkNote::Drawn { ticket });
     compared(Noted::Drawn { window, ticket }, ticket, cap)
 }
 
@@ -142,20 +142,20 @@ fn compared(noted: Noted, ticket: u64, cap: u64) -> Outcome
 pub(crate) fn count(attach: u32, call: &mut Standing) -> Outcome
     requires { length (other_marks attach call.old.marks) ≤ 7 }
     ensures { (version level moment : ℕ)
-        → Steps Policy.Count attach version level moment call.old call.new level result }
+        → IsEngineStep Policy.Count attach version level moment call.old call.new level result }
 {
     if is_noted(call, attach) {
         return Outcome::Passed(Noted::Nothing);
     }
-    call.mark(attach, Note::Counted);
+    call.mark(attach, MarkNote::Counted);
     Outcome::Passed(Noted::Counted)
 }
 
 // A redacting engine clears the call's tree each time.
 pub(crate) fn clear(redact: &Redact, call: &mut Standing) -> Outcome
-    requires { FitsSomeTable call.old.call }
+    requires { IsCallOfSomeTable call.old.call }
     ensures { (attach version level moment : ℕ)
-        → Steps (Policy.Redact redact.now) attach version level moment call.old call.new level result }
+        → IsEngineStep (Policy.Redact redact.now) attach version level moment call.old call.new level result }
 {
     if call.clear(redact) {
         Outcome::Redacted
@@ -165,22 +165,22 @@ pub(crate) fn clear(redact: &Redact, call: &mut Standing) -> Outcome
 }
 
 // Whether an optional mark notes a charge, a ticket or a count.
-pub(crate) fn is_past(note: Option<Note>) -> bool
+pub(crate) fn has_note(note: Option<MarkNote>) -> bool
     ensures noted { OnTrue result (past_by note ≢ nothing) }
     ensures none { OnFalse result (past_by note ≡ nothing) }
 {
     matches!(
         note,
-        Some(Note::Charged | Note::Drawn { .. } | Note::Counted)
+        Some(MarkNote::Charged | MarkNote::Drawn { .. } | MarkNote::Counted)
     )
 }
 
 // Whether there is a mark that this version of an access policy allowed the call.
-pub(crate) fn allows(note: Option<Note>, version: u32) -> bool
+pub(crate) fn allows(note: Option<MarkNote>, version: u32) -> bool
     ensures { result ≡ is_allowed_by version note }
 {
     match note {
-        Some(Note::Allowed { version: allowed }) => allowed == version,
+        Some(MarkNote::Allowed { version: allowed }) => allowed == version,
         _ => false,
     }
 }
@@ -190,7 +190,7 @@ pub(crate) fn is_noted(call: &Standing, attach: u32) -> bool
     ensures noted { OnTrue result (past_of call.now.marks attach ≢ nothing) }
     ensures none { OnFalse result (past_of call.now.marks attach ≡ nothing) }
 {
-    is_past(call.note_of(attach))
+    has_note(call.note_of(attach))
 }
 
 // The ticket that an attachment drew for a call, if any.
@@ -199,7 +199,7 @@ fn ticket_of(call: &Standing, attach: u32) -> Option<u64>
         → past_of call.now.marks attach ≢ drawn t) (λ t. past_of call.now.marks attach ≡ drawn t) }
 {
     match call.note_of(attach) {
-        Some(Note::Drawn { ticket }) => Some(ticket),
+        Some(MarkNote::Drawn { ticket }) => Some(ticket),
         _ => None,
     }
 }

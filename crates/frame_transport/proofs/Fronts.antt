@@ -6,11 +6,11 @@ use Rattle.std.proofs.lemmas.List.{length-take, length-drop, get_or-take, drop-t
 use Rattle.std.proofs.Math.ListN.{get_or-append}
 use Rattle.byteorder.specs.Endian.{big_number}
 use Rattle.byteorder.specs.Numbers.{big_from-take}
-use Rattle.frame_transport.specs.Frames.{IsFrame, bytes_of, IsPartial, length_in, IsFaultAt, HasFault}
+use Rattle.frame_transport.specs.Frames.{IsFrame, bytes_of_frame, IsPartial, length_field, IsFaultAt, HasHeaderFault}
 use Rattle.frame_transport.specs.Frames.{HasNoFrame}
-use Rattle.frame_transport.specs.Parts.{IsHeaderOf, IsClear, EndsFrame}
+use Rattle.frame_transport.specs.Parts.{IsHeaderOf, IsClear, IsFrameOfParts}
 use Rattle.frame_transport.specs.declared.format.Frame.{Frame}
-use Rattle.frame_transport.specs.declared.header.Header.{Header}
+use Rattle.frame_transport.specs.declared.header.FrameHeader.{FrameHeader}
 use Rattle.frame_transport.specs.declared.fault.FeedFault.{FeedFault}
 use Rattle.frame_transport.proofs.HeaderBytes.{AreBytes}
 use Rattle.frame_transport.proofs.FaultFacts.{has-of_take, fault-append, no_fault, length_in-append, length_in-take}
@@ -24,25 +24,25 @@ front_fault place bs fault h =
     record { partial = partial_of_fault place bs fault whole; first = whole }
 
 -- fewer than 16 bytes
-pub front_short : (place : ℕ) (bs : List ℕ) → HasFault place (take 16 bs) None → length (take 16 bs) < 16 → HasNoFrame place bs None
+pub front_short : (place : ℕ) (bs : List ℕ) → HasHeaderFault place (take 16 bs) None → length (take 16 bs) < 16 → HasNoFrame place bs None
 front_short place bs h short =
     let len : length bs < 16 = omega (arith, length-take {A = ℕ}) in
     record { partial = partial_of_short bs (omega arith); first = has-of_take place 16 bs None (omega arith) h }
 
 -- a partial frame is shorter than the whole
-pub begun_short : (place : ℕ) (begun piece : List ℕ) → AreBytes begun → IsPartial begun → HasFault place (take 16 (begun ++ piece)) None
-    → length begun < 16 + length_in (take 16 (begun ++ piece))
+pub begun_short : (place : ℕ) (begun piece : List ℕ) → AreBytes begun → IsPartial begun → HasHeaderFault place (take 16 (begun ++ piece)) None
+    → length begun < 16 + length_field (take 16 (begun ++ piece))
 begun_short place begun piece b partial h = elim (cases_lt (length begun) 16) [
   | inl less ↦ omega arith
   | inr more ↦
-      let whole : HasFault place (begun ++ piece) None = has-of_take place 16 (begun ++ piece) None (omega arith) h in
-      let size : length_in (take 16 (begun ++ piece)) ≡ length_in begun =
+      let whole : HasHeaderFault place (begun ++ piece) None = has-of_take place 16 (begun ++ piece) None (omega arith) h in
+      let size : length_field (take 16 (begun ++ piece)) ≡ length_field begun =
       length_in-take 16 (begun ++ piece) (omega arith) ∙ length_in-append begun piece (omega arith) in
-      elim (cases_lt (length begun) (16 + length_in begun)) [
+      elim (cases_lt (length begun) (16 + length_field begun)) [
         | inl short ↦ omega arith
         | inr enough ↦
             let front = frame_at_front place begun b (λ fault is. whole fault (fault-append place begun piece fault is)) enough in
-            absurd (partial (frame_at place begun) (drop (16 + length_in begun) begun) front.0 front.1)
+            absurd (partial (frame_at place begun) (drop (16 + length_field begun) begun) front.0 front.1)
       ]
 ]
 
@@ -58,49 +58,49 @@ AreBytes-append xs ys a b i = elim (cases_lt i (length xs)) [
 ]
 
 -- a whole frame, read from its header and with its payload
-pub front_whole : (place : ℕ) (begun piece : List ℕ) (h : Header) (payload : List ℕ) → AreBytes begun → AreBytes piece → IsClear place begun piece h
+pub front_whole : (place : ℕ) (begun piece : List ℕ) (h : FrameHeader) (payload : List ℕ) → AreBytes begun → AreBytes piece → IsClear place begun piece h
     → 16 + h.length ≤ length begun + length piece → payload ≡ take h.length (drop 16 (begun ++ piece))
-    → EndsFrame place begun piece (record { kind = h.kind; version = h.version; method = h.method; conn = h.conn; number = h.number; payload = payload; place = place })
+    → IsFrameOfParts place begun piece (record { kind = h.kind; version = h.version; method = h.method; conn = h.conn; number = h.number; payload = payload; place = place })
 front_whole place begun piece h payload b b' is within payloadis =
     let long = is.long in
     let header = is.header in
     let bs : List ℕ = begun ++ piece in
     let enough : 16 ≤ length bs = omega (arith, length-take {A = ℕ}) in
-    let clean : HasFault place bs None = has-of_take place 16 bs None (omega arith) is.clean in
-    let size : h.length ≡ length_in bs = header.size ∙ length_in-take 16 bs (omega arith) in
+    let clean : HasHeaderFault place bs None = has-of_take place 16 bs None (omega arith) is.clean in
+    let size : h.length ≡ length_field bs = header.size ∙ length_in-take 16 bs (omega arith) in
     let kind : h.kind ≡ slice_index bs 4 = header.kind ∙ get_or-take 16 bs 4 0 (omega arith) in
     let version : h.version ≡ slice_index bs 5 = header.version ∙ get_or-take 16 bs 5 0 (omega arith) in
     let method : h.method ≡ big_number 2 (drop 6 bs) = header.method ∙ ap (big_number 2) (drop-take 6 10 bs) ∙ big_from-take 0 2 10 (drop 6 bs) (omega arith) in
     let conn : h.conn ≡ big_number 4 (drop 8 bs) = header.conn ∙ ap (big_number 4) (drop-take 8 8 bs) ∙ big_from-take 0 4 8 (drop 8 bs) (omega arith) in
     let number : h.number ≡ big_number 4 (drop 12 bs) = header.number ∙ ap (big_number 4) (drop-take 12 4 bs) ∙ big_from-take 0 4 4 (drop 12 bs) (omega arith) in
-    let read : payload ≡ take (length_in bs) (drop 16 bs) = payloadis ∙ ap (λ (n : ℕ). take n (drop 16 bs)) size in
+    let read : payload ≡ take (length_field bs) (drop 16 bs) = payloadis ∙ ap (λ (n : ℕ). take n (drop 16 bs)) size in
     let total : length bs ≡ length begun + length piece = length-append begun piece in
-    let count : length payload ≡ length_in bs = ap length read ∙ omega (arith, length-take {A = ℕ}, length-drop {A = ℕ}) in
+    let count : length payload ≡ length_field bs = ap length read ∙ omega (arith, length-take {A = ℕ}, length-drop {A = ℕ}) in
     let front = frame_at_front place bs (AreBytes-append begun piece b b') clean (omega arith) in
     let f : Frame = record { kind = h.kind; version = h.version; method = h.method; conn = h.conn; number = h.number; payload = payload; place = place } in
     let same : f ≡ frame_at place bs = λ i. record { kind = kind i; version = version i; method = method i; conn = conn i; number = number i; payload = read i; place = place } in
     let short = is.longer in
-    let more : drop (16 + length_in bs) bs ≡ drop (16 + length payload - length begun) piece =
-    behind_parts (16 + length_in bs) begun piece (omega arith) ∙ ap (λ (n : ℕ). drop (16 + n - length begun) piece) (sym count) in
+    let more : drop (16 + length_field bs) bs ≡ drop (16 + length payload - length begun) piece =
+    behind_parts (16 + length_field bs) begun piece (omega arith) ∙ ap (λ (n : ℕ). drop (16 + n - length begun) piece) (sym count) in
     record {
       frame = subst IsFrame (sym same) front.0;
       stands = refl;
       longer = omega arith;
       within = omega arith;
-      bytes = front.1 ∙ (λ i. bytes_of (sym same i) ++ more i);
+      bytes = front.1 ∙ (λ i. bytes_of_frame (sym same i) ++ more i);
     }
 
 pub not_less : (n m : ℕ) → (n < m → true ≡ false) → m ≤ n
 not_less n m h = elim (cases_lt n m) [ inl less ↦ let e : true ≡ false = h less in absurd cc | inr more ↦ more ]
 
 -- a whole header without a fault
-pub clear : (place : ℕ) (begun piece seen : List ℕ) (h : Header) → AreBytes begun → IsPartial begun → seen ≡ take 16 (begun ++ piece)
-    → HasFault place seen None → 16 ≤ length seen → IsHeaderOf seen h → IsClear place begun piece h
+pub clear : (place : ℕ) (begun piece seen : List ℕ) (h : FrameHeader) → AreBytes begun → IsPartial begun → seen ≡ take 16 (begun ++ piece)
+    → HasHeaderFault place seen None → 16 ≤ length seen → IsHeaderOf seen h → IsClear place begun piece h
 clear place begun piece seen h b partial e none long header =
-    let clean : HasFault place (take 16 (begun ++ piece)) None = subst (λ (bs : List ℕ). HasFault place bs None) e none in
+    let clean : HasHeaderFault place (take 16 (begun ++ piece)) None = subst (λ (bs : List ℕ). HasHeaderFault place bs None) e none in
     let facts = no_fault place seen (omega arith) none in
     let short = begun_short place begun piece b partial clean in
-    let same : length_in seen ≡ length_in (take 16 (begun ++ piece)) = ap length_in e in
+    let same : length_field seen ≡ length_field (take 16 (begun ++ piece)) = ap length_field e in
     record {
       clean = clean;
       long = subst (λ (bs : List ℕ). 16 ≤ length bs) e long;
@@ -110,9 +110,9 @@ clear place begun piece seen h b partial e none long header =
     }
 
 -- fewer bytes than the frame has
-pub front_partial : (place : ℕ) (begun piece : List ℕ) (h : Header) → IsClear place begun piece h → length piece < 16 + h.length - length begun
+pub front_partial : (place : ℕ) (begun piece : List ℕ) (h : FrameHeader) → IsClear place begun piece h → length piece < 16 + h.length - length begun
     → HasNoFrame place (begun ++ piece) None
 front_partial place begun piece h is short =
-    let size : h.length ≡ length_in (begun ++ piece) = is.header.size ∙ length_in-take 16 (begun ++ piece) (omega arith) in
+    let size : h.length ≡ length_field (begun ++ piece) = is.header.size ∙ length_in-take 16 (begun ++ piece) (omega arith) in
     let total : length (begun ++ piece) ≡ length begun + length piece = length-append begun piece in
     record { partial = partial_of_short (begun ++ piece) (omega (arith, is.longer)); first = has-of_take place 16 (begun ++ piece) None (omega arith) is.clean }

@@ -8,7 +8,7 @@ use Rattle.std.specs.Int.{w16, w32, from_be_bytes}
 use Rattle.byteorder.specs.Endian.{big_bytes, big_number}
 use Rattle.byteorder.specs.Numbers.{big_from-take, big_number-reads_back}
 use Rattle.frame_transport.specs.Bytes.{header_bytes}
-use Rattle.frame_transport.specs.Frames.{length_in}
+use Rattle.frame_transport.specs.Frames.{length_field}
 
 pub length-header_bytes : (len kind version method conn number : ℕ) → length (header_bytes len kind version method conn number) ≡ 16
 unfolding header_bytes
@@ -16,8 +16,8 @@ length-header_bytes len kind version method conn number = refl
 
 -- the first number of a header is the length
 pub length_in-header : (len kind version method conn number : ℕ) (more : List ℕ) → len < 2 ^ 32
-    → length_in (header_bytes len kind version method conn number ++ more) ≡ len
-unfolding header_bytes length_in
+    → length_field (header_bytes len kind version method conn number ++ more) ≡ len
+unfolding header_bytes length_field
 length_in-header len kind version method conn number more h =
     big_number-reads_back 4 len (drop 4 (header_bytes len kind version method conn number ++ more)) h
 
@@ -96,8 +96,8 @@ two_bytes bs h =
 
 -- 16 bytes are the header of the numbers that are read from them
 pub read_header : (bs : List ℕ) → 16 ≤ length bs → AreBytes bs
-    → header_bytes (length_in bs) (slice_index bs 4) (slice_index bs 5) (big_number 2 (drop 6 bs)) (big_number 4 (drop 8 bs)) (big_number 4 (drop 12 bs)) ++ drop 16 bs ≡ bs
-unfolding header_bytes length_in
+    → header_bytes (length_field bs) (slice_index bs 4) (slice_index bs 5) (big_number 2 (drop 6 bs)) (big_number 4 (drop 8 bs)) (big_number 4 (drop 12 bs)) ++ drop 16 bs ≡ bs
+unfolding header_bytes length_field
 read_header bs h b =
     let len = read_four bs (omega arith) b in
     let fields = two_bytes bs (omega arith) in

@@ -2,7 +2,7 @@
 use Rattle.std.proofs.Common.{◌≡◌, ◌≢◌, ℕ, [], ◌∷◌, inl, inr, Some, None, refl, arith}
 use Rattle.std.proofs.lemmas.List.Elements.{All-nil, All-cons}
 use Rattle.frame_transport.specs.Bytes.{frame_bytes, header_bytes}
-use Rattle.frame_transport.specs.Frames.{IsFrame, Splits, Ends, HasVersion, IsFaultAt, long, no_kind, no_version, HasFault, length_in}
+use Rattle.frame_transport.specs.Frames.{IsFrame, IsSplitOf, HasFaultSoFar, HasVersion, IsFaultAt, long, no_kind, no_version, HasHeaderFault, length_field}
 use Rattle.frame_transport.specs.declared.format.Frame.{Frame}
 use Rattle.frame_transport.proofs.FaultFacts.{none_before_length, none_before_kind, none_of_fields}
 use Rattle.frame_transport.proofs.Splitting.{partial_of_nothing, partial_of_short}
@@ -25,19 +25,19 @@ hello_of_version_2 = refl
 
 -- ---- faults
 
-begun : HasFault 0 (0 ∷ 0 ∷ 0 ∷ 3 ∷ 1 ∷ 1 ∷ 0 ∷ 0 ∷ 0 ∷ 0 ∷ []) None
-unfolding length_in
+begun : HasHeaderFault 0 (0 ∷ 0 ∷ 0 ∷ 3 ∷ 1 ∷ 1 ∷ 0 ∷ 0 ∷ 0 ∷ 0 ∷ []) None
+unfolding length_field
 begun = none_of_fields 0 (0 ∷ 0 ∷ 0 ∷ 3 ∷ 1 ∷ 1 ∷ 0 ∷ 0 ∷ 0 ∷ 0 ∷ []) (omega arith) (omega arith, omega arith) (inl refl)
 
 too_long : IsFaultAt 0 (0 ∷ 4 ∷ 0 ∷ 1 ∷ []) (TooLong 0 262145)
-unfolding length_in
+unfolding length_field
 too_long = long (omega arith) (omega arith) refl
 
-not_yet : HasFault 0 (0 ∷ 4 ∷ 0 ∷ []) None
+not_yet : HasHeaderFault 0 (0 ∷ 4 ∷ 0 ∷ []) None
 not_yet = none_before_length 0 (0 ∷ 4 ∷ 0 ∷ []) (omega arith)
 
-longest : HasFault 0 (0 ∷ 4 ∷ 0 ∷ 0 ∷ []) None
-unfolding length_in
+longest : HasHeaderFault 0 (0 ∷ 4 ∷ 0 ∷ 0 ∷ []) None
+unfolding length_field
 longest = none_before_kind 0 (0 ∷ 4 ∷ 0 ∷ 0 ∷ []) (omega arith) (omega arith)
 
 -- a kind, and a version that it lacks
@@ -48,36 +48,36 @@ lacks_3 : (kind : ℕ) → HasVersion kind 3 → ⊥
 lacks_3 kind h = elim h [ inl one ↦ omega (arith, one) | inr hello ↦ omega (arith, hello.1) ]
 
 version_2_of_a_request : IsFaultAt 0 (0 ∷ 0 ∷ 0 ∷ 0 ∷ 1 ∷ 2 ∷ []) (Version 5 2)
-unfolding length_in
+unfolding length_field
 version_2_of_a_request = no_version (omega arith) (omega arith) (omega arith, omega arith) (lacks_2 1 (λ e. omega (arith, e))) refl
 
 version_2_of_a_reply : IsFaultAt 0 (0 ∷ 0 ∷ 0 ∷ 0 ∷ 2 ∷ 2 ∷ []) (Version 5 2)
-unfolding length_in
+unfolding length_field
 version_2_of_a_reply = no_version (omega arith) (omega arith) (omega arith, omega arith) (lacks_2 2 (λ e. omega (arith, e))) refl
 
 version_3_of_a_hello : IsFaultAt 0 (0 ∷ 0 ∷ 0 ∷ 0 ∷ 3 ∷ 3 ∷ []) (Version 5 3)
-unfolding length_in
+unfolding length_field
 version_3_of_a_hello = no_version (omega arith) (omega arith) (omega arith, omega arith) (lacks_3 3) refl
 
-version_2_of_a_hello : HasFault 0 (0 ∷ 0 ∷ 0 ∷ 0 ∷ 3 ∷ 2 ∷ []) None
-unfolding length_in
+version_2_of_a_hello : HasHeaderFault 0 (0 ∷ 0 ∷ 0 ∷ 0 ∷ 3 ∷ 2 ∷ []) None
+unfolding length_field
 version_2_of_a_hello = none_of_fields 0 (0 ∷ 0 ∷ 0 ∷ 0 ∷ 3 ∷ 2 ∷ []) (omega arith) (omega arith, omega arith) (inr (refl, refl))
 
-version_1_of_a_hello : HasFault 0 (0 ∷ 0 ∷ 0 ∷ 0 ∷ 3 ∷ 1 ∷ []) None
-unfolding length_in
+version_1_of_a_hello : HasHeaderFault 0 (0 ∷ 0 ∷ 0 ∷ 0 ∷ 3 ∷ 1 ∷ []) None
+unfolding length_field
 version_1_of_a_hello = none_of_fields 0 (0 ∷ 0 ∷ 0 ∷ 0 ∷ 3 ∷ 1 ∷ []) (omega arith) (omega arith, omega arith) (inl refl)
 
 other_kind : IsFaultAt 0 (0 ∷ 0 ∷ 0 ∷ 0 ∷ 9 ∷ []) (Kind 4 9)
-unfolding length_in
+unfolding length_field
 other_kind = no_kind (omega arith) (omega arith) (λ is. omega (arith, is.1)) refl
 
 -- the length is checked before the kind, and the kind before the version
 length_first : IsFaultAt 7 (0 ∷ 4 ∷ 0 ∷ 1 ∷ 9 ∷ 2 ∷ []) (TooLong 7 262145)
-unfolding length_in
+unfolding length_field
 length_first = long (omega arith) (omega arith) refl
 
 kind_first : IsFaultAt 7 (0 ∷ 0 ∷ 0 ∷ 1 ∷ 0 ∷ 2 ∷ []) (Kind 11 0)
-unfolding length_in
+unfolding length_field
 kind_first = no_kind (omega arith) (omega arith) (λ is. omega (arith, is.0)) refl
 
 -- three valid frames in order, with their offsets
@@ -102,7 +102,7 @@ third_is : IsFrame third
 unfolding third
 third_is = record { kind = (omega arith, omega arith); version = inl refl; short = omega arith; method = omega arith; conn = omega arith; number = omega arith }
 
-three : Splits 0
+three : IsSplitOf 0
     (0 ∷ 0 ∷ 0 ∷ 8 ∷ 1 ∷ 1 ∷ 0 ∷ 0 ∷ 0 ∷ 0 ∷ 0 ∷ 1 ∷ 0 ∷ 0 ∷ 0 ∷ 1 ∷ 50 ∷ 6 ∷ 3 ∷ 142 ∷ 2 ∷ 158 ∷ 167 ∷ 5
     ∷ 0 ∷ 0 ∷ 0 ∷ 9 ∷ 1 ∷ 1 ∷ 0 ∷ 0 ∷ 0 ∷ 0 ∷ 0 ∷ 1 ∷ 0 ∷ 0 ∷ 0 ∷ 2 ∷ 48 ∷ 3 ∷ 48 ∷ 142 ∷ 2 ∷ 48 ∷ 158 ∷ 167 ∷ 5
     ∷ 0 ∷ 0 ∷ 0 ∷ 10 ∷ 1 ∷ 1 ∷ 0 ∷ 0 ∷ 0 ∷ 0 ∷ 0 ∷ 1 ∷ 0 ∷ 0 ∷ 0 ∷ 3 ∷ 50 ∷ 1 ∷ 3 ∷ 50 ∷ 5 ∷ 142 ∷ 2 ∷ 158 ∷ 167 ∷ 5 ∷ [])
@@ -116,8 +116,8 @@ three = record {
 }
 
 -- a partial frame, without a fault so far
-short : Ends 0 (0 ∷ 0 ∷ 0 ∷ 3 ∷ 1 ∷ 1 ∷ 0 ∷ 0 ∷ 0 ∷ 0 ∷ []) None
-unfolding length_in
+short : HasFaultSoFar 0 (0 ∷ 0 ∷ 0 ∷ 3 ∷ 1 ∷ 1 ∷ 0 ∷ 0 ∷ 0 ∷ 0 ∷ []) None
+unfolding length_field
 short = record {
   frames = [];
   rest = 0 ∷ 0 ∷ 0 ∷ 3 ∷ 1 ∷ 1 ∷ 0 ∷ 0 ∷ 0 ∷ 0 ∷ [];
@@ -126,9 +126,9 @@ short = record {
 }
 
 -- a request of version 2 after a whole frame
-version_behind : Ends 0 (0 ∷ 0 ∷ 0 ∷ 8 ∷ 1 ∷ 1 ∷ 0 ∷ 0 ∷ 0 ∷ 0 ∷ 0 ∷ 1 ∷ 0 ∷ 0 ∷ 0 ∷ 1 ∷ 50 ∷ 6 ∷ 3 ∷ 142 ∷ 2 ∷ 158
+version_behind : HasFaultSoFar 0 (0 ∷ 0 ∷ 0 ∷ 8 ∷ 1 ∷ 1 ∷ 0 ∷ 0 ∷ 0 ∷ 0 ∷ 0 ∷ 1 ∷ 0 ∷ 0 ∷ 0 ∷ 1 ∷ 50 ∷ 6 ∷ 3 ∷ 142 ∷ 2 ∷ 158
     ∷ 167 ∷ 5 ∷ 0 ∷ 0 ∷ 0 ∷ 0 ∷ 1 ∷ 2 ∷ []) (Some (Version 29 2))
-unfolding first header_bytes length_in
+unfolding first header_bytes length_field
 version_behind = record {
   frames = first ∷ [];
   rest = 0 ∷ 0 ∷ 0 ∷ 0 ∷ 1 ∷ 2 ∷ [];
@@ -156,7 +156,7 @@ older_is : IsFrame older
 unfolding older
 older_is = record { kind = (omega arith, omega arith); version = inl refl; short = omega arith; method = omega arith; conn = omega arith; number = omega arith }
 
-hellos : Splits 0
+hellos : IsSplitOf 0
     (0 ∷ 0 ∷ 0 ∷ 2 ∷ 3 ∷ 2 ∷ 0 ∷ 0 ∷ 0 ∷ 0 ∷ 0 ∷ 1 ∷ 0 ∷ 0 ∷ 0 ∷ 0 ∷ 83 ∷ 10
     ∷ 0 ∷ 0 ∷ 0 ∷ 2 ∷ 3 ∷ 1 ∷ 0 ∷ 0 ∷ 0 ∷ 0 ∷ 0 ∷ 2 ∷ 0 ∷ 0 ∷ 0 ∷ 0 ∷ 83 ∷ 10 ∷ [])
     (newer ∷ older ∷ []) []

@@ -27,95 +27,95 @@ pub record IsFrame (f : Frame) : Type 0 where
   pub number : f.number < 2 ^ 32
 
 -- the bytes of a frame
-abbrev pub bytes_of : Frame → List ℕ
-bytes_of f = frame_bytes f.kind f.version f.method f.conn f.number f.payload
+abbrev pub bytes_of_frame : Frame → List ℕ
+bytes_of_frame f = frame_bytes f.kind f.version f.method f.conn f.number f.payload
 
 -- the bytes of frames, concatenated
-abbrev pub joined : List Frame → List ℕ
-joined frames = flat_map bytes_of frames
+abbrev pub concat_frames : List Frame → List ℕ
+concat_frames frames = flat_map bytes_of_frame frames
 
 -- the first frame is at this offset, and each other one at the end of the previous one
-abbrev pub StandFrom : ℕ → List Frame → Type 0
-StandFrom place [] = Unit {0}
-StandFrom place (f ∷ fs) = (f.place ≡ place) × StandFrom (place + length (bytes_of f)) fs
+abbrev pub AreConsecutiveFrom : ℕ → List Frame → Type 0
+AreConsecutiveFrom place [] = Unit {0}
+AreConsecutiveFrom place (f ∷ fs) = (f.place ≡ place) × AreConsecutiveFrom (place + length (bytes_of_frame f)) fs
 
 -- the bytes don't start with a whole frame
 abbrev pub IsPartial : List ℕ → Type 0
-IsPartial bytes = (f : Frame) (more : List ℕ) → IsFrame f → bytes ≡ bytes_of f ++ more → ⊥
+IsPartial bytes = (f : Frame) (more : List ℕ) → IsFrame f → bytes ≡ bytes_of_frame f ++ more → ⊥
 
 -- the length, the kind and the version in a header
-unfoldable pub length_in : List ℕ → ℕ
-length_in bytes = big_number 4 bytes
+unfoldable pub length_field : List ℕ → ℕ
+length_field bytes = big_number 4 bytes
 
-abbrev pub kind_in : List ℕ → ℕ
-kind_in bytes = slice_index bytes 4
+abbrev pub kind_field : List ℕ → ℕ
+kind_field bytes = slice_index bytes 4
 
-abbrev pub version_in : List ℕ → ℕ
-version_in bytes = slice_index bytes 5
+abbrev pub version_field : List ℕ → ℕ
+version_field bytes = slice_index bytes 5
 
 -- A frame that starts with these bytes at this offset is at fault. Its length is too long, or else its kind doesn't
 -- exist, or else its kind doesn't have its version. Each field counts as soon as it is complete.
 pub data IsFaultAt (place : ℕ) (bytes : List ℕ) (fault : FeedFault) : Type 0 where
-  long : 4 ≤ length bytes → MAX_PAYLOAD < length_in bytes → fault ≡ TooLong place (length_in bytes)
+  long : 4 ≤ length bytes → MAX_PAYLOAD < length_field bytes → fault ≡ TooLong place (length_field bytes)
       → IsFaultAt place bytes fault
-  no_kind : 5 ≤ length bytes → length_in bytes ≤ MAX_PAYLOAD → (IsKind (kind_in bytes) → ⊥)
-      → fault ≡ Kind (place + 4) (kind_in bytes) → IsFaultAt place bytes fault
-  no_version : 6 ≤ length bytes → length_in bytes ≤ MAX_PAYLOAD → IsKind (kind_in bytes)
-      → (HasVersion (kind_in bytes) (version_in bytes) → ⊥)
-      → fault ≡ Version (place + 5) (version_in bytes) → IsFaultAt place bytes fault
+  no_kind : 5 ≤ length bytes → length_field bytes ≤ MAX_PAYLOAD → (IsKind (kind_field bytes) → ⊥)
+      → fault ≡ Kind (place + 4) (kind_field bytes) → IsFaultAt place bytes fault
+  no_version : 6 ≤ length bytes → length_field bytes ≤ MAX_PAYLOAD → IsKind (kind_field bytes)
+      → (HasVersion (kind_field bytes) (version_field bytes) → ⊥)
+      → fault ≡ Version (place + 5) (version_field bytes) → IsFaultAt place bytes fault
 
 -- the bytes have the fault, or none so far
-abbrev pub HasFault : ℕ → List ℕ → Option FeedFault → Type 0
-HasFault place bytes (Some fault) = IsFaultAt place bytes fault
-HasFault place bytes None = (fault : FeedFault) → IsFaultAt place bytes fault → ⊥
+abbrev pub HasHeaderFault : ℕ → List ℕ → Option FeedFault → Type 0
+HasHeaderFault place bytes (Some fault) = IsFaultAt place bytes fault
+HasHeaderFault place bytes None = (fault : FeedFault) → IsFaultAt place bytes fault → ⊥
 
 -- the stream doesn't start with a whole frame, and has this fault, or none so far
 pub record HasNoFrame (place : ℕ) (stream : List ℕ) (fault : Option FeedFault) : Type 0 where
   pub partial : IsPartial stream
-  pub first : HasFault place stream fault
+  pub first : HasHeaderFault place stream fault
 
 -- the stream, whose first byte is at this offset, is these frames followed by this remainder
-pub record Splits (place : ℕ) (stream : List ℕ) (frames : List Frame) (rest : List ℕ) : Type 0 where
-  pub whole : stream ≡ joined frames ++ rest
+pub record IsSplitOf (place : ℕ) (stream : List ℕ) (frames : List Frame) (rest : List ℕ) : Type 0 where
+  pub whole : stream ≡ concat_frames frames ++ rest
   pub each : All IsFrame frames
-  pub places : StandFrom place frames
+  pub places : AreConsecutiveFrom place frames
   pub partial : IsPartial rest
 
 -- after its whole frames the stream has this fault, or none so far
-pub record Ends (place : ℕ) (stream : List ℕ) (fault : Option FeedFault) : Type 0 where
+pub record HasFaultSoFar (place : ℕ) (stream : List ℕ) (fault : Option FeedFault) : Type 0 where
   pub frames : List Frame
   pub rest : List ℕ
-  pub splits : Splits place stream frames rest
-  pub first : HasFault (place + length (joined frames)) rest fault
+  pub splits : IsSplitOf place stream frames rest
+  pub first : HasHeaderFault (place + length (concat_frames frames)) rest fault
 
 -- each stream of bytes splits
-abbrev pub AlwaysSplits : Type 0
-AlwaysSplits = (place : ℕ) (stream : List ℕ) → All (λ byte. byte < 256) stream
-    → (frames : List Frame) × (rest : List ℕ) × Splits place stream frames rest
+abbrev pub AllStreamsSplit : Type 0
+AllStreamsSplit = (place : ℕ) (stream : List ℕ) → All (λ byte. byte < 256) stream
+    → (frames : List Frame) × (rest : List ℕ) × IsSplitOf place stream frames rest
 
 -- in at most one way
-abbrev pub SplitsOnce : Type 0
-SplitsOnce = (place : ℕ) (stream : List ℕ) (frames others : List Frame) (rest more : List ℕ)
-    → Splits place stream frames rest → Splits place stream others more → (frames ≡ others) × (rest ≡ more)
+abbrev pub IsSplitUnique : Type 0
+IsSplitUnique = (place : ℕ) (stream : List ℕ) (frames others : List Frame) (rest more : List ℕ)
+    → IsSplitOf place stream frames rest → IsSplitOf place stream others more → (frames ≡ others) × (rest ≡ more)
 
 -- the first fault and the frames before it stay, whatever follows in the stream
-abbrev pub FaultStays : Type 0
-FaultStays = (place : ℕ) (stream more : List ℕ) (frames : List Frame) (rest : List ℕ) (fault : FeedFault)
-    → Splits place stream frames rest → IsFaultAt (place + length (joined frames)) rest fault
-    → Splits place (stream ++ more) frames (rest ++ more)
-    × IsFaultAt (place + length (joined frames)) (rest ++ more) fault
+abbrev pub IsFaultStable : Type 0
+IsFaultStable = (place : ℕ) (stream more : List ℕ) (frames : List Frame) (rest : List ℕ) (fault : FeedFault)
+    → IsSplitOf place stream frames rest → IsFaultAt (place + length (concat_frames frames)) rest fault
+    → IsSplitOf place (stream ++ more) frames (rest ++ more)
+    × IsFaultAt (place + length (concat_frames frames)) (rest ++ more) fault
 
 -- so a stream of bytes has a first fault, or none so far
-abbrev pub AlwaysEnds : Type 0
-AlwaysEnds = (place : ℕ) (stream : List ℕ) → All (λ byte. byte < 256) stream
-    → (fault : Option FeedFault) × Ends place stream fault
+abbrev pub AllStreamsHaveFaultOrNone : Type 0
+AllStreamsHaveFaultOrNone = (place : ℕ) (stream : List ℕ) → All (λ byte. byte < 256) stream
+    → (fault : Option FeedFault) × HasFaultSoFar place stream fault
 
 -- and at most one of the two: what the stream has, a first fault or none so far, is unique
-abbrev pub EndsOnce : Type 0
-EndsOnce = (place : ℕ) (stream : List ℕ) (fault other : Option FeedFault) → Ends place stream fault
-    → Ends place stream other → fault ≡ other
+abbrev pub IsFaultUnique : Type 0
+IsFaultUnique = (place : ℕ) (stream : List ℕ) (fault other : Option FeedFault) → HasFaultSoFar place stream fault
+    → HasFaultSoFar place stream other → fault ≡ other
 
 -- bytes with neither a whole frame nor a fault are fewer than those of a frame with the largest payload
-abbrev pub StaysShort : Type 0
-StaysShort = (place : ℕ) (bytes : List ℕ) → All (λ byte. byte < 256) bytes → IsPartial bytes → HasFault place bytes None
+abbrev pub IsPartialBounded : Type 0
+IsPartialBounded = (place : ℕ) (bytes : List ℕ) → All (λ byte. byte < 256) bytes → IsPartial bytes → HasHeaderFault place bytes None
     → length bytes < HEADER_LEN + MAX_PAYLOAD

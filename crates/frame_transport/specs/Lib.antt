@@ -5,5 +5,5 @@ pub mod Kept
 pub mod Links
 pub mod Messages
 pub mod Parts
-pub mod Sorts
-pub mod Standing
+pub mod CallKinds
+pub mod FramesInPlace

@@ -2,19 +2,19 @@
 -- it splits.
 use Rattle.std.specs.Prelude.{◌≡◌, ℕ, ◌+◌, ◌-◌, ◌<◌, ◌≤◌, List, [], ◌∷◌, ◌++◌, length, take, drop, slice_index, Option, Some, None}
 use Rattle.byteorder.specs.Endian.{big_number}
-use Rattle.frame_transport.specs.Frames.{IsFrame, bytes_of, joined, Splits, length_in, HasFault, HasNoFrame}
+use Rattle.frame_transport.specs.Frames.{IsFrame, bytes_of_frame, concat_frames, IsSplitOf, length_field, HasHeaderFault, HasNoFrame}
 use Rattle.frame_transport.specs.declared.format.Frame.{Frame}
 use Rattle.frame_transport.specs.declared.format.TheConstants.{HEADER_LEN, MAX_PAYLOAD, METHOD_PLACE}
 use Rattle.frame_transport.specs.declared.fault.FeedFault.{FeedFault}
-use Rattle.frame_transport.specs.declared.header.Header.{Header}
-use Rattle.frame_transport.specs.declared.beginning.Beginning.{Beginning}
-use Rattle.frame_transport.specs.declared.beginning.Beginning.TheVariants.{Fault as BadField, Short, Clear}
-use Rattle.frame_transport.specs.declared.front.Front.{Front}
-use Rattle.frame_transport.specs.declared.front.Front.TheVariants.{Whole, Partial, Fault}
+use Rattle.frame_transport.specs.declared.header.FrameHeader.{FrameHeader}
+use Rattle.frame_transport.specs.declared.parsed_header.ParsedHeader.{ParsedHeader}
+use Rattle.frame_transport.specs.declared.parsed_header.ParsedHeader.TheVariants.{Fault as BadField, Short, Clear}
+use Rattle.frame_transport.specs.declared.parsed_frame.ParsedFrame.{ParsedFrame}
+use Rattle.frame_transport.specs.declared.parsed_frame.ParsedFrame.TheVariants.{Whole, Partial, Fault}
 
 -- the numbers of the header at the start
-pub record IsHeaderOf (bytes : List ℕ) (h : Header) : Type 0 where
-  pub size : h.length ≡ length_in bytes
+pub record IsHeaderOf (bytes : List ℕ) (h : FrameHeader) : Type 0 where
+  pub size : h.length ≡ length_field bytes
   pub kind : h.kind ≡ slice_index bytes 4
   pub version : h.version ≡ slice_index bytes 5
   pub method : h.method ≡ big_number 2 (drop METHOD_PLACE bytes)
@@ -30,8 +30,8 @@ abbrev pub HasWholeHeader : List ℕ → List ℕ → Type 0
 HasWholeHeader begun piece = HEADER_LEN ≤ length (header_part begun piece)
 
 -- the header of the two parts has no fault, and the first part doesn't have its whole frame
-pub record IsClear (place : ℕ) (begun piece : List ℕ) (h : Header) : Type 0 where
-  pub clean : HasFault place (header_part begun piece) None
+pub record IsClear (place : ℕ) (begun piece : List ℕ) (h : FrameHeader) : Type 0 where
+  pub clean : HasHeaderFault place (header_part begun piece) None
   pub long : HasWholeHeader begun piece
   pub header : IsHeaderOf (header_part begun piece) h
   pub small : h.length ≤ MAX_PAYLOAD
@@ -46,12 +46,12 @@ abbrev pub after_frame : List ℕ → List ℕ → Frame → List ℕ
 after_frame begun piece f = drop (frame_size f - length begun) piece
 
 -- the frame starts with the first part, and ends in the second
-pub record EndsFrame (place : ℕ) (begun piece : List ℕ) (f : Frame) : Type 0 where
+pub record IsFrameOfParts (place : ℕ) (begun piece : List ℕ) (f : Frame) : Type 0 where
   pub frame : IsFrame f
   pub stands : f.place ≡ place
   pub longer : length begun < frame_size f
   pub within : frame_size f ≤ length begun + length piece
-  pub bytes : begun ++ piece ≡ bytes_of f ++ after_frame begun piece f
+  pub bytes : begun ++ piece ≡ bytes_of_frame f ++ after_frame begun piece f
 
 -- the bytes have no whole frame, but this fault
 abbrev pub HasOnlyFault : ℕ → List ℕ → FeedFault → Type 0
@@ -62,27 +62,27 @@ abbrev pub IsUnfinished : ℕ → List ℕ → Type 0
 IsUnfinished place bytes = HasNoFrame place bytes None
 
 -- what the two parts have up to their first header: a fault, too few bytes to decide, or a header without a fault
-abbrev pub Begins : ℕ → List ℕ → List ℕ → Beginning → Type 0
-Begins place begun piece (BadField fault) = HasOnlyFault place (begun ++ piece) fault
-Begins place begun piece Short = IsUnfinished place (begun ++ piece)
-Begins place begun piece (Clear header) = IsClear place begun piece header
+abbrev pub HasBeginning : ℕ → List ℕ → List ℕ → ParsedHeader → Type 0
+HasBeginning place begun piece (BadField fault) = HasOnlyFault place (begun ++ piece) fault
+HasBeginning place begun piece Short = IsUnfinished place (begun ++ piece)
+HasBeginning place begun piece (Clear header) = IsClear place begun piece header
 
 -- what the two parts have first: a whole frame, a part of one, or a fault
-abbrev pub IsFront : ℕ → List ℕ → List ℕ → Front → Type 0
-IsFront place begun piece (Whole frame) = EndsFrame place begun piece frame
-IsFront place begun piece Partial = IsUnfinished place (begun ++ piece)
-IsFront place begun piece (Fault fault) = HasOnlyFault place (begun ++ piece) fault
+abbrev pub IsParsedFrame : ℕ → List ℕ → List ℕ → ParsedFrame → Type 0
+IsParsedFrame place begun piece (Whole frame) = IsFrameOfParts place begun piece frame
+IsParsedFrame place begun piece Partial = IsUnfinished place (begun ++ piece)
+IsParsedFrame place begun piece (Fault fault) = HasOnlyFault place (begun ++ piece) fault
 
 -- the bytes after these frames: the remainder of the piece, preceded by the partial frame if there are no whole frames
-abbrev pub begun_behind : List Frame → List ℕ → List ℕ → List ℕ
-begun_behind [] begun left = begun ++ left
-begun_behind (f ∷ fs) begun left = left
+abbrev pub remainder_after : List Frame → List ℕ → List ℕ → List ℕ
+remainder_after [] begun left = begun ++ left
+remainder_after (f ∷ fs) begun left = left
 
 -- Two parts, the first byte at this offset, split into these frames, which end at that offset, and the bytes after
 -- them, which have this fault, or none so far. These bytes remain of the piece.
-pub record SplitsParts (place : ℕ) (begun piece : List ℕ) (frames : List Frame) (end : ℕ) (left : List ℕ)
+pub record IsSplitOfParts (place : ℕ) (begun piece : List ℕ) (frames : List Frame) (end : ℕ) (left : List ℕ)
     (fault : Option FeedFault) : Type 0 where
-  pub splits : Splits place (begun ++ piece) frames (begun_behind frames begun left)
-  pub behind : end ≡ place + length (joined frames)
-  pub first : HasFault end (begun_behind frames begun left) fault
+  pub splits : IsSplitOf place (begun ++ piece) frames (remainder_after frames begun left)
+  pub behind : end ≡ place + length (concat_frames frames)
+  pub first : HasHeaderFault end (remainder_after frames begun left) fault
   pub fewer : length left ≤ length piece

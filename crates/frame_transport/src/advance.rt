@@ -2,8 +2,8 @@
 
 ghost use Rattle.std.specs.Prelude.{◌≡◌, ◌+◌, ◌<◌, ◌^◌, ◌++◌, length, min, is_some, if◌then◌else◌, OnOk, OnErr, IfOk, None};
 ghost use Rattle.frame_transport.specs.Frames.{IsPartial};
-ghost use Rattle.frame_transport.specs.Kept.{Advances};
-ghost use Rattle.frame_transport.specs.Parts.{begun_behind};
+ghost use Rattle.frame_transport.specs.Kept.{IsAdvance};
+ghost use Rattle.frame_transport.specs.Parts.{remainder_after};
 
 use crate::fault::FeedFault;
 use crate::format::{Frame, HEADER_LEN};
@@ -25,7 +25,7 @@ pub(crate) struct Advance {
 
 // Advances by a piece that follows `begun`, whose first byte is at offset `end`. If it is out of memory, nothing
 // changes.
-pub(crate) fn go_on(
+pub(crate) fn advance_by(
     alloc: Global,
     end: u64,
     waiting: &mut VecDeque<Frame>,
@@ -34,7 +34,7 @@ pub(crate) fn go_on(
 ) -> Result<Advance, Memory>
     requires partial { IsPartial begun.old.items }
     requires room { end + length begun.old.items + length piece.now < 2 ^ 63 }
-    ensures ok { IfOk result (λ went. Advances
+    ensures ok { IfOk result (λ went. IsAdvance
         (record { waiting = waiting.old.items; end = end; begun = begun.old.items }) piece.now
         (record { waiting = waiting.new.items; end = went.end; begun = begun.new.items }) went.dropped went.fault) }
     ensures waiting { OnErr result (waiting.new.items ≡ waiting.old.items) }
@@ -61,7 +61,7 @@ fn keep(
     left: &[u8],
 ) -> Result<(), Memory>
     ensures waiting { OnOk result (waiting.new.items ≡ waiting.old.items ++ frames.old.items) }
-    ensures begun { OnOk result (begun.new.items ≡ begun_behind frames.old.items begun.old.items left.now) }
+    ensures begun { OnOk result (begun.new.items ≡ remainder_after frames.old.items begun.old.items left.now) }
     ensures same_waiting { OnErr result (waiting.new.items ≡ waiting.old.items) }
     ensures same_begun { OnErr result (begun.new.items ≡ begun.old.items) }
 {

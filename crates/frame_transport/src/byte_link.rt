@@ -1,9 +1,9 @@
 //! A link over a sink: it writes the frames that are sent, and receives nothing.
 ghost use Rattle.std.specs.Prelude.{◌≡◌, ◌≢◌, ◌≤◌, [], ◌∷◌, ◌++◌, length, IsTrue, true, false};
 ghost use Rattle.std.specs.Io.KnownBytes.{Appends};
-ghost use Rattle.mrpc_base.specs.Faults.{HasCause};
-ghost use Rattle.mrpc_base.specs.Writing.{AppendsFront};
-ghost use Rattle.frame_transport.specs.Links.{sink_of, sink_name, frames_of, has_ended, failures_of, IsLater, IsRefused};
+ghost use Rattle.mrpc_base.specs.Failures.{HasCause};
+ghost use Rattle.mrpc_base.specs.Sinks.{HasAppendedPrefix};
+ghost use Rattle.frame_transport.specs.Links.{sink_of, sink_name, link_frames, has_ended, failures_of, IsLater, IsFailedSend};
 
 use crate::handed::HandedFrames;
 use mrpc_base::{Came, Handed, Link, Sink, write_all};
@@ -24,7 +24,7 @@ impl<'a, W: Sink> ByteLink<'a, W> {
     pub fn new(sink: &'a mut W) -> ByteLink<'a, W>
         ensures same_sink { sink_name result ≡ sink.entry.ghost_name }
         ensures untouched { sink_of result ≡ sink.old }
-        ensures handed { frames_of result ≡ [] }
+        ensures handed { link_frames result ≡ [] }
         ensures failures { failures_of result ≡ 0 }
         ensures ended { has_ended result ≡ false }
     {
@@ -40,7 +40,7 @@ impl<'a, W: Sink> ByteLink<'a, W> {
 impl<W: Sink> Link for ByteLink<'_, W> {
     ghost use Rattle.std.specs.Prelude.{Some, ⊤};
 
-    ghost handed = { frames_of };
+    ghost handed = { link_frames };
 
     // No byte is ever received.
     ghost given = { λ _. Some [] };
@@ -52,34 +52,34 @@ impl<W: Sink> Link for ByteLink<'_, W> {
 
     ghost peer_finished = { λ _ _. ⊤ };
 
-    ghost faults = { failures_of };
+    ghost failures = { failures_of };
 
     // A later state writes to the same sink. The sink gained the frames sent since, as long as no send failed.
-    ghost since = { IsLater W.written W.faults };
+    ghost since = { IsLater W.written W.failures };
 
     ghost use Rattle.frame_transport.specs.Links.{link-itself};
 
-    ghost itself = { link-itself W.written W.faults };
+    ghost itself = { link-itself W.written W.failures };
 
     // A proper prefix of the frame is written, since a write failed.
-    ghost refused = { IsRefused W.written W.faults };
+    ghost refused = { IsFailedSend W.written W.failures };
 
     fn send(&mut self, frame: &[u8]) -> Handed
         // The whole frame is written, or a write failed and a proper prefix of the frame is written.
         ensures done { result ≡ Handed.Done
             → Appends (W.written (sink_of self.old)) (W.written (sink_of self.new)) frame.now }
         ensures front { result ≡ Handed.Failed
-            → AppendsFront (W.written (sink_of self.old)) (W.written (sink_of self.new)) frame.now }
+            → HasAppendedPrefix (W.written (sink_of self.old)) (W.written (sink_of self.new)) frame.now }
         ensures memory { result ≢ Handed.Memory }
         // An empty frame makes no write.
         ensures empty { length frame.now ≡ 0 → (result ≡ Handed.Done) × (sink_of self.new ≡ sink_of self.old) }
 
-        ensures appended { result ≡ Handed.Done → frames_of self.new ≡ frames_of self.old ++ frame.now ∷ [] }
-        ensures kept { result ≢ Handed.Done → frames_of self.new ≡ frames_of self.old }
+        ensures appended { result ≡ Handed.Done → link_frames self.new ≡ link_frames self.old ++ frame.now ∷ [] }
+        ensures kept { result ≢ Handed.Done → link_frames self.new ≡ link_frames self.old }
         ensures same_ended { has_ended self.new ≡ has_ended self.old }
         ensures same_sink { sink_name self.new ≡ sink_name self.old }
 
-        ensures cause { HasCause (result ≡ Handed.Failed) (W.faults (sink_of self.old)) (W.faults (sink_of self.new)) }
+        ensures cause { HasCause (result ≡ Handed.Failed) (W.failures (sink_of self.old)) (W.failures (sink_of self.new)) }
         ensures counted { HasCause (result ≡ Handed.Failed) (failures_of self.old) (failures_of self.new) }
         ensures raised { result ≡ Handed.Failed → failures_of self.new ≢ 0 }
     {
@@ -94,7 +94,7 @@ impl<W: Sink> Link for ByteLink<'_, W> {
     fn receive(&mut self, _buf: &mut [u8]) -> Came
         ensures end { result ≡ Came.End }
         ensures ended { IsTrue (has_ended self.new) }
-        ensures same_handed { frames_of self.new ≡ frames_of self.old }
+        ensures same_handed { link_frames self.new ≡ link_frames self.old }
         ensures same_failures { failures_of self.new ≡ failures_of self.old }
         ensures untouched { sink_of self.new ≡ sink_of self.old }
         ensures same_sink { sink_name self.new ≡ sink_name self.old }

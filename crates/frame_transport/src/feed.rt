@@ -2,7 +2,7 @@
 
 ghost use Rattle.std.specs.Prelude.{◌≡◌, ◌+◌, ◌<◌, ◌^◌, ◌++◌, ◌↔◌, ◌⊎◌, [], length, IsNone, OnOk, IfErr, IfNone, IfSome, IsErrOf, List, Some, None, slice_get, ℕ};
 
-use crate::advance::go_on;
+use crate::advance::advance_by;
 use crate::fault::FeedFault;
 use crate::format::{Frame, HEADER_LEN};
 use crate::header::fault_in;
@@ -33,24 +33,24 @@ pub struct Feed {
 
 impl Model for Feed {
     ghost use Rattle.std.specs.Prelude.{◌++◌};
-    ghost use Rattle.frame_transport.specs.Feed.{Fed};
-    ghost use Rattle.frame_transport.specs.Frames.{joined};
-    ghost use Rattle.frame_transport.specs.Kept.{IsKept};
+    ghost use Rattle.frame_transport.specs.Feed.{FeedState};
+    ghost use Rattle.frame_transport.specs.Frames.{concat_frames};
+    ghost use Rattle.frame_transport.specs.Kept.{IsFeedState};
 
-    ghost Value = { Fed };
+    ghost Value = { FeedState };
 
     ghost view = { λ f. record {
       place = f.taken;
-      bytes = joined f.waiting.items ++ f.begun.items;
+      bytes = concat_frames f.waiting.items ++ f.begun.items;
       behind = f.behind;
     } };
 
-    ghost invariant = { λ f. IsKept f.taken f.waiting.items f.end f.begun.items f.behind };
+    ghost invariant = { λ f. IsFeedState f.taken f.waiting.items f.end f.begun.items f.behind };
 }
 
 impl Feed {
-    ghost use Rattle.frame_transport.specs.Feed.{Fed, total, Gives, GoesOn, StopsAt};
-    ghost use Rattle.frame_transport.specs.Frames.{Ends, IsPartial, Splits};
+    ghost use Rattle.frame_transport.specs.Feed.{FeedState, total_fed, IsNextFrame, IsFedBy, HasStoppedAt};
+    ghost use Rattle.frame_transport.specs.Frames.{HasFaultSoFar, IsPartial, IsSplitOf};
     ghost use Rattle.frame_transport.specs.declared.format.Frame.{Frame};
 
     /// An empty stream. It allocates nothing.
@@ -71,17 +71,17 @@ impl Feed {
     /// soon as its field is complete, and again for each later piece. The frames before the fault can still be taken.
     /// `Memory` leaves the feed unchanged.
     pub fn feed(&mut self, piece: &[u8]) -> Result<(), FeedFault>
-        requires { total self.old + length piece.now < 2 ^ 63 }
+        requires { total_fed self.old + length piece.now < 2 ^ 63 }
 
         // The piece is appended, and the stream has no fault so far.
-        ensures ok { OnOk result (GoesOn self.old piece.now self.new) }
-        ensures clean { OnOk result (Ends self.old.place (self.old.bytes ++ piece.now) None) }
+        ensures ok { OnOk result (IsFedBy self.old piece.now self.new) }
+        ensures clean { OnOk result (HasFaultSoFar self.old.place (self.old.bytes ++ piece.now) None) }
 
         // The fault is the first one of the stream with this piece.
         ensures fault { IfErr result (λ fault. (fault ≡ FeedFault.Memory)
-            ⊎ Ends self.old.place (self.old.bytes ++ piece.now) (Some fault)) }
-        ensures stops { IfErr result (λ fault. (fault ≡ FeedFault.Memory) ⊎ StopsAt self.old piece.now fault self.new) }
-        ensures again { (fault : FeedFault) → Ends self.old.place self.old.bytes (Some fault) → result ≡ Err fault }
+            ⊎ HasFaultSoFar self.old.place (self.old.bytes ++ piece.now) (Some fault)) }
+        ensures stops { IfErr result (λ fault. (fault ≡ FeedFault.Memory) ⊎ HasStoppedAt self.old piece.now fault self.new) }
+        ensures again { (fault : FeedFault) → HasFaultSoFar self.old.place self.old.bytes (Some fault) → result ≡ Err fault }
 
         ensures memory { IsErrOf result FeedFault.Memory → self.new ≡ self.old }
     {
@@ -90,7 +90,7 @@ impl Feed {
             self.behind += piece.len() as u64;
             return Err(fault);
         }
-        let went = go_on(self.alloc, end, &mut self.waiting, &mut self.begun, piece)?;
+        let went = advance_by(self.alloc, end, &mut self.waiting, &mut self.begun, piece)?;
         self.end = went.end;
         self.behind += went.dropped as u64;
         if let Some(fault) = went.fault {
@@ -103,7 +103,7 @@ impl Feed {
     pub fn next(&mut self) -> Option<Frame>
         ensures none { IsNone result ↔ IsPartial self.old.bytes }
         ensures same { IfNone result (self.new ≡ self.old) }
-        ensures frame { IfSome result (λ frame. Gives self.old frame self.new) }
+        ensures frame { IfSome result (λ frame. IsNextFrame self.old frame self.new) }
     {
         let frame = self.waiting.pop_front()?;
         self.taken += (HEADER_LEN + frame.payload.len()) as u64;
@@ -113,16 +113,16 @@ impl Feed {
     /// The whole frame at index `i`, from 0, among those that weren't taken yet; `None` if there is none. It stays.
     pub fn peek(&self, i: usize) -> Option<&Frame>
         ensures some { IfSome result (λ frame. (frames : List Frame) (rest : List ℕ)
-            → Splits self.now.place self.now.bytes frames rest → slice_get frames i ≡ Some frame.now) }
+            → IsSplitOf self.now.place self.now.bytes frames rest → slice_get frames i ≡ Some frame.now) }
         ensures none { IfNone result ((frames : List Frame) (rest : List ℕ)
-            → Splits self.now.place self.now.bytes frames rest → slice_get frames i ≡ None) }
+            → IsSplitOf self.now.place self.now.bytes frames rest → slice_get frames i ≡ None) }
     {
         self.waiting.get(i)
     }
 
     /// How many bytes were fed after the last whole frame.
-    pub fn left_over(&self) -> u64
-        ensures { (frames : List Frame) (rest : List ℕ) → Splits self.now.place self.now.bytes frames rest
+    pub fn partial_len(&self) -> u64
+        ensures { (frames : List Frame) (rest : List ℕ) → IsSplitOf self.now.place self.now.bytes frames rest
             → result ≡ length rest + self.now.behind }
     {
         self.begun.len() as u64 + self.behind
@@ -137,7 +137,7 @@ impl Feed {
 
     /// How many bytes were fed.
     pub fn fed(&self) -> u64
-        ensures count { result ≡ total self.now }
+        ensures count { result ≡ total_fed self.now }
         ensures room { result < 2 ^ 63 }
     {
         self.end + self.begun.len() as u64 + self.behind

@@ -1,9 +1,9 @@
 //! The parts of a frame.
 
 ghost use Rattle.std.specs.Prelude.{◌≡◌, ◌≤◌};
-ghost use Rattle.frame_transport.specs.Sorts.{kind_of, sort_of_kind};
+ghost use Rattle.frame_transport.specs.CallKinds.{frame_kind_of, call_kind_of_frame};
 
-use mrpc_table::{Bytes, Sort};
+use mrpc_table::{Bytes, CallKind};
 
 /// The length of a frame's header, in bytes.
 pub const HEADER_LEN: usize = 16;
@@ -30,25 +30,25 @@ pub const REPLY: u8 = 2;
 pub const HELLO: u8 = 3;
 
 /// The kind of the frames of requests, or of replies.
-pub fn kind_of(sort: Sort) -> u8
-    ensures value { result ≡ kind_of sort }
+pub fn frame_kind_of(sort: CallKind) -> u8
+    ensures value { result ≡ frame_kind_of sort }
     ensures least { REQUEST ≤ result }
     ensures greatest { result ≤ REPLY }
 {
     match sort {
-        Sort::Request => REQUEST,
-        Sort::Reply => REPLY,
+        CallKind::Request => REQUEST,
+        CallKind::Reply => REPLY,
     }
 }
 
 // Whether the frames of a kind are requests or replies; `None` for a hello.
-pub(crate) fn sort_of_kind(kind: u8) -> Option<Sort>
-    ensures { result ≡ sort_of_kind kind }
+pub(crate) fn call_kind_of_frame(kind: u8) -> Option<CallKind>
+    ensures { result ≡ call_kind_of_frame kind }
 {
     if kind == REQUEST {
-        Some(Sort::Request)
+        Some(CallKind::Request)
     } else if kind == REPLY {
-        Some(Sort::Reply)
+        Some(CallKind::Reply)
     } else {
         None
     }
@@ -76,9 +76,9 @@ pub struct Frame {
 
 impl Frame {
     /// Whether it is a request or a reply; `None` for a hello.
-    pub fn sort(&self) -> Option<Sort>
-        ensures { result ≡ sort_of_kind self.now.kind }
+    pub fn call_kind(&self) -> Option<CallKind>
+        ensures { result ≡ call_kind_of_frame self.now.kind }
     {
-        sort_of_kind(self.kind)
+        call_kind_of_frame(self.kind)
     }
 }

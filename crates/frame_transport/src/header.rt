@@ -1,7 +1,7 @@
 //! The header of a frame, as far as it was received.
 
 ghost use Rattle.std.specs.Prelude.{◌≡◌, ◌<◌, ◌^◌, ◌++◌, ◌↔◌, length, take, IsNone, IfSome, IsTrue};
-ghost use Rattle.frame_transport.specs.Frames.{IsKind, HasVersion, HasFault};
+ghost use Rattle.frame_transport.specs.Frames.{IsKind, HasVersion, HasHeaderFault};
 ghost use Rattle.frame_transport.specs.Parts.{IsHeaderOf};
 
 use crate::fault::FeedFault;
@@ -20,7 +20,7 @@ pub(crate) struct HeaderPart {
 
 // The numbers of a complete header without a fault.
 #[derive(Drop)]
-pub(crate) struct Header {
+pub(crate) struct FrameHeader {
     pub kind: u8,
     pub version: u8,
     pub method: u16,
@@ -65,10 +65,10 @@ impl HeaderPart {
 }
 
 // The first fault of bytes at this offset. Each field is checked as soon as it is complete, in the order of the bytes.
-#[tactic(auto, unfolding(crate::specs::Frames::length_in))]
+#[tactic(auto, unfolding(crate::specs::Frames::length_field))]
 pub(crate) fn fault_in(place: u64, bytes: &[u8]) -> Option<FeedFault>
     requires { place < 2 ^ 63 }
-    ensures { HasFault place bytes.now result }
+    ensures { HasHeaderFault place bytes.now result }
 {
     if bytes.len() < 4 {
         return None;
@@ -111,15 +111,15 @@ fn has_version(kind: u8, version: u8) -> bool
 }
 
 // The numbers in a header.
-#[tactic(auto, unfolding(crate::specs::Frames::length_in))]
-pub(crate) fn read_header(bytes: &[u8]) -> Option<Header>
+#[tactic(auto, unfolding(crate::specs::Frames::length_field))]
+pub(crate) fn read_header(bytes: &[u8]) -> Option<FrameHeader>
     ensures none { IsNone result ↔ (length bytes.now < HEADER_LEN) }
     ensures some { IfSome result (IsHeaderOf bytes.now) }
 {
     if bytes.len() < HEADER_LEN {
         return None;
     }
-    Some(Header {
+    Some(FrameHeader {
         kind: bytes[4],
         version: bytes[5],
         method: BigEndian::read_u16(&bytes[METHOD_PLACE as usize..]),

@@ -14,17 +14,17 @@
 #![tactic(auto)]
 
 mod advance;
-mod beginning;
 mod byte_link;
 mod fault;
 mod feed;
 mod format;
-mod front;
+mod frame_ref;
 mod handed;
 mod header;
 mod laws;
+mod parsed_frame;
+mod parsed_header;
 mod split;
-mod standing;
 mod written;
 
 pub use byte_link::ByteLink;
@@ -32,8 +32,8 @@ pub use fault::FeedFault;
 pub use feed::Feed;
 pub use format::{
     Frame, HEADER_LEN, HELLO, HELLO_VERSION, MAX_PAYLOAD, METHOD_PLACE, REPLY, REQUEST, VERSION,
-    kind_of,
+    frame_kind_of,
 };
-pub use laws::{frames_join, one_frame, one_split};
-pub use standing::{FrameRef, frame_at};
+pub use frame_ref::{FrameRef, frame_at};
+pub use laws::{frame_is_unique, frames_join, split_is_unique};
 pub use written::{frame, frame_into, hello_frame};

@@ -2,18 +2,18 @@
 
 ghost use Rattle.std.specs.Prelude.{◌≡◌, ◌+◌, ◌<◌, ◌≤◌, ◌^◌, length, IfOk};
 ghost use Rattle.frame_transport.specs.Frames.{IsPartial};
-ghost use Rattle.frame_transport.specs.Parts.{SplitsParts};
+ghost use Rattle.frame_transport.specs.Parts.{IsSplitOfParts};
 
 use crate::fault::FeedFault;
 use crate::format::{Frame, HEADER_LEN};
-use crate::front::{Front, front_of};
+use crate::parsed_frame::{ParsedFrame, parse_frame};
 use mrpc_table::Memory;
 use std::alloc::Global;
 use std::collections::VecDeque;
 
 // The frames that end in a piece, and what follows them.
 #[derive(Drop)]
-pub(crate) struct Found<'a> {
+pub(crate) struct SplitResult<'a> {
     // The frames, in order.
     pub frames: VecDeque<Frame>,
     // The offset after them.
@@ -30,35 +30,35 @@ pub(crate) fn split<'a>(
     place: u64,
     begun: &[u8],
     piece: &'a [u8],
-) -> Result<Found<'a>, Memory>
+) -> Result<SplitResult<'a>, Memory>
     requires partial { IsPartial begun.now }
     requires room { place + length begun.now + length piece.now < 2 ^ 63 }
     ensures { IfOk result (λ found.
-        SplitsParts place begun.now piece.now found.frames.items found.end found.left.now found.fault) }
+        IsSplitOfParts place begun.now piece.now found.frames.items found.end found.left.now found.fault) }
 {
     let mut frames = VecDeque::new(alloc);
     let mut ahead = begun;
     let mut end = place;
     let mut left = piece;
     'frames: loop {
-        match front_of(alloc, end, ahead, left)? {
-            Front::Whole(frame) => {
+        match parse_frame(alloc, end, ahead, left)? {
+            ParsedFrame::Whole(frame) => {
                 let size = HEADER_LEN + frame.payload.len();
                 left = &left[size - ahead.len()..];
                 ahead = &begun[..0];
                 end += size as u64;
                 frames.push_back(frame)?;
             }
-            Front::Partial => {
-                return Ok(Found {
+            ParsedFrame::Partial => {
+                return Ok(SplitResult {
                     frames,
                     end,
                     left,
                     fault: None,
                 });
             }
-            Front::Fault(fault) => {
-                return Ok(Found {
+            ParsedFrame::Fault(fault) => {
+                return Ok(SplitResult {
                     frames,
                     end,
                     left,

@@ -3,17 +3,17 @@ use Rattle.std.proofs.Common.{◌≡◌, ℕ, ◌+◌, eqb, true, List, ◌++◌
 use Rattle.std.specs.Cmp.Lexicographic.{pointwise}
 use Rattle.std.proofs.lemmas.Bool.Decides.{Decides-eqb}
 use Rattle.std.proofs.lemmas.Slice.Eq.{strip_prefix_is}
-use Rattle.table_text.specs.TableText.{HasTableBehind, IsEndless}
-use Rattle.frame_view.specs.Input.{head, first_line, second_line}
+use Rattle.table_text.specs.TableText.{HasTableAfter, IsEndless}
+use Rattle.frame_view.specs.Input.{decode_preamble, decode_header, table_keyword}
 
 -- a prefix was removed
 abbrev pub IsTakenOff : List ℕ → List ℕ → List ℕ → Type 0
 IsTakenOff front text rest = (pointwise eqb (take (length front) text) front ≡ true) × (rest ≡ drop (length front) text) × (length rest + length front ≡ length text)
 
 -- after the first two lines no `end` line follows
-pub endless_of : (text : List ℕ) (behind rest : Bor (List ℕ)) → IsTakenOff first_line text behind.now → IsTakenOff second_line behind.now rest.now
-    → ((t stream : List ℕ) → HasTableBehind head text t stream → ⊥) → IsEndless head text rest.now
+pub endless_of : (text : List ℕ) (behind rest : Bor (List ℕ)) → IsTakenOff decode_header text behind.now → IsTakenOff table_keyword behind.now rest.now
+    → ((t stream : List ℕ) → HasTableAfter decode_preamble text t stream → ⊥) → IsEndless decode_preamble text rest.now
 endless_of text behind rest first second none =
-    let first_is : text ≡ first_line ++ behind.now = strip_prefix_is Decides-eqb text first_line (Some behind) first in
-    let second_is : behind.now ≡ second_line ++ rest.now = strip_prefix_is Decides-eqb behind.now second_line (Some rest) second in
-    record { text_is = first_is ∙ ap (λ (t : List ℕ). first_line ++ t) second_is; endless = none }
+    let first_is : text ≡ decode_header ++ behind.now = strip_prefix_is Decides-eqb text decode_header (Some behind) first in
+    let second_is : behind.now ≡ table_keyword ++ rest.now = strip_prefix_is Decides-eqb behind.now table_keyword (Some rest) second in
+    record { text_is = first_is ∙ ap (λ (t : List ℕ). decode_header ++ t) second_is; endless = none }

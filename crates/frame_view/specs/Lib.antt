@@ -1,7 +1,7 @@
 pub mod Contents
 pub mod Faults
-pub mod FrameWalks
+pub mod FrameRanges
 pub mod Input
 pub mod Views
-pub mod Walks
+pub mod ViewRanges
 pub mod Written

@@ -5,33 +5,35 @@ use Rattle.std.specs.Fmt.{decimal}
 use Rattle.mrpc_table.specs.Node.{Node}
 use Rattle.mrpc_table.specs.Text.{line}
 use Rattle.mrpc_table.specs.declared.table.Table.{Table}
-use Rattle.text_format.specs.Entries.{IsTextOf}
+use Rattle.text_format.specs.Entries.{IsTextOfMessage}
 use Rattle.frame_transport.specs.declared.format.Frame.{Frame}
 use Rattle.frame_transport.specs.declared.format.TheConstants.{HELLO, REQUEST}
-use Rattle.frame_view.specs.Contents.{IsMessageOf}
-use Rattle.frame_transport.specs.Messages.{message_in}
+use Rattle.frame_view.specs.Contents.{IsMessageOfFrame}
+use Rattle.frame_transport.specs.Messages.{payload_message}
 
 -- the service of a method, and the method
-abbrev pub path_of : Table → ℕ → List ℕ
-path_of T method = unwrap_or (option_map (λ m. m.service ++ (codes "/" ++ m.name)) (slice_get T.methods method)) []
+abbrev pub method_path : Table → ℕ → List ℕ
+method_path T method = unwrap_or (option_map (λ m. m.service ++ (codes "/" ++ m.name)) (slice_get T.methods method)) []
 
-abbrev pub sort_word : ℕ → List ℕ
-sort_word kind = if kind == REQUEST then codes "request" else codes "reply"
+abbrev pub call_kind_word : ℕ → List ℕ
+call_kind_word kind = if kind == REQUEST then codes "request" else codes "reply"
 
 -- the line of a hello: its connection, and the length of its payload in bytes
 abbrev pub hello_head : Frame → List ℕ
-hello_head f = line (codes "#" ∷ codes "hello" ∷ codes "conn" ∷ decimal f.conn ∷ codes "bytes" ∷ decimal (length f.payload)
+hello_head f = line (codes "#" ∷ codes "hello" ∷ codes "conn" ∷ decimal f.conn ∷ codes "bytes" ∷ decimal
+    (length f.payload)
     ∷ [])
 
 -- the line before a message: its kind, its method, its connection, and its number
 abbrev pub call_head : Table → Frame → List ℕ
-call_head T f = line (codes "#" ∷ sort_word f.kind ∷ path_of T f.method ∷ codes "conn" ∷ decimal f.conn ∷ codes "number"
+call_head T f = line (codes "#" ∷ call_kind_word f.kind ∷ method_path T f.method ∷ codes "conn" ∷ decimal f.conn ∷ codes
+    "number"
     ∷ decimal f.number ∷ [])
 
 -- the view of a frame: a line for a hello, and a line and the text of the message for a request or a reply
 pub data IsViewOf (T : Table) (f : Frame) (text : List ℕ) : Type 0 where
   view_of_hello : f.kind ≡ HELLO → text ≡ hello_head f → IsViewOf T f text
-  view_of_call : (t : Node) (shown : List ℕ) → IsMessageOf T f t → IsTextOf T (message_in T f) t shown
+  view_of_call : (t : Node) (shown : List ℕ) → IsMessageOfFrame T f t → IsTextOfMessage T (payload_message T f) t shown
       → text ≡ call_head T f ++ shown → IsViewOf T f text
 
 -- the text is the views of the frames, in order

@@ -3,20 +3,20 @@
 ghost use Rattle.std.specs.Prelude.{◌≡◌, ◌≢◌, ◌<◌, ◌^◌, length, IfOk, IfErr};
 ghost use Rattle.mrpc_table.specs.Valid.{IsValid};
 ghost use Rattle.frame_transport.specs.Frames.{IsFrame};
-ghost use Rattle.frame_transport.specs.Standing.{frame_of};
+ghost use Rattle.frame_transport.specs.FramesInPlace.{owned_frame};
 ghost use Rattle.frame_transport.specs.declared.format.TheConstants.{HELLO};
 ghost use Rattle.frame_view.specs.Contents.{IsContentOf};
-ghost use Rattle.frame_view.specs.Faults.{OnFault, IsFaultIn};
+ghost use Rattle.frame_view.specs.Faults.{OnFault, IsFaultOfFrame};
 
 use crate::fault::ReadFault;
 use frame_transport::{FrameRef, HEADER_LEN, HELLO, METHOD_PLACE};
 use mrpc_table::{Table, Tree};
 use std::alloc::Global;
-use wire_decode::{DecodeFault, Spare, decode_with};
+use wire_decode::{DecodeFault, TreePool, decode_with};
 
 /// The content of a frame.
 #[derive(Drop)]
-pub enum Content {
+pub enum FrameContent {
     /// A hello.
     Hello,
     /// The message of a request or a reply: its index in the table, and its tree.
@@ -27,18 +27,18 @@ pub enum Content {
 /// payload.
 pub fn content_of(
     alloc: Global,
-    spare: &mut Spare,
+    spare: &mut TreePool,
     table: &Table,
     frame: &FrameRef,
-) -> Result<Content, ReadFault>
+) -> Result<FrameContent, ReadFault>
     requires valid { IsValid table.now }
-    requires frame { IsFrame (frame_of frame.now) }
+    requires frame { IsFrame (owned_frame frame.now) }
     requires near { frame.now.place < 2 ^ 63 }
-    ensures content { IfOk result (IsContentOf table.now (frame_of frame.now)) }
-    ensures fault { IfErr result (OnFault (IsFaultIn table.now (frame_of frame.now))) }
+    ensures content { IfOk result (IsContentOf table.now (owned_frame frame.now)) }
+    ensures fault { IfErr result (OnFault (IsFaultOfFrame table.now (owned_frame frame.now))) }
 {
     if frame.kind == HELLO {
-        return Ok(Content::Hello);
+        return Ok(FrameContent::Hello);
     }
     if table.methods.len() <= frame.method as usize {
         return Err(ReadFault::at(frame.place + METHOD_PLACE, "NoMethod"));
@@ -49,21 +49,21 @@ pub fn content_of(
 // The message of a request or a reply.
 fn message_of(
     alloc: Global,
-    spare: &mut Spare,
+    spare: &mut TreePool,
     table: &Table,
     frame: &FrameRef,
-) -> Result<Content, ReadFault>
+) -> Result<FrameContent, ReadFault>
     requires valid { IsValid table.now }
-    requires frame { IsFrame (frame_of frame.now) }
+    requires frame { IsFrame (owned_frame frame.now) }
     requires near { frame.now.place < 2 ^ 63 }
     requires call { frame.now.kind ≢ HELLO }
     requires known { frame.now.method < length table.now.methods }
-    ensures content { IfOk result (IsContentOf table.now (frame_of frame.now)) }
-    ensures fault { IfErr result (OnFault (IsFaultIn table.now (frame_of frame.now))) }
+    ensures content { IfOk result (IsContentOf table.now (owned_frame frame.now)) }
+    ensures fault { IfErr result (OnFault (IsFaultOfFrame table.now (owned_frame frame.now))) }
 {
     let message = frame.payload_message(table);
     match decode_with(alloc, spare, frame.payload, table, message) {
-        Ok(tree) => Ok(Content::Call { message, tree }),
+        Ok(tree) => Ok(FrameContent::Call { message, tree }),
         Err(DecodeFault::At { reason, place }) => Err(ReadFault::at(
             frame.place + (HEADER_LEN + place) as u64,
             reason.word(),

@@ -4,7 +4,7 @@
 //! reply, the service and the method, the connection and the number. The text of the message follows, as `protoc
 //! --decode` prints it (`specs/Views.antt`).
 //!
-//! [`read_head`] reads the text of the input, [`frame_here`] the frame at an offset of the stream, and
+//! [`read_head`] reads the text of the input, [`frame_from_stream`] the frame at an offset of the stream, and
 //! [`content_of`] its message. Each fault has a location and a word: `specs/Input.antt` defines those of the text, and
 //! `specs/Faults.antt` those of frames; `decode_laws` proves that they are the faults of `decode`.
 //!
@@ -21,9 +21,9 @@ mod heads;
 mod laws;
 mod views;
 
-pub use content::{Content, content_of};
+pub use content::{FrameContent, content_of};
 pub use fault::ReadFault;
-pub use frame::frame_here;
+pub use frame::frame_from_stream;
 pub use head::read_head;
-pub use laws::frames_follow;
-pub use views::{Stop, view_frames};
+pub use laws::frames_are_consecutive;
+pub use views::{ViewError, view_frames};

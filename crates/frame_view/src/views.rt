@@ -1,58 +1,60 @@
 //! The frames of an input, in order.
 
 ghost use Rattle.std.specs.Prelude.{◌≡◌, ◌<◌, ◌≤◌, ◌^◌, ◌++◌, ℕ, List, length, drop, OnOk, IfOk, IfErr, Err};
-ghost use Rattle.mrpc_base.specs.Faults.{HasCause};
+ghost use Rattle.mrpc_base.specs.Failures.{HasCause};
 ghost use Rattle.mrpc_table.specs.Valid.{IsValid};
-ghost use Rattle.frame_transport.specs.Standing.{frame_of};
+ghost use Rattle.frame_transport.specs.FramesInPlace.{owned_frame};
 ghost use Rattle.frame_view.specs.Contents.{IsContentOf};
-ghost use Rattle.frame_view.specs.Faults.{OnFault, IsFaultHere};
+ghost use Rattle.frame_view.specs.Faults.{OnFault, IsFaultOfNext};
 ghost use Rattle.frame_view.specs.Views.{IsViewOf};
-ghost use Rattle.frame_view.specs.Walks.{Shows, WritesShown};
-ghost use Rattle.frame_view.specs.Written.{OnStop, ViewsText, CutsView};
+ghost use Rattle.frame_view.specs.ViewRanges.{IsLinesOf, HasWrittenViews};
+ghost use Rattle.frame_view.specs.Written.{OnViewError, HasViewedText, HasViewedToFault};
 
 use crate::heads::{put_call, put_hello};
-use crate::{Content, ReadFault, content_of, frame_here, frames_follow, read_head};
+use crate::{
+    FrameContent, ReadFault, content_of, frame_from_stream, frames_are_consecutive, read_head,
+};
 use frame_transport::{FrameRef, HEADER_LEN};
 use mrpc_base::{Sink, write_all};
 use mrpc_table::{Bytes, Memory, Table};
 use std::alloc::Global;
 use text_format::append_message;
-use wire_decode::Spare;
+use wire_decode::TreePool;
 
 // The fewest bytes of text that are gathered before a write.
 const PIECE: usize = 65_536;
 
 /// Why the view stops.
 #[derive(Drop, Clone, Copy)]
-pub enum Stop {
+pub enum ViewError {
     /// The reading of the input stopped.
     Read(ReadFault),
     /// A write failed.
     Out,
 }
 
-impl From<ReadFault> for Stop {
+impl From<ReadFault> for ViewError {
     ghost use Rattle.std.specs.Prelude.{◌≡◌};
-    ghost use Rattle.frame_view.specs.declared.views.Stop.TheVariants.{Read};
+    ghost use Rattle.frame_view.specs.declared.views.ViewError.TheVariants.{Read};
 
     ghost from_gives = { λ fault stop. stop ≡ Read fault };
 
-    fn from(fault: ReadFault) -> Stop {
-        Stop::Read(fault)
+    fn from(fault: ReadFault) -> ViewError {
+        ViewError::Read(fault)
     }
 }
 
 /// Writes each frame of an input in words, up to its end or its first fault.
-pub fn view_frames<K: Sink>(alloc: Global, text: &[u8], out: &mut K) -> Result<(), Stop>
+pub fn view_frames<K: Sink>(alloc: Global, text: &[u8], out: &mut K) -> Result<(), ViewError>
     requires short { length text.now < 2 ^ 63 }
-    ensures done { OnOk result (ViewsText text.now (K.written out.old) (K.written out.new)) }
-    ensures cut { IfErr result (OnStop (CutsView text.now (K.written out.old) (K.written out.new))) }
-    ensures out_cause { HasCause (result ≡ Err Stop.Out) (K.faults out.old) (K.faults out.new) }
+    ensures done { OnOk result (HasViewedText text.now (K.written out.old) (K.written out.new)) }
+    ensures cut { IfErr result (OnViewError (HasViewedToFault text.now (K.written out.old) (K.written out.new))) }
+    ensures out_cause { HasCause (result ≡ Err ViewError.Out) (K.failures out.old) (K.failures out.new) }
 {
-    frames_follow();
+    frames_are_consecutive();
     match read_head(alloc, text) {
         Ok((table, stream)) => view_stream(alloc, &table, stream, out),
-        Err(fault) => Err(Stop::Read(fault)),
+        Err(fault) => Err(ViewError::Read(fault)),
     }
 }
 
@@ -62,28 +64,28 @@ fn view_stream<K: Sink>(
     table: &Table,
     stream: &[u8],
     out: &mut K,
-) -> Result<(), Stop>
+) -> Result<(), ViewError>
     requires valid { IsValid table.now }
     requires countable { length stream.now < 2 ^ 63 }
     ensures done { OnOk result ((to : ℕ) × (length stream.now ≤ to)
-        × WritesShown table.now stream.now to (K.written out.old) (K.written out.new)) }
-    ensures cut { IfErr result (OnStop (λ place word. (to : ℕ)
-        × WritesShown table.now stream.now to (K.written out.old) (K.written out.new)
-        × IsFaultHere table.now to (drop to stream.now) place word)) }
-    ensures out_cause { HasCause (result ≡ Err Stop.Out) (K.faults out.old) (K.faults out.new) }
+        × HasWrittenViews table.now stream.now to (K.written out.old) (K.written out.new)) }
+    ensures cut { IfErr result (OnViewError (λ place word. (to : ℕ)
+        × HasWrittenViews table.now stream.now to (K.written out.old) (K.written out.new)
+        × IsFaultOfNext table.now to (drop to stream.now) place word)) }
+    ensures out_cause { HasCause (result ≡ Err ViewError.Out) (K.failures out.old) (K.failures out.new) }
 {
-    frames_follow();
-    let mut spare = Spare::new(alloc);
+    frames_are_consecutive();
+    let mut spare = TreePool::new(alloc);
     let mut place = 0;
     while place < stream.len() {
         let mut lines = Bytes::new(alloc);
-        let told = view_piece(alloc, table, stream, place, &mut spare, &mut lines);
+        let told = append_views(alloc, table, stream, place, &mut spare, &mut lines);
         // After `Memory` the lines may be truncated anywhere, so none of them is written.
         if matches!(told, Err(ReadFault::Memory)) {
-            return Err(Stop::Read(ReadFault::Memory));
+            return Err(ViewError::Read(ReadFault::Memory));
         }
         if !write_all(out, lines.as_slice()) {
-            return Err(Stop::Out);
+            return Err(ViewError::Out);
         }
         place = told?;
     }
@@ -92,27 +94,27 @@ fn view_stream<K: Sink>(
 
 // Appends the frames of a stream from this offset until `PIECE` bytes are gathered or the stream ends.
 // Returns the offset after them.
-fn view_piece(
+fn append_views(
     alloc: Global,
     table: &Table,
     stream: &[u8],
     from: usize,
-    spare: &mut Spare,
+    spare: &mut TreePool,
     lines: &mut Bytes,
 ) -> Result<usize, ReadFault>
     requires valid { IsValid table.now }
     requires countable { length stream.now < 2 ^ 63 }
     requires some { from < length stream.now }
     ensures shown { IfOk result (λ to. (text : List ℕ) × (lines.new ≡ lines.old ++ text)
-        × Shows table.now stream.now from to text) }
+        × IsLinesOf table.now stream.now from to text) }
     ensures further { IfOk result (λ to. from < to) }
     ensures fault { IfErr result (OnFault (λ place word. (to : ℕ) × (text : List ℕ) × (lines.new ≡ lines.old ++ text)
-        × Shows table.now stream.now from to text × IsFaultHere table.now to (drop to stream.now) place word)) }
+        × IsLinesOf table.now stream.now from to text × IsFaultOfNext table.now to (drop to stream.now) place word)) }
 {
-    frames_follow();
+    frames_are_consecutive();
     let mut place = from;
     'frames: loop {
-        place = view_frame(alloc, table, stream, place, spare, lines)?;
+        place = append_next_view(alloc, table, stream, place, spare, lines)?;
         if place >= stream.len() || lines.len() >= PIECE {
             return Ok(place);
         }
@@ -120,50 +122,50 @@ fn view_piece(
 }
 
 // Appends the frame at this offset of a stream, and returns the offset after it.
-fn view_frame(
+fn append_next_view(
     alloc: Global,
     table: &Table,
     stream: &[u8],
     from: usize,
-    spare: &mut Spare,
+    spare: &mut TreePool,
     lines: &mut Bytes,
 ) -> Result<usize, ReadFault>
     requires valid { IsValid table.now }
     requires countable { length stream.now < 2 ^ 63 }
     requires some { from < length stream.now }
     ensures shown { IfOk result (λ to. (text : List ℕ) × (lines.new ≡ lines.old ++ text)
-        × Shows table.now stream.now from to text) }
+        × IsLinesOf table.now stream.now from to text) }
     ensures further { IfOk result (λ to. from < to) }
     ensures fault { IfErr result (OnFault (λ place word. (lines.new ≡ lines.old)
-        × IsFaultHere table.now from (drop from stream.now) place word)) }
+        × IsFaultOfNext table.now from (drop from stream.now) place word)) }
 {
-    frames_follow();
-    let frame = frame_here(stream, from)?;
+    frames_are_consecutive();
+    let frame = frame_from_stream(stream, from)?;
     let content = content_of(alloc, spare, table, &frame)?;
-    put_view(alloc, table, &frame, content, spare, lines)?;
+    append_view(alloc, table, &frame, content, spare, lines)?;
     Ok(from + HEADER_LEN + frame.payload.len())
 }
 
 // Appends a frame with its content, and recycles the content's tree.
-fn put_view(
+fn append_view(
     alloc: Global,
     table: &Table,
     frame: &FrameRef,
-    content: Content,
-    spare: &mut Spare,
+    content: FrameContent,
+    spare: &mut TreePool,
     lines: &mut Bytes,
 ) -> Result<(), Memory>
     requires valid { IsValid table.now }
-    requires content { IsContentOf table.now (frame_of frame.now) content }
-    ensures { OnOk result ((text : List ℕ) × IsViewOf table.now (frame_of frame.now) text
+    requires content { IsContentOf table.now (owned_frame frame.now) content }
+    ensures { OnOk result ((text : List ℕ) × IsViewOf table.now (owned_frame frame.now) text
         × (lines.new ≡ lines.old ++ text)) }
 {
     match content {
-        Content::Hello => put_hello(lines, frame),
-        Content::Call { message, tree } => {
+        FrameContent::Hello => put_hello(lines, frame),
+        FrameContent::Call { message, tree } => {
             put_call(lines, table, frame)?;
             append_message(alloc, lines, &tree, table, message)?;
-            spare.take_back(tree);
+            spare.recycle(tree);
             Ok(())
         }
     }

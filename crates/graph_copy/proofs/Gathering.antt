@@ -15,12 +15,12 @@ use Rattle.mrpc_table.specs.declared.table.Table.{Table}
 use Rattle.mrpc_table.specs.declared.tree.FieldValue.{FieldValue}
 use Rattle.mrpc_table.specs.declared.tree.Value.{Value}
 use Rattle.graph_form.specs.declared.reason.Reason.TheVariants.{Case}
-use Rattle.graph_form.specs.Roles.{elements_address, entries_address, case_word, Expected, behind, plain_role}
+use Rattle.graph_form.specs.Roles.{elements_address, entries_address, case_word, Expected, expected_after, plain_role}
 use Rattle.graph_form.specs.Roles.{slot_role, slots_from, cases_from, elements_from, entries_from, node_words}
-use Rattle.graph_form.specs.Roles.{own_slots, oneofs_of, element_words}
-use Rattle.graph_form.specs.Placed.{Placed, first, Word, word, loads, IsFine, AreSound}
+use Rattle.graph_form.specs.Roles.{own_slots, oneof_count, element_words}
+use Rattle.graph_form.specs.Placed.{Placed, first, Word, word, loads, IsValidWord, AreSound}
 use Rattle.graph_form.specs.Forgotten.{insert_field, with_field, slots_tree, slot_content, with_member, plain_item, elements_at, elements_in, entries_at, entries_in, tree_of}
-use Rattle.graph_copy.specs.Makes.{insert_all, Takes, TakesWord, TakesSlots}
+use Rattle.graph_copy.specs.Makes.{insert_all, IsMadeFrom, IsMadeFromWord, IsMadeFromSlots}
 use Rattle.graph_copy.proofs.Running.{Gives}
 use Rattle.graph_copy.proofs.Taking.{sound_none, first_of, one_of}
 
@@ -56,7 +56,7 @@ elements_begin T k room count start = λ H place depth all rest deep sound is. r
 
 pub elements_more : (T : Table) (k : Kind) (room count left less : ℕ) (start now next : List (ℕ × ℕ))
     (made : List Value) (v : Value) → left ≡ suc less → ElementsOn T k room count start left now made
-    → ((place depth : ℕ) → depth + room ≡ 32 → TakesWord T (plain_role k depth true, place) now next (λ w. item_of v ≡ plain_item T k w))
+    → ((place depth : ℕ) → depth + room ≡ 32 → IsMadeFromWord T (plain_role k depth true, place) now next (λ w. item_of v ≡ plain_item T k w))
     → ElementsOn T k room count start less next (made ++ v ∷ [])
 elements_more T k room count left less start now next made v some on takes = λ H place depth all rest deep sound is.
     let r = on H place depth all rest deep sound is in
@@ -75,7 +75,7 @@ elements_more T k room count left less start now next made v some on takes = λ 
 
 pub elements_end : (T : Table) (k : Kind) (room count a : ℕ) (before start next : List (ℕ × ℕ)) (made : List Value)
     → Gives before a start → ElementsOn T k room count start 0 next made
-    → (place depth : ℕ) → depth + room ≡ 32 → Takes T ((elements_address k count depth, place) ∷ []) before next (λ P. items_of made ≡ elements_at T k P)
+    → (place depth : ℕ) → depth + room ≡ 32 → IsMadeFrom T ((elements_address k count depth, place) ∷ []) before next (λ P. items_of made ≡ elements_at T k P)
 elements_end T k room count a before start next made address on = λ place depth deep H P rest sound is.
     let w = one_of T H (elements_address k count depth, place) P rest before sound is in
     let g = address (place, w.number) (loads w.content ++ rest) w.now_is in
@@ -107,8 +107,8 @@ mapped_last (x ∷ made) e es = ap (λ zs. items_of_entry x ∷ zs) (mapped_last
 
 pub entries_more : (T : Table) (key k : Kind) (room count left less : ℕ) (start now mid next : List (ℕ × ℕ))
     (made : List (Value × Value)) (x y : Value) → left ≡ suc less → EntriesOn T key k room count start left now made
-    → ((place depth : ℕ) → depth + room ≡ 32 → TakesWord T (plain_role key depth true, place) now mid (λ w. item_of x ≡ plain_item T key w))
-    → ((place depth : ℕ) → depth + room ≡ 32 → TakesWord T (plain_role k depth true, place) mid next (λ w. item_of y ≡ plain_item T k w))
+    → ((place depth : ℕ) → depth + room ≡ 32 → IsMadeFromWord T (plain_role key depth true, place) now mid (λ w. item_of x ≡ plain_item T key w))
+    → ((place depth : ℕ) → depth + room ≡ 32 → IsMadeFromWord T (plain_role k depth true, place) mid next (λ w. item_of y ≡ plain_item T k w))
     → EntriesOn T key k room count start less next (made ++ (x, y) ∷ [])
 entries_more T key k room count left less start now mid next made x y some on takes_key takes_value = λ H place depth all rest deep sound is.
     let r = on H place depth all rest deep sound is in
@@ -131,7 +131,7 @@ entries_more T key k room count left less start now mid next made x y some on ta
 
 pub entries_end : (T : Table) (key k : Kind) (room count a : ℕ) (before start next : List (ℕ × ℕ))
     (made : List (Value × Value)) → Gives before a start → EntriesOn T key k room count start 0 next made
-    → (place depth : ℕ) → depth + room ≡ 32 → Takes T ((entries_address key k count depth, place) ∷ []) before next (λ P. map items_of_entry made ≡ entries_at T key k P)
+    → (place depth : ℕ) → depth + room ≡ 32 → IsMadeFrom T ((entries_address key k count depth, place) ∷ []) before next (λ P. map items_of_entry made ≡ entries_at T key k P)
 entries_end T key k room count a before start next made address on = λ place depth deep H P rest sound is.
     let w = one_of T H (entries_address key k count depth, place) P rest before sound is in
     let g = address (place, w.number) (loads w.content ++ rest) w.now_is in
@@ -165,7 +165,7 @@ slots_begin T fs slots room start found = λ H place depth others all rest deep 
 pub slots_more : (T : Table) (fs slots left less : List Field) (room : ℕ) (start now next : List (ℕ × ℕ))
     (found more most : List (ℕ × FieldValue)) (f : Field) (c : Option FieldValue) → left ≡ f ∷ less
     → SlotsOn T fs slots room start left now found more
-    → ((place depth : ℕ) → depth + room ≡ 32 → TakesWord T (slot_role f.label f.kind depth, place) now next (λ w. option_map content_of c ≡ slot_content T f.label f.kind w))
+    → ((place depth : ℕ) → depth + room ≡ 32 → IsMadeFromWord T (slot_role f.label f.kind depth, place) now next (λ w. option_map content_of c ≡ slot_content T f.label f.kind w))
     → ((t : Node) → insert_all most t ≡ insert_all more (with_field f.number (option_map content_of c) t))
     → SlotsOn T fs slots room start less next found most
 slots_more T fs slots left less room start now next found more most f c some on takes kept = λ H place depth others all rest deep sound is.
@@ -186,7 +186,7 @@ slots_more T fs slots left less room start now next found more most f c some on 
     }
 
 pub slots_end : (T : Table) (fs slots : List Field) (room : ℕ) (start next : List (ℕ × ℕ)) (found more : List (ℕ × FieldValue)) → SlotsOn T fs slots room start [] next found more
-    → (place depth : ℕ) → depth + room ≡ 32 → TakesSlots T fs slots depth place start next found more
+    → (place depth : ℕ) → depth + room ≡ 32 → IsMadeFromSlots T fs slots depth place start next found more
 slots_end T fs slots room start next found more on = λ place depth deep H others P rest sound is.
     let r = on H place depth others P rest deep sound is in
     record { left = r.words; sound = r.sound; after_is = r.now_is; made = r.made_is }
@@ -212,7 +212,7 @@ cases_begin T fs room count start found = λ H place depth all rest deep sound i
 pub cases_more : (T : Table) (fs : List Field) (room count left less : ℕ) (start now next : List (ℕ × ℕ))
     (found more most : List (ℕ × FieldValue)) → left ≡ suc less → CasesOn T fs room count start left now found more
     → ((place depth oneof : ℕ) → depth + room ≡ 32
-    → TakesWord T (case_word fs oneof depth, place) now next (λ w. (t : Node)
+    → IsMadeFromWord T (case_word fs oneof depth, place) now next (λ w. (t : Node)
     → insert_all more (with_member T fs w t) ≡ insert_all most t))
     → CasesOn T fs room count start less next found most
 cases_more T fs room count left less start now next found more most some on takes = λ H place depth all rest deep sound is.
@@ -230,17 +230,17 @@ cases_more T fs room count left less start now next found more most some on take
     }
 
 pub cases_end : (T : Table) (fs : List Field) (room count : ℕ) (start next : List (ℕ × ℕ)) (found more : List (ℕ × FieldValue)) → CasesOn T fs room count start 0 next found more
-    → (place depth : ℕ) → depth + room ≡ 32 → Takes T (cases_from count fs 0 depth place) start next (λ P. insert_all found (slots_tree T fs [] P) ≡ insert_all more no_fields)
+    → (place depth : ℕ) → depth + room ≡ 32 → IsMadeFrom T (cases_from count fs 0 depth place) start next (λ P. insert_all found (slots_tree T fs [] P) ≡ insert_all more no_fields)
 cases_end T fs room count start next found more on = λ place depth deep H P rest sound is.
     let r = on H place depth P rest deep sound is in
     let none = sound_none T H r.words r.sound in
     (r.made_is ∙ ap (λ Q. insert_all more (slots_tree T fs [] Q)) none, r.now_is ∙ ap (λ Q. loads Q ++ rest) none)
 
 pub unknown_member : (T : Table) (fs : List Field) (v : ℕ) (before mid : List (ℕ × ℕ)) (Made : Word → Type 0) → Gives before v mid → v ≢ 0 → field_at fs v ≡ None
-    → (place depth oneof : ℕ) → TakesWord T (case_word fs oneof depth, place) before mid Made
+    → (place depth oneof : ℕ) → IsMadeFromWord T (case_word fs oneof depth, place) before mid Made
 unknown_member T fs v before mid Made gives some none place depth oneof = λ H n content rest small fine sound is.
     let g = gives (place, n) (loads content ++ rest) is in
-    absurd (subst (IsFine T H (case_word fs oneof depth)) (sym g.0) fine Case (some, λ (f : Field) (at : field_at fs v ≡ Some f) label. cc (none, at)))
+    absurd (subst (IsValidWord T H (case_word fs oneof depth)) (sym g.0) fine Case (some, λ (f : Field) (at : field_at fs v ≡ Some f) label. cc (none, at)))
 
 number_at_field : (fs : List Field) (n : ℕ) (f : Field) → field_at fs n ≡ Some f → f.number ≡ n
 number_at_field [] n f at = absurd (cc)
@@ -252,15 +252,15 @@ number_at_field (g ∷ fs) n f at =
 
 pub member_found : (T : Table) (fs : List Field) (room v : ℕ) (before mid next : List (ℕ × ℕ))
     (found most : List (ℕ × FieldValue)) (f : Field) (i : Value) → Gives before v mid → v ≢ 0 → field_at fs v ≡ Some f
-    → ((place depth : ℕ) → depth + room ≡ 32 → TakesWord T (plain_role f.kind depth true, place) mid next (λ w. item_of i ≡ plain_item T f.kind w))
+    → ((place depth : ℕ) → depth + room ≡ 32 → IsMadeFromWord T (plain_role f.kind depth true, place) mid next (λ w. item_of i ≡ plain_item T f.kind w))
     → ((t : Node) → insert_all most t ≡ insert_all found (insert_field f.number (one (item_of i)) t))
     → (place depth oneof : ℕ) → depth + room ≡ 32
-    → TakesWord T (case_word fs oneof depth, place) before next (λ w. (t : Node)
+    → IsMadeFromWord T (case_word fs oneof depth, place) before next (λ w. (t : Node)
     → insert_all found (with_member T fs w t) ≡ insert_all most t)
 member_found T fs room v before mid next found most f i gives some at takes put place depth oneof deep = λ H n content rest small fine sound is.
     let g = gives (place, n) (loads content ++ rest) is in
     let kind : kind_at fs v ≡ f.kind = ap (λ o. unwrap_or (option_map (λ x. x.kind) o) Uint64) at in
-    let known : AreSound T H (behind T (case_word fs oneof depth) place v) content = subst (λ n. AreSound T H (behind T (case_word fs oneof depth) place n) content) (sym g.0) sound in
+    let known : AreSound T H (expected_after T (case_word fs oneof depth) place v) content = subst (λ n. AreSound T H (expected_after T (case_word fs oneof depth) place n) content) (sym g.0) sound in
     let inner = subst (λ b. AreSound T H (cond b [] ((plain_role (kind_at fs v) depth true, place + 1) ∷ [])) content) (ne_eqb v 0 some) known in
     let plain = subst (λ k. AreSound T H ((plain_role k depth true, place + 1) ∷ []) content) kind inner in
     let w = one_of T H (plain_role f.kind depth true, place + 1) content rest mid plain g.1 in
@@ -277,12 +277,12 @@ member_found T fs room v before mid next found most f i gives some at takes put 
 -- ---- a node
 
 pub node_done : (T : Table) (m place depth : ℕ) (before mid next : List (ℕ × ℕ)) (more most : List (ℕ × FieldValue)) (t : Node)
-    → TakesSlots T (fields_of T m) (own_slots (fields_of T m)) depth place before mid [] more
-    → Takes T (cases_from (oneofs_of T m) (fields_of T m) 0 depth (place + 2 * length (own_slots (fields_of T m))))
+    → IsMadeFromSlots T (fields_of T m) (own_slots (fields_of T m)) depth place before mid [] more
+    → IsMadeFrom T (cases_from (oneof_count T m) (fields_of T m) 0 depth (place + 2 * length (own_slots (fields_of T m))))
     mid next (λ P. insert_all more (slots_tree T (fields_of T m) [] P) ≡ insert_all most no_fields)
     → t ≡ insert_all most no_fields
-    → Takes T (node_words T m depth place) before next (λ P. t ≡ tree_of T m P)
+    → IsMadeFrom T (node_words T m depth place) before next (λ P. t ≡ tree_of T m P)
 node_done T m place depth before mid next more most t slots cases is = λ H P rest sound at.
-    let s = slots H (cases_from (oneofs_of T m) (fields_of T m) 0 depth (place + 2 * length (own_slots (fields_of T m)))) P rest sound at in
+    let s = slots H (cases_from (oneof_count T m) (fields_of T m) 0 depth (place + 2 * length (own_slots (fields_of T m)))) P rest sound at in
     let d = cases H s.left rest s.sound s.after_is in
     (is ∙ sym (s.made ∙ d.0), d.1)

@@ -15,7 +15,7 @@ use Rattle.mrpc_table.specs.declared.table.Table.{Table}
 use Rattle.wire_base.specs.Encoding.{groups, varint, encoding}
 use Rattle.graph_form.specs.declared.reason.Reason.TheVariants.{Narrow}
 use Rattle.graph_form.specs.Roles.{value}
-use Rattle.graph_form.specs.Placed.{Placed, nothing, first, word, loads, Offends, IsFine, IsSound}
+use Rattle.graph_form.specs.Placed.{Placed, nothing, first, word, loads, IsInvalidWord, IsValidWord, IsSound}
 use Rattle.graph_form.specs.Forgotten.{tree_of}
 
 -- a table of one message with one field of the largest number, whose tag has five bytes
@@ -89,8 +89,8 @@ below-zero = refl
 below-zero-loads : loads (alone 1 largest nothing) ≡ (1, largest) ∷ []
 below-zero-loads = refl
 
-below-zero-fine : IsFine numbers 16 (value Int64) largest
-below-zero-fine = λ reason bad. elim reason as (λ r. Offends numbers 16 (value Int64) largest r → ⊥) [
+below-zero-fine : IsValidWord numbers 16 (value Int64) largest
+below-zero-fine = λ reason bad. elim reason as (λ r. IsInvalidWord numbers 16 (value Int64) largest r → ⊥) [
   | Narrow ↦ λ no. no (omega arith)
   | _ ↦ λ no. no
 ] bad

@@ -19,7 +19,7 @@ use Rattle.mrpc_table.specs.Words.{key_kind}
 use Rattle.mrpc_table.specs.WireTypes.{wire_len, wire_type_of}
 use Rattle.graph_form.specs.Roles.{own_slots, word_bytes}
 use Rattle.graph_form.specs.Placed.{Placed, nothing, first, Word, word, loads}
-use Rattle.graph_form.specs.Forgotten.{insert_field, with_field, chain_bytes, run_at, number_at, unless_zero}
+use Rattle.graph_form.specs.Forgotten.{insert_field, with_field, bytes_of_run, run_at, single_number, unless_zero}
 use Rattle.graph_form.specs.Forgotten.{optional_item, slots_tree, slot_content, with_member, plain_item, elements_at}
 use Rattle.graph_form.specs.Forgotten.{elements_in, entries_at, entries_in, tree_of}
 use Rattle.graph_copy.proofs.Bytes.{TenBytes, wire_type-small, tag-at_most_five, tag-at_most_one, number-at_most_ten, delimited-short}
@@ -36,11 +36,11 @@ count-first p v c P = let e = length-append (loads c) (loads P) in omega (arith,
 
 -- ---- runs
 
-chain-short : (P : Placed) → length (chain_bytes P) ≤ 8 * count P
+chain-short : (P : Placed) → length (bytes_of_run P) ≤ 8 * count P
 chain-short nothing = omega arith
 chain-short (first (word p v c) P) =
     let rest = chain-short c in
-    let e = length-append (word_bytes v) (chain_bytes c) in
+    let e = length-append (word_bytes v) (bytes_of_run c) in
     let f = count-first p v c P in
     omega (arith, rest, e, f)
 
@@ -49,8 +49,8 @@ run-short bytes nothing few = let d = delimited-short [] (omega arith) in omega 
 run-short bytes (first (word p v c) P) few =
     let f = count-first p v c P in
     let chain = chain-short c in
-    let taken = length-take bytes (chain_bytes c) in
-    let d = delimited-short (take bytes (chain_bytes c)) (omega (arith, taken, chain, f, few)) in
+    let taken = length-take bytes (bytes_of_run c) in
+    let d = delimited-short (take bytes (bytes_of_run c)) (omega (arith, taken, chain, f, few)) in
     omega (arith, d, taken, chain, f)
 
 -- ---- values
@@ -78,7 +78,7 @@ item-short ten T k p v c few h = number_item-short ten T k v (count c)
 optional-short : (ten : TenBytes) (T : Table) (k : Kind) (v : ℕ) (c : Placed) → count c ≤ 16384 → ItemShort T k (optional_item k v c) (1 + count c)
 optional-short ten T Text v c few = run-short (v - 1) c few
 optional-short ten T Octets v c few = run-short (v - 1) c few
-optional-short ten T k v c few = number_item-short ten T k (number_at c) (count c)
+optional-short ten T k v c few = number_item-short ten T k (single_number c) (count c)
 
 -- ---- the content of a field
 

@@ -4,7 +4,7 @@ use Rattle.std.proofs.Common.{refl, ap, ◌∙◌, arith, slice_get, option_map,
 use Rattle.std.proofs.lemmas.Bool.{eq-eqb, ne_eqb}
 use Rattle.std.proofs.lemmas.List.Elements.{All-head, All-tail}
 use Rattle.mrpc_table.specs.Normal.{fields_of, field_at}
-use Rattle.mrpc_table.specs.Valid.{IsValid, IsMessage, IsField, Ascends}
+use Rattle.mrpc_table.specs.Valid.{IsValid, IsMessage, IsField, IsAscendingBy}
 use Rattle.mrpc_table.specs.declared.table.Field.{Field}
 use Rattle.mrpc_table.specs.declared.table.Message.{Message}
 use Rattle.mrpc_table.specs.declared.table.Table.{Table}
@@ -20,13 +20,13 @@ abbrev Rise : ℕ → List Field → Type 0
 Rise last [] = Unit {0}
 Rise last (f ∷ fs) = (last < f.number) × (f.number < 2 ^ 29) × Rise f.number fs
 
-behind-rise : (T : Table) (oneofs : ℕ) (f : Field) (fs : List Field) → All (IsField T oneofs) (f ∷ fs) → Ascends (λ f g. f.number < g.number) (f ∷ fs) → Rise f.number fs
+behind-rise : (T : Table) (oneofs : ℕ) (f : Field) (fs : List Field) → All (IsField T oneofs) (f ∷ fs) → IsAscendingBy (λ f g. f.number < g.number) (f ∷ fs) → Rise f.number fs
 behind-rise T oneofs f [] all ascends = tt
 behind-rise T oneofs f (g ∷ gs) all ascends =
     let rest = All-tail (IsField T oneofs) f (g ∷ gs) all in
     (ascends.0, omega (arith, (All-head (IsField T oneofs) g gs rest).number.small), behind-rise T oneofs g gs rest ascends.1)
 
-all-rise : (T : Table) (oneofs : ℕ) (fs : List Field) → All (IsField T oneofs) fs → Ascends (λ f g. f.number < g.number) fs → Rise 0 fs
+all-rise : (T : Table) (oneofs : ℕ) (fs : List Field) → All (IsField T oneofs) fs → IsAscendingBy (λ f g. f.number < g.number) fs → Rise 0 fs
 all-rise T oneofs [] all ascends = tt
 all-rise T oneofs (f ∷ fs) all ascends =
     let number = (All-head (IsField T oneofs) f fs all).number in

@@ -1,8 +1,8 @@
 -- The first of some words, and the loads at the start.
 use Rattle.std.proofs.Common.{◌≡◌, ℕ, ◌<◌, ◌^◌, List, [], ◌∷◌, ◌++◌, refl, ap, subst, ◌∙◌, append_assoc}
 use Rattle.mrpc_table.specs.declared.table.Table.{Table}
-use Rattle.graph_form.specs.Roles.{Role as Use, Expected, behind}
-use Rattle.graph_form.specs.Placed.{Placed, nothing, first, word, loads, IsFine, AreSound}
+use Rattle.graph_form.specs.Roles.{WordRole as Use, Expected, expected_after}
+use Rattle.graph_form.specs.Placed.{Placed, nothing, first, word, loads, IsValidWord, AreSound}
 
 pub sound_none : (T : Table) (H : ℕ) (P : Placed) → AreSound T H [] P → P ≡ nothing
 sound_none T H nothing h = refl
@@ -14,8 +14,8 @@ pub record FirstOf (T : Table) (H : ℕ) (e : Use × ℕ) (es : Expected) (P : P
   pub content : Placed
   pub others : Placed
   pub small : number < 2 ^ 64
-  pub fine : IsFine T H e.0 number
-  pub sound : AreSound T H (behind T e.0 e.1 number) content
+  pub fine : IsValidWord T H e.0 number
+  pub sound : AreSound T H (expected_after T e.0 e.1 number) content
   pub rest_sound : AreSound T H es others
   pub is : P ≡ first (word e.1 number content) others
   pub now_is : now ≡ (e.1, number) ∷ (loads content ++ (loads others ++ rest))
@@ -33,7 +33,7 @@ first_of T H e es (first (word place v content) others) rest now sound is = reco
   others = others;
   small = sound.1;
   fine = sound.2;
-  sound = subst (λ p. AreSound T H (behind T e.0 p v) content) sound.0 sound.3;
+  sound = subst (λ p. AreSound T H (expected_after T e.0 p v) content) sound.0 sound.3;
   rest_sound = sound.4;
   is = ap (λ p. first (word p v content) others) sound.0;
   now_is = is ∙ first_loads place v content others rest ∙ ap (λ p. (p, v) ∷ (loads content ++ (loads others ++ rest))) sound.0;
@@ -44,8 +44,8 @@ pub record OneOf (T : Table) (H : ℕ) (e : Use × ℕ) (P : Placed) (rest now :
   pub number : ℕ
   pub content : Placed
   pub small : number < 2 ^ 64
-  pub fine : IsFine T H e.0 number
-  pub sound : AreSound T H (behind T e.0 e.1 number) content
+  pub fine : IsValidWord T H e.0 number
+  pub sound : AreSound T H (expected_after T e.0 e.1 number) content
   pub is : P ≡ first (word e.1 number content) nothing
   pub now_is : now ≡ (e.1, number) ∷ (loads content ++ rest)
 

@@ -16,6 +16,6 @@ IfMalformed P (Copied tree loads) = Unit {0}
 IfMalformed P (Malformed reason place value loads) = P reason place value
 
 -- the number of loads that a result reports
-abbrev pub loads_of : CopyResult → ℕ
-loads_of (Copied tree loads) = loads
-loads_of (Malformed reason place value loads) = loads
+abbrev pub load_count : CopyResult → ℕ
+load_count (Copied tree loads) = loads
+load_count (Malformed reason place value loads) = loads

@@ -1,6 +1,6 @@
 pub mod Answers
 pub mod Copies
-pub mod Expects
+pub mod Expected
 pub mod Follows
 pub mod Judged
 pub mod Makes

@@ -5,8 +5,8 @@ use Rattle.mrpc_table.specs.View.{content_of}
 use Rattle.mrpc_table.specs.declared.tree.FieldValue.{FieldValue}
 use Rattle.mrpc_table.specs.declared.table.Table.{Table}
 use Rattle.mrpc_table.specs.declared.table.Field.{Field}
-use Rattle.graph_form.specs.Roles.{Role as Use, Expected, behind, slots_from}
-use Rattle.graph_form.specs.Placed.{Placed, Word, word, loads, IsFine, AreSound}
+use Rattle.graph_form.specs.Roles.{WordRole as Use, Expected, expected_after, slots_from}
+use Rattle.graph_form.specs.Placed.{Placed, Word, word, loads, IsValidWord, AreSound}
 use Rattle.graph_form.specs.Forgotten.{insert_field, slots_tree}
 
 -- the fields of a list added to a tree; the last one is added first
@@ -15,35 +15,35 @@ insert_all [] t = t
 insert_all (f ∷ fs) t = insert_field f.0 (content_of f.1) (insert_all fs t)
 
 -- if a list starts with the loads of expected words, something is made of their placed tree, and the suffix remains
-abbrev pub Takes : Table → Expected → List (ℕ × ℕ) → List (ℕ × ℕ) → (Placed → Type 0) → Type 0
-Takes T es before after Made =
+abbrev pub IsMadeFrom : Table → Expected → List (ℕ × ℕ) → List (ℕ × ℕ) → (Placed → Type 0) → Type 0
+IsMadeFrom T es before after Made =
     (H : ℕ) (P : Placed) (rest : List (ℕ × ℕ)) → AreSound T H es P → before ≡ loads P ++ rest → Made P × (after ≡ rest)
 
--- like `Takes`, for one word
-abbrev pub TakesWord : Table → Use × ℕ → List (ℕ × ℕ) → List (ℕ × ℕ) → (Word → Type 0) → Type 0
-TakesWord T e before after Made =
-    (H v : ℕ) (content : Placed) (rest : List (ℕ × ℕ)) → v < 2 ^ 64 → IsFine T H e.0 v
-    → AreSound T H (behind T e.0 e.1 v) content
+-- like `IsMadeFrom`, for one word
+abbrev pub IsMadeFromWord : Table → Use × ℕ → List (ℕ × ℕ) → List (ℕ × ℕ) → (Word → Type 0) → Type 0
+IsMadeFromWord T e before after Made =
+    (H v : ℕ) (content : Placed) (rest : List (ℕ × ℕ)) → v < 2 ^ 64 → IsValidWord T H e.0 v
+    → AreSound T H (expected_after T e.0 e.1 v) content
     → before ≡ (e.1, v) ∷ loads content ++ rest → Made (word e.1 v content) × (after ≡ rest)
 
--- like `Takes`, for what follows a word that was taken
-abbrev pub TakesBehind : Table → Use × ℕ → ℕ → List (ℕ × ℕ) → List (ℕ × ℕ) → (Placed → Type 0) → Type 0
-TakesBehind T e v before after Made =
-    (H : ℕ) (content : Placed) (rest : List (ℕ × ℕ)) → IsFine T H e.0 v → AreSound T H (behind T e.0 e.1 v) content
+-- like `IsMadeFrom`, for what follows a word that was taken
+abbrev pub IsMadeFromContent : Table → Use × ℕ → ℕ → List (ℕ × ℕ) → List (ℕ × ℕ) → (Placed → Type 0) → Type 0
+IsMadeFromContent T e v before after Made =
+    (H : ℕ) (content : Placed) (rest : List (ℕ × ℕ)) → IsValidWord T H e.0 v → AreSound T H (expected_after T e.0 e.1 v) content
     → before ≡ loads content ++ rest → Made content × (after ≡ rest)
 
--- Like `Takes`, for the slots of fields, where other words are expected after them. The placed tree of those others
+-- Like `IsMadeFrom`, for the slots of fields, where other words are expected after them. The placed tree of those others
 -- remains, and the fields are put before what it has.
-pub record SlotsTaken (T : Table) (H : ℕ) (fs slots : List Field) (others : Expected) (P : Placed)
+pub record AreSlotsMade (T : Table) (H : ℕ) (fs slots : List Field) (others : Expected) (P : Placed)
     (rest after : List (ℕ × ℕ)) (found more : List (ℕ × FieldValue)) : Type 0 where
   pub left : Placed
   pub sound : AreSound T H others left
   pub after_is : after ≡ loads left ++ rest
   pub made : insert_all found (slots_tree T fs slots P) ≡ insert_all more (slots_tree T fs [] left)
 
-abbrev pub TakesSlots : Table → List Field → List Field → ℕ → ℕ → List (ℕ × ℕ) → List (ℕ × ℕ) → List (ℕ × FieldValue)
+abbrev pub IsMadeFromSlots : Table → List Field → List Field → ℕ → ℕ → List (ℕ × ℕ) → List (ℕ × ℕ) → List (ℕ × FieldValue)
     → List (ℕ × FieldValue) → Type 0
-TakesSlots T fs slots depth place before after found more =
+IsMadeFromSlots T fs slots depth place before after found more =
     (H : ℕ) (others : Expected) (P : Placed) (rest : List (ℕ × ℕ))
     → AreSound T H (slots_from slots depth place ++ others) P
-    → before ≡ loads P ++ rest → SlotsTaken T H fs slots others P rest after found more
+    → before ≡ loads P ++ rest → AreSlotsMade T H fs slots others P rest after found more

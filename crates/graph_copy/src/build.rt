@@ -10,15 +10,15 @@ ghost use Rattle.mrpc_table.specs.View.{item_of, items_of, pairs_of, content_of}
 ghost use Rattle.mrpc_table.specs.declared.limits.TheConstants.{MAX_DEPTH};
 ghost use Rattle.mrpc_table.specs.declared.table.Kind.{Kind};
 ghost use Rattle.mrpc_table.specs.declared.table.Table.{Table};
-ghost use Rattle.graph_form.specs.Roles.{run_length, elements_address, entries_address, case_word, plain_role, optional_role, slot_role, cases_from, node_words, own_slots, oneofs_of};
+ghost use Rattle.graph_form.specs.Roles.{run_length, elements_address, entries_address, case_word, plain_role, optional_role, slot_role, cases_from, node_words, own_slots, oneof_count};
 ghost use Rattle.graph_form.specs.Placed.{Placed, word, loads, AreSound};
 ghost use Rattle.graph_form.specs.Forgotten.{with_field, run_at, optional_item, slots_tree, slot_content, with_member, plain_item, elements_at, entries_at, tree_of};
-ghost use Rattle.graph_copy.specs.Makes.{insert_all, Takes, TakesWord, TakesBehind, TakesSlots};
+ghost use Rattle.graph_copy.specs.Makes.{insert_all, IsMadeFrom, IsMadeFromWord, IsMadeFromContent, IsMadeFromSlots};
 
 use crate::look_up::{field_of, next_slot};
 use crate::order::in_order;
-use crate::role::{Shape, shape_of};
-use graph_form::oneofs_of;
+use crate::role::{ValueShape, shape_of};
+use graph_form::oneof_count;
 use mrpc_table::{
     Bytes, Entries, FieldValue, Kind, Label, MAX_DEPTH, Memory, Numbered, Table, Tree, Value,
     Values, last_of_each,
@@ -75,7 +75,7 @@ fn node(
 ) -> Result<Tree, Memory>
     requires { IsValid table.now }
     ensures { IfOk result (λ t. (place depth : ℕ) → depth + room ≡ MAX_DEPTH
-        → Takes table.now (node_words table.now message depth place) tape.old.loads.now tape.new.loads.now
+        → IsMadeFrom table.now (node_words table.now message depth place) tape.old.loads.now tape.new.loads.now
         (λ P. t ≡ tree_of table.now message P)) }
 {
     let mut found = Vec::new(alloc);
@@ -97,7 +97,7 @@ fn slots(
 ) -> Result<(), Memory>
     requires { IsValid table.now }
     ensures { OnOk result ((place depth : ℕ) → depth + room ≡ MAX_DEPTH
-        → TakesSlots table.now (fields_of table.now message) (own_slots (fields_of table.now message)) depth place
+        → IsMadeFromSlots table.now (fields_of table.now message) (own_slots (fields_of table.now message)) depth place
         tape.old.loads.now tape.new.loads.now found.old.items found.new.items) }
 {
     let fields = table.fields(message);
@@ -123,12 +123,12 @@ fn members(
 ) -> Result<(), Memory>
     requires { IsValid table.now }
     ensures { OnOk result ((place depth : ℕ) → depth + room ≡ MAX_DEPTH
-        → Takes table.now (cases_from (oneofs_of table.now message) (fields_of table.now message) 0 depth place)
+        → IsMadeFrom table.now (cases_from (oneof_count table.now message) (fields_of table.now message) 0 depth place)
         tape.old.loads.now tape.new.loads.now
         (λ P. insert_all found.old.items (slots_tree table.now (fields_of table.now message) [] P)
         ≡ insert_all found.new.items no_fields)) }
 {
-    for _oneof in 0..oneofs_of(table, message) {
+    for _oneof in 0..oneof_count(table, message) {
         member(alloc, tape, table, message, room, found)?;
     }
     Ok(())
@@ -146,7 +146,7 @@ fn member(
 ) -> Result<(), Memory>
     requires { IsValid table.now }
     ensures { OnOk result ((place depth oneof : ℕ) → depth + room ≡ MAX_DEPTH
-        → TakesWord table.now (case_word (fields_of table.now message) oneof depth, place)
+        → IsMadeFromWord table.now (case_word (fields_of table.now message) oneof depth, place)
         tape.old.loads.now tape.new.loads.now
         (λ w. (t : Node) → insert_all found.old.items (with_member table.now (fields_of table.now message) w t)
         ≡ insert_all found.new.items t)) }
@@ -188,7 +188,7 @@ fn slot(
 ) -> Result<Option<FieldValue>, Memory>
     requires { IsValid table.now }
     ensures { IfOk result (λ c. (place depth : ℕ) → depth + room ≡ MAX_DEPTH
-        → TakesWord table.now (slot_role label kind depth, place) tape.old.loads.now tape.new.loads.now
+        → IsMadeFromWord table.now (slot_role label kind depth, place) tape.old.loads.now tape.new.loads.now
         (λ w. option_map content_of c ≡ slot_content table.now label kind w)) }
 {
     let first = tape.next();
@@ -219,11 +219,11 @@ fn slot(
 fn optional(alloc: Global, tape: &mut Tape<'_>, kind: Kind, first: u64) -> Result<Value, Memory>
     requires { first ≢ 0 }
     ensures { IfOk result (λ v. (T : Table) (place : ℕ)
-        → TakesBehind T (optional_role kind, place) first tape.old.loads.now tape.new.loads.now
+        → IsMadeFromContent T (optional_role kind, place) first tape.old.loads.now tape.new.loads.now
         (λ P. item_of v ≡ optional_item kind first P)) }
 {
     match shape_of(kind) {
-        Shape::Run => Ok(Value::Run(run(alloc, tape, first.saturating_sub(1))?)),
+        ValueShape::Run => Ok(Value::Run(run(alloc, tape, first.saturating_sub(1))?)),
         _ => Ok(Value::Number(tape.next())),
     }
 }
@@ -240,7 +240,7 @@ fn elements(
 ) -> Result<Values, Memory>
     requires { IsValid table.now }
     ensures { IfOk result (λ vs. (place depth : ℕ) → depth + room ≡ MAX_DEPTH
-        → Takes table.now ((elements_address kind count depth, place) ∷ []) tape.old.loads.now tape.new.loads.now
+        → IsMadeFrom table.now ((elements_address kind count depth, place) ∷ []) tape.old.loads.now tape.new.loads.now
         (λ P. items_of vs.items ≡ elements_at table.now kind P)) }
 {
     let _address = tape.next();
@@ -264,7 +264,7 @@ fn entries(
 ) -> Result<Entries, Memory>
     requires { IsValid table.now }
     ensures { IfOk result (λ es. (place depth : ℕ) → depth + room ≡ MAX_DEPTH
-        → Takes table.now ((entries_address key kind count depth, place) ∷ []) tape.old.loads.now tape.new.loads.now
+        → IsMadeFrom table.now ((entries_address key kind count depth, place) ∷ []) tape.old.loads.now tape.new.loads.now
         (λ P. pairs_of es.items ≡ last_of_each key (entries_at table.now key kind P))) }
 {
     let _address = tape.next();
@@ -289,7 +289,7 @@ fn item(
 ) -> Result<Value, Memory>
     requires { IsValid table.now }
     ensures { IfOk result (λ v. (place depth : ℕ) → depth + room ≡ MAX_DEPTH
-        → TakesWord table.now (plain_role kind depth true, place) tape.old.loads.now tape.new.loads.now
+        → IsMadeFromWord table.now (plain_role kind depth true, place) tape.old.loads.now tape.new.loads.now
         (λ w. item_of v ≡ plain_item table.now kind w)) }
 {
     let first = tape.next();
@@ -310,13 +310,13 @@ fn value(
     requires { IsValid table.now }
     ensures { IfOk result (λ v. (place depth : ℕ) (needed : Bool) → depth + room ≡ MAX_DEPTH
         → IsTrue needed ⊎ (first ≢ 0)
-        → TakesBehind table.now (plain_role kind depth needed, place) first tape.old.loads.now tape.new.loads.now
+        → IsMadeFromContent table.now (plain_role kind depth needed, place) first tape.old.loads.now tape.new.loads.now
         (λ P. item_of v ≡ plain_item table.now kind (word place first P))) }
 {
     match shape_of(kind) {
-        Shape::Number => Ok(Value::Number(first)),
-        Shape::Run => Ok(Value::Run(run(alloc, tape, first)?)),
-        Shape::Message(message) => {
+        ValueShape::Number => Ok(Value::Number(first)),
+        ValueShape::Run => Ok(Value::Run(run(alloc, tape, first)?)),
+        ValueShape::Message(message) => {
             if room == 0 {
                 return Ok(Value::Node(Tree {
                     fields: Vec::new(alloc),
@@ -330,7 +330,7 @@ fn value(
 // The `bytes` bytes of a run, after its length.
 fn run(alloc: Global, tape: &mut Tape<'_>, bytes: u64) -> Result<Bytes, Memory>
     ensures { IfOk result (λ bs. (T : Table) (kind : Kind) (place : ℕ)
-        → TakesBehind T (run_length kind, place) bytes tape.old.loads.now tape.new.loads.now
+        → IsMadeFromContent T (run_length kind, place) bytes tape.old.loads.now tape.new.loads.now
         (λ P. bs ≡ run_at bytes P)) }
 {
     if bytes == 0 {

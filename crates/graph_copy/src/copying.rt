@@ -1,12 +1,12 @@
 //! Copies a message out of a heap.
 
 ghost use Rattle.std.specs.Prelude.{◌≡◌, ◌≤◌, ◌<◌, ◌+◌, List, [], ◌∷◌, ◌++◌, ℕ, length, IfOk};
-ghost use Rattle.mrpc_base.specs.Heap.{AfterLoads};
+ghost use Rattle.mrpc_base.specs.Heap.{AreLoads};
 ghost use Rattle.mrpc_table.specs.Valid.{IsValid};
 ghost use Rattle.mrpc_table.specs.declared.limits.TheConstants.{MAX_HEAP, MAX_LOADS, MIN_HEAP};
 ghost use Rattle.graph_form.specs.Malformed.{IsMalformed};
-ghost use Rattle.graph_copy.specs.Copies.{since, OnlyLoads, IsCopied};
-ghost use Rattle.graph_copy.specs.Answers.{IfCopied, IfMalformed, loads_of};
+ghost use Rattle.graph_copy.specs.Copies.{loads_since, HasOnlyLoaded, IsCopied};
+ghost use Rattle.graph_copy.specs.Answers.{IfCopied, IfMalformed, load_count};
 
 use crate::build::make_tree;
 use crate::judge::lies_in;
@@ -58,20 +58,20 @@ pub fn copy<W: Words>(
 
     // For each result: the heap made room and has these additional loads, and nothing else changed.
     ensures size { W.size words.new ≡ W.size words.old }
-    ensures adds { W.loads words.new ≡ W.loads words.old ++ since (W.loads words.old) (W.loads words.new) }
-    ensures only_loads { OnlyLoads W.after_room W.after_load words.old
-        (since (W.loads words.old) (W.loads words.new)) words.new }
-    ensures few { length (since (W.loads words.old) (W.loads words.new)) ≤ limit }
+    ensures adds { W.loads words.new ≡ W.loads words.old ++ loads_since (W.loads words.old) (W.loads words.new) }
+    ensures only_loads { HasOnlyLoaded W.after_room W.after_load words.old
+        (loads_since (W.loads words.old) (W.loads words.new)) words.new }
+    ensures few { length (loads_since (W.loads words.old) (W.loads words.new)) ≤ limit }
 
     // If no room for `limit` loads was made, nothing changed.
-    ensures unroomed { W.room words.new + length (since (W.loads words.old) (W.loads words.new)) < limit
+    ensures unroomed { W.room words.new + length (loads_since (W.loads words.old) (W.loads words.new)) < limit
         → words.new ≡ words.old }
 
     ensures copied { IfOk result (IfCopied (IsCopied table.now (W.size words.old) msg addr
-        (since (W.loads words.old) (W.loads words.new)))) }
+        (loads_since (W.loads words.old) (W.loads words.new)))) }
     ensures malformed { IfOk result (IfMalformed (IsMalformed table.now (W.size words.old) msg addr limit
-        (since (W.loads words.old) (W.loads words.new)))) }
-    ensures counted { IfOk result (λ answer. loads_of answer ≡ length (since (W.loads words.old) (W.loads words.new))) }
+        (loads_since (W.loads words.old) (W.loads words.new)))) }
+    ensures counted { IfOk result (λ answer. load_count answer ≡ length (loads_since (W.loads words.old) (W.loads words.new))) }
 {
     match words.room_loads(limit) {
         Room::Memory => Err(Memory),
@@ -102,14 +102,14 @@ fn copy_graph<W: Words>(
 
     ensures size { W.size words.new ≡ W.size words.old }
     ensures adds { W.loads words.new ≡ W.loads words.old ++ loads.new.items }
-    ensures changes { AfterLoads W.after_load words.old loads.new.items words.new }
+    ensures changes { AreLoads W.after_load words.old loads.new.items words.new }
     ensures few { length loads.new.items ≤ limit }
     ensures room { limit ≤ W.room words.new + length loads.new.items }
 
     ensures copied { IfOk result (IfCopied (IsCopied table.now (W.size words.old) msg addr loads.new.items)) }
     ensures malformed { IfOk result
         (IfMalformed (IsMalformed table.now (W.size words.old) msg addr limit loads.new.items)) }
-    ensures counted { IfOk result (λ answer. loads_of answer ≡ length loads.new.items) }
+    ensures counted { IfOk result (λ answer. load_count answer ≡ length loads.new.items) }
 {
     loads_end_malformed();
     let size = words.words();

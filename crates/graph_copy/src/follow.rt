@@ -6,16 +6,16 @@ ghost use Rattle.mrpc_table.specs.Normal.{fields_of};
 ghost use Rattle.mrpc_table.specs.Valid.{IsValid};
 ghost use Rattle.mrpc_table.specs.declared.limits.TheConstants.{MAX_HEAP};
 ghost use Rattle.mrpc_table.specs.declared.table.Table.{Table};
-ghost use Rattle.graph_form.specs.Roles.{run_word, link, case_word, count, entry_count, behind, elements_from, entries_from};
-ghost use Rattle.graph_form.specs.Placed.{IsFine};
-ghost use Rattle.graph_copy.specs.Expects.{role_of, next_word, Fits};
-ghost use Rattle.graph_copy.specs.Follows.{Follows, Leads};
-ghost use Rattle.graph_copy.specs.Judged.{Told};
+ghost use Rattle.graph_form.specs.Roles.{run_word, link, case_word, count, entry_count, expected_after, elements_from, entries_from};
+ghost use Rattle.graph_form.specs.Placed.{IsValidWord};
+ghost use Rattle.graph_copy.specs.Expected.{layout_role, next_word, IsInHeap};
+ghost use Rattle.graph_copy.specs.Follows.{IsFollowed, AreExpectedFirst};
+ghost use Rattle.graph_copy.specs.Judged.{IsReasonUnless};
 
-use crate::judge::offence;
+use crate::judge::first_invalid_reason;
 use crate::look_up::field_of;
 use crate::role::{Role, plain_role};
-use crate::walk::{Frame, Next, RunWord, Walk};
+use crate::walk::{Next, RunWord, Walk, WalkFrame};
 use graph_form::{Reason, size_words};
 use mrpc_table::{Kind, Memory, Table};
 
@@ -30,9 +30,9 @@ impl Walk {
         requires valid { IsValid table.now }
         requires size { self.old.size ≤ MAX_HEAP }
         requires no_run { self.old.run ≡ None }
-        requires fits { Fits self.old.size (next_word table.now self.old.bytes.items next) }
+        requires fits { IsInHeap self.old.size (next_word table.now self.old.bytes.items next) }
         ensures follows { IfOk result
-            (Follows table.now (next_word table.now self.old.bytes.items next) value self.old self.new) }
+            (IsFollowed table.now (next_word table.now self.old.bytes.items next) value self.old self.new) }
         ensures size { self.new.size ≡ self.old.size }
     {
         match next {
@@ -51,11 +51,11 @@ impl Walk {
         requires valid { IsValid table.now }
         requires size { self.old.size ≤ MAX_HEAP }
         requires no_run { self.old.run ≡ None }
-        requires fits { Fits self.old.size (role_of table.now role, place) }
-        ensures follows { IfOk result (Follows table.now (role_of table.now role, place) value self.old self.new) }
+        requires fits { IsInHeap self.old.size (layout_role table.now role, place) }
+        ensures follows { IfOk result (IsFollowed table.now (layout_role table.now role, place) value self.old self.new) }
         ensures size { self.new.size ≡ self.old.size }
     {
-        if let Some(reason) = offence(table, self.size, role, value) {
+        if let Some(reason) = first_invalid_reason(table, self.size, role, value) {
             return Ok(Some(reason));
         }
         self.lead(table, role, place, value)?;
@@ -67,10 +67,10 @@ impl Walk {
         requires valid { IsValid table.now }
         requires size { self.old.size ≤ MAX_HEAP }
         requires no_run { self.old.run ≡ None }
-        requires fits { Fits self.old.size (role_of table.now role, place) }
-        requires fine { IsFine table.now self.old.size (role_of table.now role) value }
+        requires fits { IsInHeap self.old.size (layout_role table.now role, place) }
+        requires fine { IsValidWord table.now self.old.size (layout_role table.now role) value }
         ensures expected { OnOk result
-            (Leads table.now (behind table.now (role_of table.now role) place value) self.old self.new) }
+            (AreExpectedFirst table.now (expected_after table.now (layout_role table.now role) place value) self.old self.new) }
         ensures size { self.new.size ≡ self.old.size }
     {
         match role {
@@ -118,11 +118,11 @@ impl Walk {
         requires room { place + 1 < 2 ^ 64 }
         requires no_run { self.old.run ≡ None }
         ensures expected { OnOk result
-            ((T : Table) → Leads T (if is_there then (role_of T role, place + 1) ∷ [] else []) self.old self.new) }
+            ((T : Table) → AreExpectedFirst T (if is_there then (layout_role T role, place + 1) ∷ [] else []) self.old self.new) }
         ensures size { self.new.size ≡ self.old.size }
     {
         if is_there {
-            self.push(Frame::Word {
+            self.push(WalkFrame::Word {
                 role,
                 place: place + 1,
             })?;
@@ -132,7 +132,7 @@ impl Walk {
 
     fn begin_run(&mut self, kind: Kind, bytes: u64, place: u64)
         requires { self.old.run ≡ None }
-        ensures expected { (T : Table) → Leads T ((run_word kind bytes [], place) ∷ []) self.old self.new }
+        ensures expected { (T : Table) → AreExpectedFirst T ((run_word kind bytes [], place) ∷ []) self.old self.new }
         ensures size { self.new.size ≡ self.old.size }
     {
         self.bytes.clear();
@@ -154,9 +154,9 @@ impl Walk {
         requires valid { IsValid table.now }
         requires size { self.old.size ≤ MAX_HEAP }
         requires no_run { self.old.run ≡ None }
-        requires fine { IsFine table.now self.old.size (link message depth needed) value }
+        requires fine { IsValidWord table.now self.old.size (link message depth needed) value }
         ensures expected { OnOk result
-            (Leads table.now (behind table.now (link message depth needed) 0 value) self.old self.new) }
+            (AreExpectedFirst table.now (expected_after table.now (link message depth needed) 0 value) self.old self.new) }
         ensures size { self.new.size ≡ self.old.size }
     {
         if value == 0 {
@@ -170,7 +170,7 @@ impl Walk {
         requires room { place + 1 < 2 ^ 64 }
         requires no_run { self.old.run ≡ None }
         ensures expected { OnOk result
-            ((T : Table) → Leads T (behind T (count kind depth) place value) self.old self.new) }
+            ((T : Table) → AreExpectedFirst T (expected_after T (count kind depth) place value) self.old self.new) }
         ensures size { self.new.size ≡ self.old.size }
     {
         let count = value;
@@ -188,7 +188,7 @@ impl Walk {
         requires room { place + 1 < 2 ^ 64 }
         requires no_run { self.old.run ≡ None }
         ensures expected { OnOk result
-            ((T : Table) → Leads T (behind T (entry_count key kind depth) place value) self.old self.new) }
+            ((T : Table) → AreExpectedFirst T (expected_after T (entry_count key kind depth) place value) self.old self.new) }
         ensures size { self.new.size ≡ self.old.size }
     {
         let count = value;
@@ -209,10 +209,10 @@ impl Walk {
         place: u64,
     ) -> Result<(), Memory>
         requires { self.old.run ≡ None }
-        ensures expected { OnOk result ((T : Table) → Leads T (elements_from left kind depth place) self.old self.new) }
+        ensures expected { OnOk result ((T : Table) → AreExpectedFirst T (elements_from left kind depth place) self.old self.new) }
         ensures size { self.new.size ≡ self.old.size }
     {
-        self.push(Frame::Elements {
+        self.push(WalkFrame::Elements {
             kind,
             left,
             depth,
@@ -231,10 +231,10 @@ impl Walk {
     ) -> Result<(), Memory>
         requires { self.old.run ≡ None }
         ensures expected { OnOk result
-            ((T : Table) → Leads T (entries_from left key kind depth place) self.old self.new) }
+            ((T : Table) → AreExpectedFirst T (entries_from left key kind depth place) self.old self.new) }
         ensures size { self.new.size ≡ self.old.size }
     {
-        self.push(Frame::Entries {
+        self.push(WalkFrame::Entries {
             key,
             kind,
             left,
@@ -256,9 +256,9 @@ impl Walk {
         requires valid { IsValid table.now }
         requires room { place + 1 < 2 ^ 64 }
         requires no_run { self.old.run ≡ None }
-        requires fine { IsFine table.now self.old.size (case_word (fields_of table.now message) oneof depth) value }
+        requires fine { IsValidWord table.now self.old.size (case_word (fields_of table.now message) oneof depth) value }
         ensures expected { OnOk result
-            (Leads table.now (behind table.now (case_word (fields_of table.now message) oneof depth) place value)
+            (AreExpectedFirst table.now (expected_after table.now (case_word (fields_of table.now message) oneof depth) place value)
             self.old self.new) }
         ensures size { self.new.size ≡ self.old.size }
     {
@@ -279,7 +279,7 @@ impl Walk {
         requires no_run { self.old.run ≡ None }
         requires room { run.place + 1 < 2 ^ 64 }
         ensures follows { IfOk result (λ found. (T : Table)
-            → Follows T (run_word run.kind run.left self.old.bytes.items, run.place) value self.old self.new found) }
+            → IsFollowed T (run_word run.kind run.left self.old.bytes.items, run.place) value self.old self.new found) }
         ensures size { self.new.size ≡ self.old.size }
     {
         if has_spare_bytes(run.left, value) {
@@ -309,7 +309,7 @@ fn has_spare_bytes(left: u64, value: u64) -> bool
 
 // A string must be UTF-8.
 fn judge_run(kind: Kind, bytes: &[u8]) -> Option<Reason>
-    ensures { Told (kind ≡ Kind.Text → IsUtf8 bytes.now) Reason.Utf8 result }
+    ensures { IsReasonUnless (kind ≡ Kind.Text → IsUtf8 bytes.now) Reason.Utf8 result }
 {
     match kind {
         Kind::Text => {

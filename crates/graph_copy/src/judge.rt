@@ -7,9 +7,9 @@ ghost use Rattle.mrpc_table.specs.Words.{IsWordForm};
 ghost use Rattle.mrpc_table.specs.declared.limits.TheConstants.{MAX_HEAP};
 ghost use Rattle.mrpc_table.specs.declared.table.Table.{Table};
 ghost use Rattle.graph_form.specs.Roles.{link, case_word, size_words};
-ghost use Rattle.graph_form.specs.Placed.{LiesIn};
-ghost use Rattle.graph_copy.specs.Expects.{role_of};
-ghost use Rattle.graph_copy.specs.Judged.{Judged, Told, IsMember};
+ghost use Rattle.graph_form.specs.Placed.{IsSpanInHeap};
+ghost use Rattle.graph_copy.specs.Expected.{layout_role};
+ghost use Rattle.graph_copy.specs.Judged.{IsJudgement, IsReasonUnless, IsMember};
 
 use crate::look_up::field_of;
 use crate::role::Role;
@@ -18,17 +18,22 @@ use mrpc_table::{Kind, Label, MAX_DEPTH, Table};
 
 // Whether a span of words is inside a heap. Word 0 belongs to no message.
 pub(crate) fn lies_in(size: u64, place: u64, words: u64) -> bool
-    ensures { IsTrue result ↔ LiesIn size place words }
+    ensures { IsTrue result ↔ IsSpanInHeap size place words }
 {
     place >= 1 && place <= size && words <= size - place
 }
 
 // The first reason why a word of the role is invalid in a heap of this size; `None` if it is valid.
-pub(crate) fn offence(table: &Table, size: u64, role: Role, value: u64) -> Option<Reason>
+pub(crate) fn first_invalid_reason(
+    table: &Table,
+    size: u64,
+    role: Role,
+    value: u64,
+) -> Option<Reason>
     requires valid { IsValid table.now }
     requires least { 1 ≤ size }
     requires most { size ≤ MAX_HEAP }
-    ensures { Judged table.now size (role_of table.now role) value result }
+    ensures { IsJudgement table.now size (layout_role table.now role) value result }
 {
     match role {
         Role::Value(kind) => judge_value(kind, value),
@@ -63,7 +68,7 @@ pub(crate) fn offence(table: &Table, size: u64, role: Role, value: u64) -> Optio
 }
 
 fn judge_value(kind: Kind, value: u64) -> Option<Reason>
-    ensures { Told (IsWordForm kind value) Reason.Narrow result }
+    ensures { IsReasonUnless (IsWordForm kind value) Reason.Narrow result }
 {
     if kind.is_word_form(value) {
         None
@@ -73,7 +78,7 @@ fn judge_value(kind: Kind, value: u64) -> Option<Reason>
 }
 
 fn judge_presence(value: u64) -> Option<Reason>
-    ensures { Told (value ≤ 1) Reason.Presence result }
+    ensures { IsReasonUnless (value ≤ 1) Reason.Presence result }
 {
     if value <= 1 {
         None
@@ -83,7 +88,7 @@ fn judge_presence(value: u64) -> Option<Reason>
 }
 
 fn judge_length(value: u64, most: u64) -> Option<Reason>
-    ensures { Told (value ≤ most) Reason.Length result }
+    ensures { IsReasonUnless (value ≤ most) Reason.Length result }
 {
     if value <= most {
         None
@@ -93,7 +98,7 @@ fn judge_length(value: u64, most: u64) -> Option<Reason>
 }
 
 fn judge_address(size: u64, place: u64, words: u64) -> Option<Reason>
-    ensures { Told (LiesIn size place words) Reason.Address result }
+    ensures { IsReasonUnless (IsSpanInHeap size place words) Reason.Address result }
 {
     if lies_in(size, place, words) {
         None
@@ -103,7 +108,7 @@ fn judge_address(size: u64, place: u64, words: u64) -> Option<Reason>
 }
 
 fn judge_link(size: u64, words: u64, depth: u32, needed: bool, value: u64) -> Option<Reason>
-    ensures { (T : Table) (m : ℕ) → words ≡ size_words T m → Judged T size (link m depth needed) value result }
+    ensures { (T : Table) (m : ℕ) → words ≡ size_words T m → IsJudgement T size (link m depth needed) value result }
 {
     if value == 0 && !needed {
         return None;
@@ -119,7 +124,7 @@ fn judge_link(size: u64, words: u64, depth: u32, needed: bool, value: u64) -> Op
 
 fn judge_case(table: &Table, message: u32, oneof: u32, value: u64) -> Option<Reason>
     requires { IsValid table.now }
-    ensures { (H depth : ℕ) → Judged table.now H (case_word (fields_of table.now message) oneof depth) value result }
+    ensures { (H depth : ℕ) → IsJudgement table.now H (case_word (fields_of table.now message) oneof depth) value result }
 {
     if value == 0 || has_member(table, message, oneof, value) {
         None

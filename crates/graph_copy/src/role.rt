@@ -4,7 +4,7 @@ ghost use Rattle.std.specs.Prelude.{◌≡◌};
 ghost use Rattle.mrpc_table.specs.declared.table.Table.{Table};
 ghost use Rattle.graph_form.specs.Roles.{plain_role, optional_role, slot_role};
 ghost use Rattle.graph_copy.specs.Shapes.{shape_of};
-ghost use Rattle.graph_copy.specs.Expects.{role_of};
+ghost use Rattle.graph_copy.specs.Expected.{layout_role};
 
 use mrpc_table::{Kind, Label};
 
@@ -64,7 +64,7 @@ pub(crate) enum Role {
 
 // How a value of a kind lies in words.
 #[derive(Clone, Copy)]
-pub(crate) enum Shape {
+pub(crate) enum ValueShape {
     // In one word.
     Number,
     // In a run of bytes.
@@ -74,24 +74,24 @@ pub(crate) enum Shape {
 }
 
 // How a value of the kind lies in words.
-pub(crate) fn shape_of(kind: Kind) -> Shape
+pub(crate) fn shape_of(kind: Kind) -> ValueShape
     ensures { result ≡ shape_of kind }
 {
     match kind {
-        Kind::Text | Kind::Octets => Shape::Run,
-        Kind::Message(message) => Shape::Message(message),
-        _ => Shape::Number,
+        Kind::Text | Kind::Octets => ValueShape::Run,
+        Kind::Message(message) => ValueShape::Message(message),
+        _ => ValueShape::Number,
     }
 }
 
 // The first word of a plain slot.
 pub(crate) fn plain_role(kind: Kind, depth: u32, needed: bool) -> Role
-    ensures { (T : Table) → role_of T result ≡ plain_role kind depth needed }
+    ensures { (T : Table) → layout_role T result ≡ plain_role kind depth needed }
 {
     match shape_of(kind) {
-        Shape::Number => Role::Value(kind),
-        Shape::Run => Role::RunLength(kind),
-        Shape::Message(message) => Role::Link {
+        ValueShape::Number => Role::Value(kind),
+        ValueShape::Run => Role::RunLength(kind),
+        ValueShape::Message(message) => Role::Link {
             message,
             depth,
             needed,
@@ -101,17 +101,17 @@ pub(crate) fn plain_role(kind: Kind, depth: u32, needed: bool) -> Role
 
 // The first word of a slot with explicit presence.
 fn optional_role(kind: Kind) -> Role
-    ensures { (T : Table) → role_of T result ≡ optional_role kind }
+    ensures { (T : Table) → layout_role T result ≡ optional_role kind }
 {
     match shape_of(kind) {
-        Shape::Run => Role::RunPresence(kind),
+        ValueShape::Run => Role::RunPresence(kind),
         _ => Role::Presence(kind),
     }
 }
 
 // The first word of a field's slot.
 pub(crate) fn slot_role(label: Label, kind: Kind, depth: u32) -> Role
-    ensures { (T : Table) → role_of T result ≡ slot_role label kind depth }
+    ensures { (T : Table) → layout_role T result ≡ slot_role label kind depth }
 {
     match label {
         Label::Optional => optional_role(kind),

@@ -2,7 +2,7 @@
 
 ghost use Rattle.std.specs.Prelude.{◌≡◌, [], ◌∷◌, ◌++◌, OnOk, IfNone, IfSome};
 
-use crate::walk::Frame;
+use crate::walk::WalkFrame;
 use mrpc_table::Memory;
 use std::alloc::Global;
 use std::marker::Model;
@@ -10,13 +10,13 @@ use std::marker::Model;
 // Frames. Contracts see them as a list; the last one is popped first.
 #[derive(Drop)]
 pub(crate) struct Stack {
-    below: Vec<Frame>,
-    top: Option<Frame>,
+    below: Vec<WalkFrame>,
+    top: Option<WalkFrame>,
 }
 
 impl Model for Stack {
     ghost use Rattle.std.specs.Prelude.{List, ◌++◌};
-    ghost use Rattle.graph_copy.specs.declared.walk.Frame.{Frame as TheFrame};
+    ghost use Rattle.graph_copy.specs.declared.walk.WalkFrame.{WalkFrame as TheFrame};
     ghost use Rattle.graph_copy.specs.Tops.{top_alone};
 
     ghost Value = { List TheFrame };
@@ -36,7 +36,7 @@ impl Stack {
     }
 
     // Pushes a frame.
-    pub(crate) fn push(&mut self, frame: Frame) -> Result<(), Memory>
+    pub(crate) fn push(&mut self, frame: WalkFrame) -> Result<(), Memory>
         ensures { OnOk result (self.new ≡ self.old ++ frame ∷ []) }
     {
         if let Some(top) = self.top {
@@ -47,7 +47,7 @@ impl Stack {
     }
 
     // Pops the last frame.
-    pub(crate) fn pop(&mut self) -> Option<Frame>
+    pub(crate) fn pop(&mut self) -> Option<WalkFrame>
         ensures some { IfSome result (λ frame. self.old ≡ self.new ++ frame ∷ []) }
         ensures none { IfNone result (self.old ≡ []) }
         ensures same { IfNone result (self.new ≡ []) }

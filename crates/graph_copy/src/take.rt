@@ -1,12 +1,12 @@
 //! Loads each expected word once and in order, up to the first invalid word or the limit.
 
 ghost use Rattle.std.specs.Prelude.{◌≡◌, ◌≤◌, ◌+◌, [], ◌++◌, length, IfOk, MatchOption};
-ghost use Rattle.mrpc_base.specs.Heap.{AfterLoads};
+ghost use Rattle.mrpc_base.specs.Heap.{AreLoads};
 ghost use Rattle.mrpc_table.specs.Valid.{IsValid};
 ghost use Rattle.mrpc_table.specs.declared.limits.TheConstants.{MAX_HEAP};
-ghost use Rattle.graph_form.specs.Loading.{LeadsTo};
-ghost use Rattle.graph_copy.specs.Expects.{expected, AllFit};
-ghost use Rattle.graph_copy.specs.Stops.{Stops};
+ghost use Rattle.graph_form.specs.Loading.{AreExpectedAfter};
+ghost use Rattle.graph_copy.specs.Expected.{expected, AreInHeap};
+ghost use Rattle.graph_copy.specs.Stops.{HasStopped};
 
 use crate::walk::Walk;
 use graph_form::Reason;
@@ -28,17 +28,17 @@ pub(crate) fn take_words<W: Words>(
     requires size { walk.old.size ≡ W.size words.old }
     requires small { walk.old.size ≤ MAX_HEAP }
     requires room { limit ≤ W.room words.old }
-    requires fits { AllFit walk.old.size (expected table.now walk.old) }
+    requires fits { AreInHeap walk.old.size (expected table.now walk.old) }
     requires none { loads.old.items ≡ [] }
 
     ensures size { W.size words.new ≡ W.size words.old }
     ensures adds { W.loads words.new ≡ W.loads words.old ++ loads.new.items }
-    ensures changes { AfterLoads W.after_load words.old loads.new.items words.new }
+    ensures changes { AreLoads W.after_load words.old loads.new.items words.new }
     ensures few { length loads.new.items ≤ limit }
     ensures room { limit ≤ W.room words.new + length loads.new.items }
     ensures outcome { IfOk result (λ found. MatchOption found
-        (LeadsTo table.now walk.old.size (expected table.now walk.old) loads.new.items [])
-        (Stops table.now walk.old.size limit (expected table.now walk.old) loads.new.items)) }
+        (AreExpectedAfter table.now walk.old.size (expected table.now walk.old) loads.new.items [])
+        (HasStopped table.now walk.old.size limit (expected table.now walk.old) loads.new.items)) }
 {
     while let Some(next) = walk.next(table)? {
         if loads.len() as u64 >= limit {

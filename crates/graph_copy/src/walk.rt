@@ -5,19 +5,19 @@ ghost use Rattle.mrpc_table.specs.Valid.{IsValid};
 ghost use Rattle.mrpc_table.specs.declared.limits.TheConstants.{MAX_HEAP};
 ghost use Rattle.mrpc_table.specs.declared.table.Table.{Table};
 ghost use Rattle.graph_form.specs.Roles.{size_words, node_words, elements_from, entries_from};
-ghost use Rattle.graph_copy.specs.Expects.{expected, frame_words, stack_words, next_word, AllFit};
-ghost use Rattle.graph_copy.specs.Opens.{Opens};
+ghost use Rattle.graph_copy.specs.Expected.{expected, frame_words, stack_words, next_word, AreInHeap};
+ghost use Rattle.graph_copy.specs.Opens.{HasOpenedFrame};
 
 use crate::look_up::next_slot;
 use crate::role::{Role, plain_role, slot_role};
 use crate::stack::Stack;
-use graph_form::{element_words, oneofs_of};
+use graph_form::{element_words, oneof_count};
 use mrpc_table::{Kind, Memory, Table};
 use std::alloc::Global;
 
 // A sequence of expected words.
 #[derive(Clone, Copy)]
-pub(crate) enum Frame {
+pub(crate) enum WalkFrame {
     // One word.
     Word {
         role: Role,
@@ -108,7 +108,7 @@ impl Walk {
     }
 
     // Expects the words of a frame before all others.
-    pub(crate) fn push(&mut self, frame: Frame) -> Result<(), Memory>
+    pub(crate) fn push(&mut self, frame: WalkFrame) -> Result<(), Memory>
         ensures frames { OnOk result ((T : Table)
             → stack_words T self.new.frames ≡ frame_words T frame ++ stack_words T self.old.frames) }
         ensures size { self.new.size ≡ self.old.size }
@@ -138,16 +138,16 @@ impl Walk {
         ensures size { self.new.size ≡ self.old.size }
         ensures no_run { self.new.run ≡ None }
     {
-        let oneofs = u64::from(oneofs_of(table, message));
+        let oneofs = u64::from(oneof_count(table, message));
         if oneofs > 0 {
-            self.push(Frame::Oneofs {
+            self.push(WalkFrame::Oneofs {
                 message,
                 oneof: 0,
                 depth,
                 place: place + (words - 3 * oneofs),
             })?;
         }
-        self.push(Frame::Slots {
+        self.push(WalkFrame::Slots {
             message,
             field: 0,
             depth,
@@ -159,7 +159,7 @@ impl Walk {
     // Takes the word to load next; `None` if no word is expected.
     pub(crate) fn next(&mut self, table: &Table) -> Result<Option<Next>, Memory>
         requires valid { IsValid table.now }
-        requires fits { AllFit self.old.size (expected table.now self.old) }
+        requires fits { AreInHeap self.old.size (expected table.now self.old) }
         requires size { self.old.size ≤ MAX_HEAP }
         ensures word { IfOk result (λ found. MatchOption found (expected table.now self.old ≡ [])
             (λ next. expected table.now self.old
@@ -180,37 +180,37 @@ impl Walk {
     }
 
     // The first word of a frame. The frame's other words are expected next.
-    fn open(&mut self, table: &Table, frame: Frame) -> Result<Option<(Role, u64)>, Memory>
+    fn open(&mut self, table: &Table, frame: WalkFrame) -> Result<Option<(Role, u64)>, Memory>
         requires valid { IsValid table.now }
-        requires fits { AllFit self.old.size (frame_words table.now frame) }
+        requires fits { AreInHeap self.old.size (frame_words table.now frame) }
         requires size { self.old.size ≤ MAX_HEAP }
         ensures found { IfOk result
-            (Opens table.now (frame_words table.now frame) self.old.frames self.new.frames) }
+            (HasOpenedFrame table.now (frame_words table.now frame) self.old.frames self.new.frames) }
         ensures size { self.new.size ≡ self.old.size }
         ensures run { self.new.run ≡ self.old.run }
         ensures bytes { self.new.bytes ≡ self.old.bytes }
     {
         match frame {
-            Frame::Word { role, place } => Ok(Some((role, place))),
-            Frame::Slots {
+            WalkFrame::Word { role, place } => Ok(Some((role, place))),
+            WalkFrame::Slots {
                 message,
                 field,
                 depth,
                 place,
             } => self.open_slots(table, message, field, depth, place),
-            Frame::Oneofs {
+            WalkFrame::Oneofs {
                 message,
                 oneof,
                 depth,
                 place,
             } => self.open_oneofs(table, message, oneof, depth, place),
-            Frame::Elements {
+            WalkFrame::Elements {
                 kind,
                 left,
                 depth,
                 place,
             } => self.open_elements(kind, left, depth, place),
-            Frame::Entries {
+            WalkFrame::Entries {
                 key,
                 kind,
                 left,
@@ -229,10 +229,10 @@ impl Walk {
         place: u64,
     ) -> Result<Option<(Role, u64)>, Memory>
         requires valid { IsValid table.now }
-        requires fits { AllFit self.old.size (frame_words table.now (Frame.Slots message from depth place)) }
+        requires fits { AreInHeap self.old.size (frame_words table.now (WalkFrame.Slots message from depth place)) }
         requires size { self.old.size ≤ MAX_HEAP }
         ensures found { IfOk result
-            (Opens table.now (frame_words table.now (Frame.Slots message from depth place))
+            (HasOpenedFrame table.now (frame_words table.now (WalkFrame.Slots message from depth place))
             self.old.frames self.new.frames) }
         ensures size { self.new.size ≡ self.old.size }
         ensures run { self.new.run ≡ self.old.run }
@@ -243,7 +243,7 @@ impl Walk {
             Some(index) => {
                 let field = &fields[index];
                 let role = slot_role(field.label, field.kind, depth);
-                self.push(Frame::Slots {
+                self.push(WalkFrame::Slots {
                     message,
                     field: index + 1,
                     depth,
@@ -264,19 +264,19 @@ impl Walk {
         place: u64,
     ) -> Result<Option<(Role, u64)>, Memory>
         requires valid { IsValid table.now }
-        requires fits { AllFit self.old.size (frame_words table.now (Frame.Oneofs message oneof depth place)) }
+        requires fits { AreInHeap self.old.size (frame_words table.now (WalkFrame.Oneofs message oneof depth place)) }
         requires size { self.old.size ≤ MAX_HEAP }
         ensures found { IfOk result
-            (Opens table.now (frame_words table.now (Frame.Oneofs message oneof depth place))
+            (HasOpenedFrame table.now (frame_words table.now (WalkFrame.Oneofs message oneof depth place))
             self.old.frames self.new.frames) }
         ensures size { self.new.size ≡ self.old.size }
         ensures run { self.new.run ≡ self.old.run }
         ensures bytes { self.new.bytes ≡ self.old.bytes }
     {
-        if oneof >= oneofs_of(table, message) {
+        if oneof >= oneof_count(table, message) {
             return Ok(None);
         }
-        self.push(Frame::Oneofs {
+        self.push(WalkFrame::Oneofs {
             message,
             oneof: oneof + 1,
             depth,
@@ -297,10 +297,10 @@ impl Walk {
         depth: u32,
         place: u64,
     ) -> Result<Option<(Role, u64)>, Memory>
-        requires fits { AllFit self.old.size (elements_from left kind depth place) }
+        requires fits { AreInHeap self.old.size (elements_from left kind depth place) }
         requires size { self.old.size ≤ MAX_HEAP }
         ensures found { IfOk result (λ found. (T : Table)
-            → Opens T (elements_from left kind depth place) self.old.frames self.new.frames found) }
+            → HasOpenedFrame T (elements_from left kind depth place) self.old.frames self.new.frames found) }
         ensures size { self.new.size ≡ self.old.size }
         ensures run { self.new.run ≡ self.old.run }
         ensures bytes { self.new.bytes ≡ self.old.bytes }
@@ -308,7 +308,7 @@ impl Walk {
         if left == 0 {
             return Ok(None);
         }
-        self.push(Frame::Elements {
+        self.push(WalkFrame::Elements {
             kind,
             left: left - 1,
             depth,
@@ -325,10 +325,10 @@ impl Walk {
         depth: u32,
         place: u64,
     ) -> Result<Option<(Role, u64)>, Memory>
-        requires fits { AllFit self.old.size (entries_from left key kind depth place) }
+        requires fits { AreInHeap self.old.size (entries_from left key kind depth place) }
         requires size { self.old.size ≤ MAX_HEAP }
         ensures found { IfOk result (λ found. (T : Table)
-            → Opens T (entries_from left key kind depth place) self.old.frames self.new.frames found) }
+            → HasOpenedFrame T (entries_from left key kind depth place) self.old.frames self.new.frames found) }
         ensures size { self.new.size ≡ self.old.size }
         ensures run { self.new.run ≡ self.old.run }
         ensures bytes { self.new.bytes ≡ self.old.bytes }
@@ -336,14 +336,14 @@ impl Walk {
         if left == 0 {
             return Ok(None);
         }
-        self.push(Frame::Entries {
+        self.push(WalkFrame::Entries {
             key,
             kind,
             left: left - 1,
             depth,
             place: place + 4,
         })?;
-        self.push(Frame::Word {
+        self.push(WalkFrame::Word {
             role: plain_role(kind, depth, true),
             place: place + 2,
         })?;

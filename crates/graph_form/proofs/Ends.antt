@@ -17,20 +17,20 @@ use Rattle.mrpc_table.specs.declared.table.Field.{Field}
 use Rattle.mrpc_table.specs.declared.table.Table.{Table}
 use Rattle.graph_form.specs.declared.reason.Reason.{Reason}
 use Rattle.graph_form.specs.declared.reason.Reason.TheVariants.{Address, Presence, Case, Length, Utf8, Narrow, Depth, Loads, NoMethod}
-use Rattle.graph_form.specs.Roles.{Role, value, presence, run_length, run_presence, run_address, run_word, link}
-use Rattle.graph_form.specs.Roles.{count, elements_address, entry_count, entries_address, case_word, Expected, behind}
+use Rattle.graph_form.specs.Roles.{WordRole, value, presence, run_length, run_presence, run_address, run_word, link}
+use Rattle.graph_form.specs.Roles.{count, elements_address, entry_count, entries_address, case_word, Expected, expected_after}
 use Rattle.graph_form.specs.Roles.{word_bytes, element_words, size_words, node_words}
-use Rattle.graph_form.specs.Placed.{Placed, nothing, first, word, LiesIn, IsFine, IsFaulty, IsPlaced}
-use Rattle.graph_form.specs.Malformed.{Loaded, loaded_words, loads_of, AreFine, OffendsFirst, IsMalformed, offends, too_many}
-use Rattle.graph_form.specs.Loading.{LeadsTo}
+use Rattle.graph_form.specs.Placed.{Placed, nothing, first, word, IsSpanInHeap, IsValidWord, IsInvalid, IsPlaced}
+use Rattle.graph_form.specs.Malformed.{Loaded, loaded_words, loads_of_words, AreValidWords, IsInvalidFirst, IsMalformed, offends, too_many}
+use Rattle.graph_form.specs.Loading.{AreExpectedAfter}
 use Rattle.graph_form.proofs.Joined.{placed-parts, loaded_words-join}
 
 -- ---- for any expected words there is a placed tree: one of zeros
 
-abbrev IsEither : Table → ℕ → Role → ℕ → Type 0
-IsEither T H role v = IsFine T H role v ⊎ IsFaulty T H role v
+abbrev IsEither : Table → ℕ → WordRole → ℕ → Type 0
+IsEither T H role v = IsValidWord T H role v ⊎ IsInvalid T H role v
 
-fine-number : (T : Table) (H : ℕ) (k : Kind) (v : ℕ) → IsWordForm k v → IsFine T H (value k) v
+fine-number : (T : Table) (H : ℕ) (k : Kind) (v : ℕ) → IsWordForm k v → IsValidWord T H (value k) v
 fine-number T H k v form Narrow bad = bad form
 fine-number T H k v form Address bad = bad
 fine-number T H k v form Presence bad = bad
@@ -61,12 +61,12 @@ number-zero T H Float = inl (fine-number T H Float 0 (omega arith))
 number-zero T H TheBool = inl (fine-number T H TheBool 0 (omega arith))
 
 -- nothing lies at place 0
-nowhere : (H words : ℕ) → LiesIn H 0 words → ⊥
+nowhere : (H words : ℕ) → IsSpanInHeap H 0 words → ⊥
 nowhere H words h = let a = h.from_one in omega (arith, a)
 
 -- a zero word of a run is valid, unless it ends a text that isn't UTF-8
 run-fine : (T : Table) (H : ℕ) (k : Kind) (left : ℕ) (before : List ℕ)
-    → (k ≡ Text → left ≤ 8 → IsUtf8 (before ++ take left (word_bytes 0))) → IsFine T H (run_word k left before) 0
+    → (k ≡ Text → left ≤ 8 → IsUtf8 (before ++ take left (word_bytes 0))) → IsValidWord T H (run_word k left before) 0
 run-fine T H k left before text Narrow bad = let a = pow_pos (8 * left) in let b = bad.1 in omega (arith, a, b)
 run-fine T H Text left before text Utf8 bad = bad.1 (text refl bad.0)
 run-fine T H k left before text Utf8 bad = bad
@@ -96,45 +96,45 @@ run-zero T H Text left before = text-zero T H left before (is_utf8 (before ++ ta
 run-zero T H k left before = inl (run-fine T H k left before (λ e l. absurd (cc)))
 
 -- a valid word of this role leads to nothing
-abbrev HasNoneBehind : Table → Role → ℕ → Type 0
-HasNoneBehind T role p = behind T role p 0 ≡ []
+abbrev HasNoneBehind : Table → WordRole → ℕ → Type 0
+HasNoneBehind T role p = expected_after T role p 0 ≡ []
 
-record Zeroed (T : Table) (H : ℕ) (role : Role) (p : ℕ) : Type 0 where
+record Zeroed (T : Table) (H : ℕ) (role : WordRole) (p : ℕ) : Type 0 where
   content : Placed
-  stands : (IsFine T H role 0 × IsPlaced T H (behind T role p 0) content) ⊎ (IsFaulty T H role 0 × (content ≡ nothing))
+  stands : (IsValidWord T H role 0 × IsPlaced T H (expected_after T role p 0) content) ⊎ (IsInvalid T H role 0 × (content ≡ nothing))
 
-faulty-zero : (T : Table) (H : ℕ) (role : Role) (p : ℕ) → IsFaulty T H role 0 → Zeroed T H role p
+faulty-zero : (T : Table) (H : ℕ) (role : WordRole) (p : ℕ) → IsInvalid T H role 0 → Zeroed T H role p
 faulty-zero T H role p f = record { content = nothing; stands = inr (f, refl) }
 
-fine-alone : (T : Table) (H : ℕ) (role : Role) (p : ℕ) → HasNoneBehind T role p → IsFine T H role 0 → Zeroed T H role p
+fine-alone : (T : Table) (H : ℕ) (role : WordRole) (p : ℕ) → HasNoneBehind T role p → IsValidWord T H role 0 → Zeroed T H role p
 fine-alone T H role p none f = record { content = nothing; stands = inl (f, subst (λ es. IsPlaced T H es nothing) (sym none) tt) }
 
-fine-presence : (T : Table) (H : ℕ) (k : Kind) → IsFine T H (presence k) 0
+fine-presence : (T : Table) (H : ℕ) (k : Kind) → IsValidWord T H (presence k) 0
 fine-presence T H k Presence bad = omega (arith, bad)
 fine-presence T H k _ bad = bad
 
-fine-length : (T : Table) (H : ℕ) (k : Kind) → 0 < H → IsFine T H (run_length k) 0
+fine-length : (T : Table) (H : ℕ) (k : Kind) → 0 < H → IsValidWord T H (run_length k) 0
 fine-length T H k some Length bad = omega (arith, bad, some)
 fine-length T H k some _ bad = bad
 
-fine-run_presence : (T : Table) (H : ℕ) (k : Kind) → 0 < H → IsFine T H (run_presence k) 0
+fine-run_presence : (T : Table) (H : ℕ) (k : Kind) → 0 < H → IsValidWord T H (run_presence k) 0
 fine-run_presence T H k some Length bad = omega (arith, bad, some)
 fine-run_presence T H k some _ bad = bad
 
-absent-link : (T : Table) (H m depth : ℕ) → IsFine T H (link m depth false) 0
+absent-link : (T : Table) (H m depth : ℕ) → IsValidWord T H (link m depth false) 0
 absent-link T H m depth Address bad = ⊎_elim (λ no. no refl) (λ needed. (let wrong : false ≡ true = needed in cc)) bad.0
 absent-link T H m depth Depth bad = bad.0 refl
 absent-link T H m depth _ bad = bad
 
-fine-count : (T : Table) (H : ℕ) (k : Kind) (depth : ℕ) → 0 < H → IsFine T H (count k depth) 0
+fine-count : (T : Table) (H : ℕ) (k : Kind) (depth : ℕ) → 0 < H → IsValidWord T H (count k depth) 0
 fine-count T H k depth some Length bad = omega (arith, bad, some)
 fine-count T H k depth some _ bad = bad
 
-fine-entries : (T : Table) (H : ℕ) (key k : Kind) (depth : ℕ) → 0 < H → IsFine T H (entry_count key k depth) 0
+fine-entries : (T : Table) (H : ℕ) (key k : Kind) (depth : ℕ) → 0 < H → IsValidWord T H (entry_count key k depth) 0
 fine-entries T H key k depth some Length bad = omega (arith, bad, some)
 fine-entries T H key k depth some _ bad = bad
 
-no_case : (T : Table) (H : ℕ) (fs : List Field) (oneof depth : ℕ) → IsFine T H (case_word fs oneof depth) 0
+no_case : (T : Table) (H : ℕ) (fs : List Field) (oneof depth : ℕ) → IsValidWord T H (case_word fs oneof depth) 0
 no_case T H fs oneof depth Case bad = bad.0 refl
 no_case T H fs oneof depth _ bad = bad
 
@@ -169,7 +169,7 @@ zero-run T H k (suc steps) left before p few =
     (λ faulty. faulty-zero T H (run_word k left before) p faulty)
     (run-zero T H k left before)
 
-zeroed : (T : Table) (H : ℕ) (role : Role) (p : ℕ) → 0 < H → Zeroed T H role p
+zeroed : (T : Table) (H : ℕ) (role : WordRole) (p : ℕ) → 0 < H → Zeroed T H role p
 zeroed T H (value k) p some = ⊎_elim (λ fine. fine-alone T H (value k) p refl fine) (λ faulty. faulty-zero T H (value k) p faulty) (number-zero T H k)
 zeroed T H (presence k) p some = fine-alone T H (presence k) p refl (fine-presence T H k)
 zeroed T H (run_length k) p some = fine-alone T H (run_length k) p refl (fine-length T H k some)
@@ -198,21 +198,21 @@ record Begun (T : Table) (H : ℕ) (es next : Expected) (xs : List (ℕ × ℕ))
   is_placed : IsPlaced T H es placed
   before : List Loaded
   order : loaded_words T es placed ≡ before ++ loaded_words T next Q
-  loads : xs ≡ loads_of before
-  fine : AreFine T H before
+  loads : xs ≡ loads_of_words before
+  fine : AreValidWords T H before
 
-begun : (T : Table) (H : ℕ) (es next : Expected) (xs : List (ℕ × ℕ)) (Q : Placed) → LeadsTo T H es xs next → IsPlaced T H next Q → Begun T H es next xs Q
+begun : (T : Table) (H : ℕ) (es next : Expected) (xs : List (ℕ × ℕ)) (Q : Placed) → AreExpectedAfter T H es xs next → IsPlaced T H next Q → Begun T H es next xs Q
 begun T H es next [] Q h q = record {
   placed = Q;
   is_placed = subst (λ z. IsPlaced T H z Q) (sym h) q;
   before = [];
   order = ap (λ z. loaded_words T z Q) h;
   loads = refl;
-  fine = All-nil (λ (w : Loaded). IsFine T H w.role w.number);
+  fine = All-nil (λ (w : Loaded). IsValidWord T H w.role w.number);
 }
 begun T H [] next (x ∷ xs) Q h q = absurd h
 begun T H (e ∷ es) next (x ∷ xs) Q h q =
-    let inside = behind T e.0 x.0 x.1 in
+    let inside = expected_after T e.0 x.0 x.1 in
     let rest = begun T H (inside ++ es) next xs Q h.3 q in
     let parts = placed-parts T H inside es rest.placed rest.is_placed in
     let w : Loaded = record { role = e.0; place = x.0; number = x.1 } in
@@ -224,21 +224,21 @@ begun T H (e ∷ es) next (x ∷ xs) Q h q =
       before = w ∷ rest.before;
       order = ap (λ ws. w ∷ ws) order;
       loads = ap (λ ys. x ∷ ys) rest.loads;
-      fine = All-cons (λ (u : Loaded). IsFine T H u.role u.number) w rest.before h.2 rest.fine;
+      fine = All-cons (λ (u : Loaded). IsValidWord T H u.role u.number) w rest.before h.2 rest.fine;
     }
 
 none-behind : (T : Table) (es : Expected) → loaded_words T es nothing ≡ []
 none-behind T [] = refl
 none-behind T (e ∷ es) = refl
 
-loads-last : (before : List Loaded) (w : Loaded) → loads_of (before ++ w ∷ []) ≡ loads_of before ++ (w.place, w.number) ∷ []
+loads-last : (before : List Loaded) (w : Loaded) → loads_of_words (before ++ w ∷ []) ≡ loads_of_words before ++ (w.place, w.number) ∷ []
 loads-last before w = map-append (λ (u : Loaded). (u.place, u.number)) before (w ∷ [])
 
 -- the loads lead to an invalid word, and it is loaded
-pub ends-at-offence : (T : Table) (H msg address limit : ℕ) (xs : List (ℕ × ℕ)) (e : Role × ℕ) (rest : Expected)
-    (v : ℕ) (reason : Reason) → LiesIn H address (size_words T msg)
-    → LeadsTo T H (node_words T msg 1 address) xs (e ∷ rest) → length xs < limit → v < 2 ^ 64
-    → OffendsFirst T H e.0 v reason → IsMalformed T H msg address limit (xs ++ (e.1, v) ∷ []) reason e.1 v
+pub ends-at-offence : (T : Table) (H msg address limit : ℕ) (xs : List (ℕ × ℕ)) (e : WordRole × ℕ) (rest : Expected)
+    (v : ℕ) (reason : Reason) → IsSpanInHeap H address (size_words T msg)
+    → AreExpectedAfter T H (node_words T msg 1 address) xs (e ∷ rest) → length xs < limit → v < 2 ^ 64
+    → IsInvalidFirst T H e.0 v reason → IsMalformed T H msg address limit (xs ++ (e.1, v) ∷ []) reason e.1 v
 ends-at-offence T H msg address limit xs e rest v reason root leads within small bad =
     let some : 0 < H = let a = root.from_one in let b = root.to_end in omega (arith, a, b) in
     let left = some-placed T H rest some in
@@ -248,7 +248,7 @@ ends-at-offence T H msg address limit xs e rest v reason root leads within small
     let b = begun T H (node_words T msg 1 address) (e ∷ rest) xs Q leads stands in
     let after = loaded_words T rest left.0 in
     let order : loaded_words T (node_words T msg 1 address) b.placed ≡ (b.before ++ w ∷ []) ++ after =
-    b.order ∙ ap (λ ws. b.before ++ (w ∷ ws ++ after)) (none-behind T (behind T e.0 e.1 v)) ∙ sym (append_assoc b.before (w ∷ []) after) in
+    b.order ∙ ap (λ ws. b.before ++ (w ∷ ws ++ after)) (none-behind T (expected_after T e.0 e.1 v)) ∙ sym (append_assoc b.before (w ∷ []) after) in
     offends b.before after w
     (record { root = root; placed = b.placed; words = b.is_placed; order = order })
     b.fine bad (let n = length-append xs ((e.1, v) ∷ []) in omega (arith, n, within))
@@ -262,7 +262,7 @@ record EndsWith (before : List Loaded) (xs : List (ℕ × ℕ)) (x : ℕ × ℕ)
   place : x.0 ≡ last.place
   number : x.1 ≡ last.number
 
-ends-with : (before : List Loaded) (xs : List (ℕ × ℕ)) (x : ℕ × ℕ) → xs ++ x ∷ [] ≡ loads_of before → EndsWith before xs x
+ends-with : (before : List Loaded) (xs : List (ℕ × ℕ)) (x : ℕ × ℕ) → xs ++ x ∷ [] ≡ loads_of_words before → EndsWith before xs x
 ends-with [] [] x h = absurd (cc)
 ends-with [] (y ∷ xs) x h = absurd (cc)
 ends-with (w ∷ []) [] x h =
@@ -270,14 +270,14 @@ ends-with (w ∷ []) [] x h =
     record { front = []; last = w; is = refl; place = ap (λ z. z.0) e; number = ap (λ z. z.1) e }
 ends-with (w ∷ u ∷ ws) [] x h = absurd (cc)
 ends-with (w ∷ ws) (y ∷ xs) x h =
-    let t : xs ++ x ∷ [] ≡ loads_of ws = cc in
+    let t : xs ++ x ∷ [] ≡ loads_of_words ws = cc in
     let rest = ends-with ws xs x t in
     record { front = w ∷ rest.front; last = rest.last; is = ap (λ z. w ∷ z) rest.is; place = rest.place; number = rest.number }
 
 -- loads up to the limit lead to a word that is still expected
-pub ends-at-limit : (T : Table) (H msg address limit : ℕ) (xs : List (ℕ × ℕ)) (x : ℕ × ℕ) (e : Role × ℕ)
-    (rest : Expected) → LiesIn H address (size_words T msg)
-    → LeadsTo T H (node_words T msg 1 address) (xs ++ x ∷ []) (e ∷ rest) → length (xs ++ x ∷ []) ≡ limit
+pub ends-at-limit : (T : Table) (H msg address limit : ℕ) (xs : List (ℕ × ℕ)) (x : ℕ × ℕ) (e : WordRole × ℕ)
+    (rest : Expected) → IsSpanInHeap H address (size_words T msg)
+    → AreExpectedAfter T H (node_words T msg 1 address) (xs ++ x ∷ []) (e ∷ rest) → length (xs ++ x ∷ []) ≡ limit
     → IsMalformed T H msg address limit (xs ++ x ∷ []) Loads x.0 x.1
 ends-at-limit T H msg address limit xs x e rest root leads full =
     let some : 0 < H = let a = root.from_one in let b = root.to_end in omega (arith, a, b) in
@@ -288,8 +288,8 @@ ends-at-limit T H msg address limit xs x e rest root leads full =
     let stands : IsPlaced T H (e ∷ rest) Q = (refl, pow_pos 64, here.stands, left.1) in
     let b = begun T H (node_words T msg 1 address) (e ∷ rest) (xs ++ x ∷ []) Q leads stands in
     let end = ends-with b.before xs x b.loads in
-    let after = loaded_words T (behind T e.0 e.1 0) here.content ++ loaded_words T rest left.0 in
+    let after = loaded_words T (expected_after T e.0 e.1 0) here.content ++ loaded_words T rest left.0 in
     too_many end.front after end.last next
     (record { root = root; placed = b.placed; words = b.is_placed; order = b.order ∙ ap (λ ws. ws ++ next ∷ after) end.is })
-    (subst (AreFine T H) end.is b.fine) full
-    (b.loads ∙ ap loads_of end.is) refl end.place end.number
+    (subst (AreValidWords T H) end.is b.fine) full
+    (b.loads ∙ ap loads_of_words end.is) refl end.place end.number

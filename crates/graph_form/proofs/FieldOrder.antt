@@ -7,7 +7,7 @@ use Rattle.std.proofs.lemmas.Bool.{eq-eqb, ne_eqb}
 use Rattle.std.proofs.lemmas.List.Elements.{All-head, All-tail}
 use Rattle.mrpc_table.specs.Normal.{fields_of, field_at}
 use Rattle.mrpc_table.specs.Words.{is_key}
-use Rattle.mrpc_table.specs.Valid.{IsValid, IsMessage, IsField, GoesWith, Ascends}
+use Rattle.mrpc_table.specs.Valid.{IsValid, IsMessage, IsField, IsLabelFor, IsAscendingBy}
 use Rattle.mrpc_table.specs.declared.table.Kind.{Kind}
 use Rattle.mrpc_table.specs.declared.table.Kind.TheVariants.{Message as OfMessage}
 use Rattle.mrpc_table.specs.declared.table.Label.{Label}
@@ -35,13 +35,13 @@ key-plain : (k : Kind) → is_key k ≡ true → IsNoMessage k
 key-plain (OfMessage i) h j e = cc
 key-plain k h j e = let bad : is_key (OfMessage j) ≡ true = subst (λ z. is_key z ≡ true) e h in cc
 
-label-key : (oneofs : ℕ) (label : Label) (k : Kind) → GoesWith oneofs label k → HasPlainKey label
+label-key : (oneofs : ℕ) (label : Label) (k : Kind) → IsLabelFor oneofs label k → HasPlainKey label
 label-key oneofs label k h key e =
-    let goes : GoesWith oneofs (Map key) k = subst (λ (x : Label). GoesWith oneofs x k) e h in
+    let goes : IsLabelFor oneofs (Map key) k = subst (λ (x : Label). IsLabelFor oneofs x k) e h in
     key-plain key goes
 
 rise-from : (T : Table) (oneofs last : ℕ) (fs : List Field) → All (IsField T oneofs) fs
-    → Ascends (λ f g. f.number < g.number) fs → ((f : Field) → (0 < length fs) → get_or fs 0 f ≡ f → last < f.number)
+    → IsAscendingBy (λ f g. f.number < g.number) fs → ((f : Field) → (0 < length fs) → get_or fs 0 f ≡ f → last < f.number)
     → RiseFrom last fs
 rise-from T oneofs last [] all ascends above = tt
 rise-from T oneofs last (f ∷ []) all ascends above = (above f (omega arith) refl, label-key oneofs f.label f.kind (All-head (IsField T oneofs) f [] all).label, tt)

@@ -15,8 +15,8 @@ use Rattle.mrpc_table.specs.declared.table.Kind.TheVariants.{Int32, Uint32, Sint
 use Rattle.mrpc_table.specs.declared.table.Table.{Table}
 use Rattle.graph_form.specs.declared.reason.Reason.TheVariants.{Narrow, Utf8}
 use Rattle.graph_form.specs.Roles.{value, run_word, run_address, Expected, word_bytes}
-use Rattle.graph_form.specs.Placed.{Placed, nothing, first, word, IsFine, AreSound}
-use Rattle.graph_form.specs.Forgotten.{chain_bytes, run_at}
+use Rattle.graph_form.specs.Placed.{Placed, nothing, first, word, IsValidWord, AreSound}
+use Rattle.graph_form.specs.Forgotten.{bytes_of_run, run_at}
 
 -- ---- numbers
 
@@ -46,7 +46,7 @@ utf8-stands bytes h =
       | false ↦ λ e. absurd (h (λ good. (let bad : true ≡ false = sym (is_utf8-from_IsUtf8 bytes good) ∙ e in cc)))
     ] refl
 
-pub number-form : (T : Table) (H : ℕ) (k : Kind) (v : ℕ) → v < 2 ^ 64 → IsFine T H (value k) v → IsWordForm k v
+pub number-form : (T : Table) (H : ℕ) (k : Kind) (v : ℕ) → v < 2 ^ 64 → IsValidWord T H (value k) v → IsWordForm k v
 number-form T H Text v small fine = fine Narrow (λ h. h)
 number-form T H Octets v small fine = fine Narrow (λ h. h)
 number-form T H (Message i) v small fine = fine Narrow (λ h. h)
@@ -64,9 +64,9 @@ number-form T H k v small fine = small
 
 -- the valid words of a run, from one of them
 pub record IsRunFrom (k : Kind) (left : ℕ) (before : List ℕ) (P : Placed) : Type 0 where
-  pub long : left ≤ length (chain_bytes P)
-  pub bytes : All (λ b. b < 256) (chain_bytes P)
-  pub text : k ≡ Text → IsUtf8 (before ++ take left (chain_bytes P))
+  pub long : left ≤ length (bytes_of_run P)
+  pub bytes : All (λ b. b < 256) (bytes_of_run P)
+  pub text : k ≡ Text → IsUtf8 (before ++ take left (bytes_of_run P))
 
 abbrev IsByte : ℕ → Type 0
 IsByte b = b < 256
@@ -93,11 +93,11 @@ abbrev OneWord : ℕ → ℕ → Placed → Placed
 OneWord q v c = first (word q v c) nothing
 
 last-word : (T : Table) (H : ℕ) (k : Kind) (left : ℕ) (before : List ℕ) (q v : ℕ) → left ≤ 8
-    → IsFine T H (run_word k left before) v → IsRunFrom k left before (OneWord q v nothing)
+    → IsValidWord T H (run_word k left before) v → IsRunFrom k left before (OneWord q v nothing)
 last-word T H k left before q v few fine = record {
   long = few;
   bytes = All-append IsByte (word_bytes v) [] (word-bytes v) (All-nil IsByte);
-  text = λ e. (let fine_text : IsFine T H (run_word Text left before) v = subst (λ z. IsFine T H (run_word z left before) v) e fine in
+  text = λ e. (let fine_text : IsValidWord T H (run_word Text left before) v = subst (λ z. IsValidWord T H (run_word z left before) v) e fine in
       let same : take left (word_bytes v ++ []) ≡ take left (word_bytes v) = take-append-le left (word_bytes v) [] few in
       subst (λ z. IsUtf8 (before ++ z)) (sym same) (utf8-stands (before ++ take left (word_bytes v)) (λ no. fine_text Utf8 (few, no))));
 }
@@ -107,15 +107,15 @@ more-words : (k : Kind) (left : ℕ) (before : List ℕ) (q v : ℕ) (P : Placed
 more-words k left before q v P more rest =
     let far : left ≡ length (word_bytes v) + (left - 8) = omega (arith, more) in
     record {
-      long = let a = rest.long in let b = length-append (word_bytes v) (chain_bytes P) in omega (arith, a, b, far);
-      bytes = All-append IsByte (word_bytes v) (chain_bytes P) (word-bytes v) rest.bytes;
-      text = λ e. subst IsUtf8 (append_assoc before (word_bytes v) (take (left - 8) (chain_bytes P))
-          ∙ ap (λ z. before ++ z) (sym (take-append-add (word_bytes v) (chain_bytes P) (left - 8)))
-          ∙ ap (λ z. before ++ take z (word_bytes v ++ chain_bytes P)) (sym far)) (rest.text e);
+      long = let a = rest.long in let b = length-append (word_bytes v) (bytes_of_run P) in omega (arith, a, b, far);
+      bytes = All-append IsByte (word_bytes v) (bytes_of_run P) (word-bytes v) rest.bytes;
+      text = λ e. subst IsUtf8 (append_assoc before (word_bytes v) (take (left - 8) (bytes_of_run P))
+          ∙ ap (λ z. before ++ z) (sym (take-append-add (word_bytes v) (bytes_of_run P) (left - 8)))
+          ∙ ap (λ z. before ++ take z (word_bytes v ++ bytes_of_run P)) (sym far)) (rest.text e);
     }
 
 run-go : (T : Table) (H : ℕ) (k : Kind) (left : ℕ) (before : List ℕ) (q v : ℕ) (P : Placed) (b : Bool)
-    → nat_le left 8 ≡ b → IsFine T H (run_word k left before) v → AreSound T H (NextOfRun k left before q v b) P
+    → nat_le left 8 ≡ b → IsValidWord T H (run_word k left before) v → AreSound T H (NextOfRun k left before q v b) P
     → (AreSound T H ((run_word k (left - 8) (before ++ word_bytes v), q + 1) ∷ []) P
     → IsRunFrom k (left - 8) (before ++ word_bytes v) P) → IsRunFrom k left before (OneWord q v P)
 run-go T H k left before q v nothing true e fine h next = last-word T H k left before q v (grind (arith, nat_tests)) fine
@@ -140,8 +140,8 @@ run-at T H k bytes q es nothing h = absurd h
 run-at T H k bytes q es (first (word p v c) P) h =
     let r = run-from T H k bytes [] v c h.3 in
     record {
-      long = length-take-le bytes (chain_bytes c) r.long;
-      bytes = All-take IsByte bytes (chain_bytes c) r.bytes;
+      long = length-take-le bytes (bytes_of_run c) r.long;
+      bytes = All-take IsByte bytes (bytes_of_run c) r.bytes;
       text = r.text;
     }
 

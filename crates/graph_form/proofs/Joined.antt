@@ -2,10 +2,10 @@
 use Rattle.std.proofs.Common.{◌≡◌, ◌⊎◌, inl, ⊎_elim, ℕ, List, [], ◌∷◌, ◌++◌, refl, sym, ap, subst, ◌∙◌}
 use Rattle.std.proofs.lemmas.List.{append_assoc}
 use Rattle.mrpc_table.specs.declared.table.Table.{Table}
-use Rattle.graph_form.specs.Roles.{Role, Expected, behind}
-use Rattle.graph_form.specs.Placed.{Placed, nothing, first, word, loads, IsFine, IsFaulty, IsPlaced, AreSound}
+use Rattle.graph_form.specs.Roles.{WordRole, Expected, expected_after}
+use Rattle.graph_form.specs.Placed.{Placed, nothing, first, word, loads, IsValidWord, IsInvalid, IsPlaced, AreSound}
 use Rattle.graph_form.specs.Malformed.{Loaded, loaded_words}
-use Rattle.graph_form.specs.Loading.{LeadsTo}
+use Rattle.graph_form.specs.Loading.{AreExpectedAfter}
 
 -- the words of one placed tree, followed by those of another
 abbrev pub join : Placed → Placed → Placed
@@ -45,7 +45,7 @@ loaded_words-join T H [] b (first w P) Q h = absurd h
 loaded_words-join T H (e ∷ es) b nothing Q h = absurd h
 loaded_words-join T H (e ∷ es) b (first (word p v c) P) Q h =
     let w : Loaded = record { role = e.0; place = p; number = v } in
-    let inner = loaded_words T (behind T e.0 p v) c in
+    let inner = loaded_words T (expected_after T e.0 p v) c in
     ap (λ ws. w ∷ inner ++ ws) (loaded_words-join T H es b P Q h.3) ∙ ap (λ ws. w ∷ ws) (sym (append_assoc inner (loaded_words T es P) (loaded_words T b Q)))
 
 -- ---- loads determine placed trees
@@ -56,8 +56,8 @@ heads x y xs ys e = (cc, cc)
 parts-same : (x y : ℕ × ℕ) → x ≡ y → (x.0 ≡ y.0) × (x.1 ≡ y.1)
 parts-same x y e = (ap (λ z. z.0) e, ap (λ z. z.1) e)
 
-abbrev Standing : Table → ℕ → Role → ℕ → ℕ → Placed → Type 0
-Standing T H role p v c = (IsFine T H role v × IsPlaced T H (behind T role p v) c) ⊎ (IsFaulty T H role v × (c ≡ nothing))
+abbrev Standing : Table → ℕ → WordRole → ℕ → ℕ → Placed → Type 0
+Standing T H role p v c = (IsValidWord T H role v × IsPlaced T H (expected_after T role p v) c) ⊎ (IsInvalid T H role v × (c ≡ nothing))
 
 pub loads-same : (T : Table) (H : ℕ) (es : Expected) (P Q : Placed) (xs ys : List (ℕ × ℕ)) → IsPlaced T H es P
     → IsPlaced T H es Q → loads P ++ xs ≡ loads Q ++ ys → (P ≡ Q) × (xs ≡ ys)
@@ -74,7 +74,7 @@ loads-same T H (f ∷ es) (first (word p v c) P) (first (word q u d) Q) xs ys h 
     let inner : (c ≡ d) × (loads P ++ xs ≡ loads Q ++ ys) =
     ⊎_elim
     (λ fine. ⊎_elim
-    (λ other. loads-same T H (behind T f.0 p v) c d (loads P ++ xs) (loads Q ++ ys) fine.1 other.1 left)
+    (λ other. loads-same T H (expected_after T f.0 p v) c d (loads P ++ xs) (loads Q ++ ys) fine.1 other.1 left)
     (λ faulty. absurd (fine.0 faulty.0.0 faulty.0.1))
     there)
     (λ faulty. ⊎_elim
@@ -95,18 +95,18 @@ pub placed-sound : (T : Table) (H : ℕ) (es : Expected) (P : Placed) → AreSou
 placed-sound T H [] nothing h = tt
 placed-sound T H [] (first w P) h = absurd h
 placed-sound T H (e ∷ es) nothing h = absurd h
-placed-sound T H (e ∷ es) (first (word p v c) P) h = (h.0, h.1, inl (h.2, placed-sound T H (behind T e.0 p v) c h.3), placed-sound T H es P h.4)
+placed-sound T H (e ∷ es) (first (word p v c) P) h = (h.0, h.1, inl (h.2, placed-sound T H (expected_after T e.0 p v) c h.3), placed-sound T H es P h.4)
 
-pub leads-then : (T : Table) (H : ℕ) (a b c : Expected) (xs ys : List (ℕ × ℕ)) → LeadsTo T H a xs b → LeadsTo T H b ys c → LeadsTo T H a (xs ++ ys) c
-leads-then T H a b c [] ys h k = subst (λ es. LeadsTo T H es ys c) (sym h) k
+pub leads-then : (T : Table) (H : ℕ) (a b c : Expected) (xs ys : List (ℕ × ℕ)) → AreExpectedAfter T H a xs b → AreExpectedAfter T H b ys c → AreExpectedAfter T H a (xs ++ ys) c
+leads-then T H a b c [] ys h k = subst (λ es. AreExpectedAfter T H es ys c) (sym h) k
 leads-then T H [] b c (x ∷ xs) ys h k = absurd h
-leads-then T H (e ∷ es) b c (x ∷ xs) ys h k = (h.0, h.1, h.2, leads-then T H (behind T e.0 x.0 x.1 ++ es) b c xs ys h.3 k)
+leads-then T H (e ∷ es) b c (x ∷ xs) ys h k = (h.0, h.1, h.2, leads-then T H (expected_after T e.0 x.0 x.1 ++ es) b c xs ys h.3 k)
 
-pub sound-leads : (T : Table) (H : ℕ) (es next : Expected) (P : Placed) → AreSound T H es P → LeadsTo T H (es ++ next) (loads P) next
+pub sound-leads : (T : Table) (H : ℕ) (es next : Expected) (P : Placed) → AreSound T H es P → AreExpectedAfter T H (es ++ next) (loads P) next
 sound-leads T H [] next nothing h = refl
 sound-leads T H [] next (first w P) h = absurd h
 sound-leads T H (e ∷ es) next nothing h = absurd h
 sound-leads T H (e ∷ es) next (first (word p v c) P) h =
-    let inside = sound-leads T H (behind T e.0 p v) (es ++ next) c h.3 in
+    let inside = sound-leads T H (expected_after T e.0 p v) (es ++ next) c h.3 in
     let after = sound-leads T H es next P h.4 in
-    (h.0, h.1, h.2, leads-then T H (behind T e.0 p v ++ (es ++ next)) (es ++ next) next (loads c) (loads P) inside after)
+    (h.0, h.1, h.2, leads-then T H (expected_after T e.0 p v ++ (es ++ next)) (es ++ next) next (loads c) (loads P) inside after)

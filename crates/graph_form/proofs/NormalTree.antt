@@ -7,8 +7,8 @@ use Rattle.std.specs.List.{AllByRecursion}
 use Rattle.std.proofs.lemmas.Bool.{eqb-false, ne_eqb, cases_lt}
 use Rattle.std.proofs.lemmas.Bool.Decides.{nat_tests, eqb_tells}
 use Rattle.mrpc_table.specs.Node.{Node, no_fields, field, Content, one, many, pairs, Item, number, run, node, Items, no_items, no_pairs}
-use Rattle.mrpc_table.specs.Normal.{fields_of, field_at, membership, members_in, TakesOne, TakesMany, KeysAscend}
-use Rattle.mrpc_table.specs.Normal.{HasFields, HasContent, IsItem, AreItems, ArePairs, OneMemberEach, depth}
+use Rattle.mrpc_table.specs.Normal.{fields_of, field_at, membership, members_in, CanHaveOne, CanHaveMany, AreKeysAscending}
+use Rattle.mrpc_table.specs.Normal.{HasFields, HasContent, IsItem, AreItems, ArePairs, HasOneMemberEach, depth}
 use Rattle.mrpc_table.specs.Normal.{content_depth, item_depth, items_depth, pairs_depth, IsNormal, kind_at}
 use Rattle.mrpc_table.specs.Valid.{IsValid}
 use Rattle.mrpc_table.specs.declared.table.Kind.{Kind}
@@ -20,11 +20,11 @@ use Rattle.mrpc_table.specs.declared.table.Table.{Table}
 use Rattle.mrpc_table.specs.MapEntries.{last_of_each}
 use Rattle.graph_form.specs.declared.reason.Reason.TheVariants.{Address, Case, Depth}
 use Rattle.graph_form.specs.Roles.{value, run_address, link, count, elements_address, entry_count, entries_address}
-use Rattle.graph_form.specs.Roles.{case_word, Expected, behind, plain_role, optional_role, slot_role, is_member}
-use Rattle.graph_form.specs.Roles.{own_slots, oneofs_of, slots_from, cases_from, node_words, elements_from}
+use Rattle.graph_form.specs.Roles.{case_word, Expected, expected_after, plain_role, optional_role, slot_role, is_member}
+use Rattle.graph_form.specs.Roles.{own_slots, oneof_count, slots_from, cases_from, node_words, elements_from}
 use Rattle.graph_form.specs.Roles.{entries_from, element_words}
-use Rattle.graph_form.specs.Placed.{Placed, nothing, first, word, IsFine, AreSound, IsSound}
-use Rattle.graph_form.specs.Forgotten.{insert_field, with_field, run_at, number_at, unless_zero, optional_item}
+use Rattle.graph_form.specs.Placed.{Placed, nothing, first, word, IsValidWord, AreSound, IsSound}
+use Rattle.graph_form.specs.Forgotten.{insert_field, with_field, run_at, single_number, unless_zero, optional_item}
 use Rattle.graph_form.specs.Forgotten.{slots_tree, slot_content, with_member, plain_item, elements_at, elements_in}
 use Rattle.graph_form.specs.Forgotten.{entries_at, entries_in, tree_of}
 use Rattle.graph_form.proofs.FieldOrder.{IsNoMessage, HasPlainKey, AllRise, all-rise, SlotsFrom, slots-own}
@@ -36,7 +36,7 @@ abbrev pub KeptAreNormal : Type 0
 KeptAreNormal =
     ((T : Table) (key k : Kind) (es : List (Item × Item)) → AllByRecursion (λ e. IsItem T key e.0 × IsItem T k e.1) es → ArePairs T key k (last_of_each key es))
     × ((T : Table) (key k : Kind) (es : List (Item × Item)) → ((i : ℕ) → key ≢ OfMessage i)
-    → AllByRecursion (λ e. IsItem T key e.0 × IsItem T k e.1) es → KeysAscend key (last_of_each key es))
+    → AllByRecursion (λ e. IsItem T key e.0 × IsItem T k e.1) es → AreKeysAscending key (last_of_each key es))
     × ((key : Kind) (room : ℕ) (es : List (Item × Item))
     → AllByRecursion (λ e. (item_depth e.0 ≤ room) × (item_depth e.1 ≤ room)) es
     → pairs_depth (last_of_each key es) ≤ room)
@@ -52,7 +52,7 @@ record GoodNode (T : Table) (fs : List Field) (room : ℕ) (Q : ℕ → Type 0) 
   fields : HasFields T fs 0 t
   depth : depth t ≤ room
   numbers : NumbersAre Q t
-  members : OneMemberEach fs t
+  members : HasOneMemberEach fs t
 
 -- one more field, with a new number
 insert-good : (T : Table) (fs : List Field) (room : ℕ) (Q R : ℕ → Type 0) (n : ℕ) (c : Content) (t : Node)
@@ -117,7 +117,7 @@ none-of fs o from (field n c t) less h =
 
 -- ---- values
 
-number-item : (T : Table) (H : ℕ) (k : Kind) (room v : ℕ) → v < 2 ^ 64 → IsFine T H (value k) v → GoodItem T k room (number v)
+number-item : (T : Table) (H : ℕ) (k : Kind) (room v : ℕ) → v < 2 ^ 64 → IsValidWord T H (value k) v → GoodItem T k room (number v)
 number-item T H k room v small fine = record { is = number-form T H k v small fine; depth = omega arith }
 
 abbrev IsRunKind : Kind → Type 0
@@ -152,7 +152,7 @@ length-go T H k room v q c false e kind h = run-item T k room v c kind (run-at T
 
 -- a message at its address
 message-go : (T : Table) (H m d : ℕ) (needed : Bool) (q v : ℕ) (c : Placed) (b : Bool) → (v == 0) ≡ b → d ≤ 32
-    → IsFine T H (link m d needed) v → (v ≡ 0 → needed ≡ true) → AreSound T H (cond b [] (node_words T m (d + 1) v)) c
+    → IsValidWord T H (link m d needed) v → (v ≡ 0 → needed ≡ true) → AreSound T H (cond b [] (node_words T m (d + 1) v)) c
     → NodeFact T H c → GoodItem T (OfMessage m) (33 - d)
     (node (slots_tree T (fields_of T m) (own_slots (fields_of T m)) c))
 message-go T H m d needed q v c true e low fine there h fact =
@@ -166,8 +166,8 @@ message-go T H m d needed q v c false e low fine there h fact =
 
 -- the value of a plain slot with a valid first word
 plain-good : (T : Table) (H : ℕ) (k : Kind) (d : ℕ) (needed : Bool) (q v : ℕ) (c : Placed) → d ≤ 32 → v < 2 ^ 64
-    → IsFine T H (plain_role k d needed) v → (v ≡ 0 → needed ≡ true)
-    → AreSound T H (behind T (plain_role k d needed) q v) c → NodeFact T H c
+    → IsValidWord T H (plain_role k d needed) v → (v ≡ 0 → needed ≡ true)
+    → AreSound T H (expected_after T (plain_role k d needed) q v) c → NodeFact T H c
     → GoodItem T k (33 - d) (plain_item T k (word q v c))
 plain-good T H Text d needed q v c low small fine there h fact = length-go T H Text (33 - d) v q c (v == 0) refl (inl refl) h
 plain-good T H Octets d needed q v c low small fine there h fact = length-go T H Octets (33 - d) v q c (v == 0) refl (inr refl) h
@@ -209,13 +209,13 @@ record Facts (T : Table) (H : ℕ) (P : Placed) : Type 0 where
 
 node-fact : (T : Table) (H : ℕ) (P : Placed) → AllRise T → Facts T H P → NodeFact T H P
 node-fact T H P rise f m d q low h =
-    f.slots (fields_of T m) (own_slots (fields_of T m)) 0 (oneofs_of T m) 0 d q (q + 2 * length (own_slots (fields_of T m))) low (slots-own T m rise) h
+    f.slots (fields_of T m) (own_slots (fields_of T m)) 0 (oneof_count T m) 0 d q (q + 2 * length (own_slots (fields_of T m))) low (slots-own T m rise) h
 
 abbrev GoodContent : Table → Label → Kind → ℕ → Option Content → Type 0
 GoodContent T l k room None = Unit {0}
-GoodContent T l k room (Some (one i)) = TakesOne l i × GoodItem T k room i
-GoodContent T l k room (Some (many is)) = TakesMany l × (is ≢ no_items) × AreItems T k is × (items_depth is ≤ room)
-GoodContent T l k room (Some (pairs ps)) = (key : Kind) × (l ≡ Map key) × (ps ≢ no_pairs) × ArePairs T key k ps × KeysAscend key ps × (pairs_depth ps ≤ room)
+GoodContent T l k room (Some (one i)) = CanHaveOne l i × GoodItem T k room i
+GoodContent T l k room (Some (many is)) = CanHaveMany l × (is ≢ no_items) × AreItems T k is × (items_depth is ≤ room)
+GoodContent T l k room (Some (pairs ps)) = (key : Kind) × (l ≡ Map key) × (ps ≢ no_pairs) × ArePairs T key k ps × AreKeysAscending key ps × (pairs_depth ps ≤ room)
 
 unless-go : (T : Table) (l : Label) (k : Kind) (room v : ℕ) (c : Content) → ((v == 0) ≡ false → GoodContent T l k room (Some c)) → GoodContent T l k room (unless_zero v c)
 unless-go T l k room v c h = elim (v == 0) as (λ b. (v == 0) ≡ b → GoodContent T l k room (cond b None (Some c))) [ true ↦ λ e. tt | false ↦ λ e. h e ] refl
@@ -231,7 +231,7 @@ length-not_default T H k v q c false e f h = λ empty.
 
 -- the value of a plain field is no default
 plain-takes : (T : Table) (H : ℕ) (k : Kind) (d q v : ℕ) (c : Placed) → (v == 0) ≡ false
-    → AreSound T H (behind T (plain_role k d false) q v) c → TakesOne Plain (plain_item T k (word q v c))
+    → AreSound T H (expected_after T (plain_role k d false) q v) c → CanHaveOne Plain (plain_item T k (word q v c))
 plain-takes T H Text d q v c e h = length-not_default T H Text v q c (v == 0) refl e h
 plain-takes T H Octets d q v c e h = length-not_default T H Octets v q c (v == 0) refl e h
 plain-takes T H (OfMessage m) d q v c e h = λ no. no
@@ -252,13 +252,13 @@ optional-go T H k room v q (first w c) true e f kind h = absurd h
 optional-go T H k room v q c false e f kind h = run-item T k room (v - 1) c kind (run-at T H k (v - 1) (q + 1) [] c h)
 
 presence-go : (T : Table) (H : ℕ) (k : Kind) (room v q : ℕ) (c : Placed) (b : Bool) → (v == 0) ≡ b → b ≡ false
-    → AreSound T H (cond b [] ((value k, q + 1) ∷ [])) c → GoodItem T k room (number (number_at c))
+    → AreSound T H (cond b [] ((value k, q + 1) ∷ [])) c → GoodItem T k room (number (single_number c))
 presence-go T H k room v q c true e f h = absurd (cc)
 presence-go T H k room v q nothing false e f h = absurd h
 presence-go T H k room v q (first (word p u i) P) false e f h = number-item T H k room u h.1 h.2
 
 optional-good : (T : Table) (H : ℕ) (k : Kind) (room q v : ℕ) (c : Placed) → (v == 0) ≡ false
-    → AreSound T H (behind T (optional_role k) q v) c → GoodItem T k room (optional_item k v c)
+    → AreSound T H (expected_after T (optional_role k) q v) c → GoodItem T k room (optional_item k v c)
 optional-good T H Text room q v c e h = optional-go T H Text room v q c (nat_le v 1) refl e (inl refl) h
 optional-good T H Octets room q v c e h = optional-go T H Octets room v q c (nat_le v 1) refl e (inr refl) h
 optional-good T H k room q v c e h = presence-go T H k room v q c (v == 0) refl e h
@@ -269,8 +269,8 @@ elements-go : (T : Table) (H : ℕ) (k : Kind) (d q v : ℕ) (c : Placed) (b : B
 elements-go T H k d q v c true e f low h facts = absurd (cc)
 elements-go T H k d q v c false e f low h facts = facts.elements_at k v d (q + 1) low h
 
-many-good : (T : Table) (H : ℕ) (l : Label) (k : Kind) (d q v : ℕ) (c : Placed) → TakesMany l → (v == 0) ≡ false
-    → d ≤ 32 → AreSound T H (behind T (count k d) q v) c → Facts T H c
+many-good : (T : Table) (H : ℕ) (l : Label) (k : Kind) (d q v : ℕ) (c : Placed) → CanHaveMany l → (v == 0) ≡ false
+    → d ≤ 32 → AreSound T H (expected_after T (count k d) q v) c → Facts T H c
     → GoodContent T l k (33 - d) (Some (many (elements_at T k c)))
 many-good T H l k d q v c takes e low h facts =
     let good = elements-go T H k d q v c (v == 0) refl e low h facts in
@@ -283,7 +283,7 @@ entries-go T H key k d q v c true e f low h facts = absurd (cc)
 entries-go T H key k d q v c false e f low h facts = facts.entries_at key k v d (q + 1) low h
 
 map-good : (law : KeptAreNormal) (T : Table) (H : ℕ) (key k : Kind) (d q v : ℕ) (c : Placed) → IsNoMessage key
-    → (v == 0) ≡ false → d ≤ 32 → AreSound T H (behind T (entry_count key k d) q v) c → Facts T H c
+    → (v == 0) ≡ false → d ≤ 32 → AreSound T H (expected_after T (entry_count key k d) q v) c → Facts T H c
     → GoodContent T (Map key) k (33 - d) (Some (pairs (last_of_each key (entries_at T key k c))))
 map-good law T H key k d q v c plain e low h facts =
     let good = entries-go T H key k d q v c (v == 0) refl e low h facts in
@@ -299,8 +299,8 @@ map-good law T H key k d q v c plain e low h facts =
 
 -- the content of a field, by a slot with a valid first word
 content-good : (law : KeptAreNormal) (T : Table) (H : ℕ) (l : Label) (k : Kind) (d q v : ℕ) (c : Placed) → AllRise T
-    → d ≤ 32 → is_member l ≡ false → HasPlainKey l → v < 2 ^ 64 → IsFine T H (slot_role l k d) v
-    → AreSound T H (behind T (slot_role l k d) q v) c → Facts T H c
+    → d ≤ 32 → is_member l ≡ false → HasPlainKey l → v < 2 ^ 64 → IsValidWord T H (slot_role l k d) v
+    → AreSound T H (expected_after T (slot_role l k d) q v) c → Facts T H c
     → GoodContent T l k (33 - d) (slot_content T l k (word q v c))
 content-good law T H Plain k d q v c rise low own key small fine h facts =
     subst (GoodContent T Plain k (33 - d)) (sym (plain-content T k q v c))
@@ -379,13 +379,13 @@ label-no_case f Packed o e h is = let bad : Packed ≡ Member o = sym e ∙ is i
 label-no_case f (Map key) o e h is = let bad : Map key ≡ Member o = sym e ∙ is in cc
 
 case-go : (T : Table) (H : ℕ) (fs : List Field) (o d v : ℕ) (x : Option Field) (b : Bool) → field_at fs v ≡ x
-    → is-case x o ≡ b → v ≢ 0 → IsFine T H (case_word fs o d) v → IsCaseOf fs o v
+    → is-case x o ≡ b → v ≢ 0 → IsValidWord T H (case_word fs o d) v → IsCaseOf fs o v
 case-go T H fs o d v None b at e some fine = absurd (fine Case (some, λ f here l. (let bad : Some f ≡ None = sym here ∙ at in cc)))
 case-go T H fs o d v (Some f) true at e some fine = record { field = f; at = at; label = label-case f f.label o refl e }
 case-go T H fs o d v (Some f) false at e some fine =
     absurd (fine Case (some, λ g here l. label-no_case f f.label o refl e (ap (λ (x : Field). x.label) (same-field fs v f g at here) ∙ l)))
 
-case-of : (T : Table) (H : ℕ) (fs : List Field) (o d v : ℕ) → v ≢ 0 → IsFine T H (case_word fs o d) v → IsCaseOf fs o v
+case-of : (T : Table) (H : ℕ) (fs : List Field) (o d v : ℕ) → v ≢ 0 → IsValidWord T H (case_word fs o d) v → IsCaseOf fs o v
 case-of T H fs o d v some fine = case-go T H fs o d v (field_at fs v) (is-case (field_at fs v) o) refl refl some fine
 
 -- the fields with one more member
@@ -395,7 +395,7 @@ member-good : (T : Table) (fs : List Field) (room o v : ℕ) (i : Item) (t : Nod
 member-good T fs room o v i t some case good rest =
     let kind : kind_at fs v ≡ case.field.kind = ap (λ x. unwrap_or (option_map (λ (f : Field). f.kind) x) Uint64) case.at in
     let is : IsItem T case.field.kind i = subst (λ k. IsItem T k i) kind good.is in
-    let takes : TakesOne case.field.label i = subst (λ l. TakesOne l i) (sym case.label) tt in
+    let takes : CanHaveOne case.field.label i = subst (λ l. CanHaveOne l i) (sym case.label) tt in
     let has : HasContent T fs v (one i) = (case.field, case.at, takes, is) in
     let above : 0 < v = omega (arith, some) in
     insert-good T fs room (IsMemberFrom fs (o + 1)) (IsMemberFrom fs o) v (one i) t
@@ -419,7 +419,7 @@ member-good T fs room o v i t some case good rest =
     rest
 
 with_member-go : (T : Table) (H : ℕ) (fs : List Field) (o d p v : ℕ) (c : Placed) (b : Bool) (t : Node) → (v == 0) ≡ b
-    → d ≤ 32 → IsFine T H (case_word fs o d) v
+    → d ≤ 32 → IsValidWord T H (case_word fs o d) v
     → AreSound T H (cond b [] ((plain_role (kind_at fs v) d true, p + 1) ∷ [])) c → Facts T H c
     → GoodNode T fs (33 - d) (IsMemberFrom fs (o + 1)) t
     → GoodNode T fs (33 - d) (IsMemberFrom fs o) (with_member T fs (word p v c) t)
@@ -451,30 +451,30 @@ needed v e = refl
 cases-step : (T : Table) (H p v : ℕ) (c P : Placed) → Facts T H c → Facts T H P → (fs : List Field) (k o d r : ℕ)
     → d ≤ 32 → AreSound T H (cases_from k fs o d r) (first (word p v c) P)
     → GoodNode T fs (33 - d) (IsMemberFrom fs o) (slots_tree T fs [] (first (word p v c) P))
-cases-step T H p v c P inside behind fs zero o d r low h = absurd h
-cases-step T H p v c P inside behind fs (suc k) o d r low h =
-    with_member-go T H fs o d p v c (v == 0) (slots_tree T fs [] P) refl low h.2 h.3 inside (behind.cases fs k (o + 1) d (r + 3) low h.4)
+cases-step T H p v c P inside expected_after fs zero o d r low h = absurd h
+cases-step T H p v c P inside expected_after fs (suc k) o d r low h =
+    with_member-go T H fs o d p v c (v == 0) (slots_tree T fs [] P) refl low h.2 h.3 inside (expected_after.cases fs k (o + 1) d (r + 3) low h.4)
 
 slots-step : (law : KeptAreNormal) (T : Table) (H p v : ℕ) (c P : Placed) → AllRise T → Facts T H c → Facts T H P
     → (fs slots : List Field) (last k o d q r : ℕ) → d ≤ 32 → SlotsFrom fs last slots
     → AreSound T H (slots_from slots d q ++ cases_from k fs o d r) (first (word p v c) P)
     → GoodNode T fs (33 - d) (IsMemberOrAbove fs last) (slots_tree T fs slots (first (word p v c) P))
-slots-step law T H p v c P rise inside behind fs [] last k o d q r low from h =
+slots-step law T H p v c P rise inside expected_after fs [] last k o d q r low from h =
     weaker-good T fs (33 - d) (IsMemberFrom fs o) (IsMemberOrAbove fs last) (slots_tree T fs [] (first (word p v c) P))
     (λ n m. inl (record { field = m.field; oneof = m.oneof; at = m.at; label = m.label; from = omega arith }))
-    (cases-step T H p v c P inside behind fs k o d r low h)
-slots-step law T H p v c P rise inside behind fs (f ∷ slots) last k o d q r low from h =
+    (cases-step T H p v c P inside expected_after fs k o d r low h)
+slots-step law T H p v c P rise inside expected_after fs (f ∷ slots) last k o d q r low from h =
     with-slot T fs last (33 - d) f (slot_content T f.label f.kind (word p v c)) (slots_tree T fs slots P) from.0 from.1 from.2
     (content-good law T H f.label f.kind d p v c rise low from.2 from.3 h.1 h.2 h.3 inside)
-    (behind.slots fs slots f.number k o d (q + 2) r low from.4 h.4)
+    (expected_after.slots fs slots f.number k o d (q + 2) r low from.4 h.4)
 
 elements-step : (T : Table) (H p v : ℕ) (c P : Placed) → AllRise T → Facts T H c → Facts T H P
     → (k : Kind) (n d q : ℕ) → d ≤ 32 → AreSound T H (elements_from n k d q) (first (word p v c) P)
     → GoodElements T k (33 - d) n (elements_in T k (first (word p v c) P))
-elements-step T H p v c P rise inside behind k zero d q low h = absurd h
-elements-step T H p v c P rise inside behind k (suc n) d q low h =
+elements-step T H p v c P rise inside expected_after k zero d q low h = absurd h
+elements-step T H p v c P rise inside expected_after k (suc n) d q low h =
     let i = plain-good T H k d true p v c low h.1 h.2 (needed v) h.3 (node-fact T H c rise inside) in
-    let rest = behind.elements k n d (q + element_words k) low h.4 in
+    let rest = expected_after.elements k n d (q + element_words k) low h.4 in
     record { all = (i.is, rest.all); depth = let a = i.depth in let b = rest.depth in omega (arith, a, b); some = λ nz e. cc }
 
 -- a value, and the entries after it
@@ -482,18 +482,18 @@ second-step : (T : Table) (H p v : ℕ) (c P : Placed) → AllRise T → Facts T
     → (key k : Kind) (n d at q : ℕ) → d ≤ 32
     → AreSound T H ((plain_role k d true, at) ∷ entries_from n key k d q) (first (word p v c) P)
     → SecondGood T key k (33 - d) n (first (word p v c) P)
-second-step T H p v c P rise inside behind key k n d at q low h =
-    (plain-good T H k d true p v c low h.1 h.2 (needed v) h.3 (node-fact T H c rise inside), behind.entries key k n d q low h.4)
+second-step T H p v c P rise inside expected_after key k n d at q low h =
+    (plain-good T H k d true p v c low h.1 h.2 (needed v) h.3 (node-fact T H c rise inside), expected_after.entries key k n d q low h.4)
 
 entries-step : (T : Table) (H p v : ℕ) (c P : Placed) → AllRise T → Facts T H c → Facts T H P
     → (key k : Kind) (n d q : ℕ) → d ≤ 32 → AreSound T H (entries_from n key k d q) (first (word p v c) P)
     → GoodEntries T key k (33 - d) n (entries_in T key k (first (word p v c) P))
-entries-step T H p v c nothing rise inside behind key k zero d q low h = absurd h
-entries-step T H p v c (first w P) rise inside behind key k zero d q low h = absurd h
-entries-step T H p v c nothing rise inside behind key k (suc n) d q low h = absurd h.4
-entries-step T H p v c (first w P) rise inside behind key k (suc n) d q low h =
+entries-step T H p v c nothing rise inside expected_after key k zero d q low h = absurd h
+entries-step T H p v c (first w P) rise inside expected_after key k zero d q low h = absurd h
+entries-step T H p v c nothing rise inside expected_after key k (suc n) d q low h = absurd h.4
+entries-step T H p v c (first w P) rise inside expected_after key k (suc n) d q low h =
     let i = plain-good T H key d true p v c low h.1 h.2 (needed v) h.3 (node-fact T H c rise inside) in
-    let rest = behind.second key k n d (q + 2) (q + 4) low h.4 in
+    let rest = expected_after.second key k n d (q + 2) (q + 4) low h.4 in
     record {
       all = ((i.is, rest.0.is), rest.1.all);
       depth = ((i.depth, rest.0.depth), rest.1.depth);
@@ -513,14 +513,14 @@ facts law T H nothing rise = record {
 }
 facts law T H (first (word p v c) P) rise =
     let inside = facts law T H c rise in
-    let behind = facts law T H P rise in
+    let expected_after = facts law T H P rise in
     record {
-      slots = slots-step law T H p v c P rise inside behind;
-      cases = cases-step T H p v c P inside behind;
+      slots = slots-step law T H p v c P rise inside expected_after;
+      cases = cases-step T H p v c P inside expected_after;
       head = λ k d q es low h. plain-good T H k d true p v c low h.1 h.2 (needed v) h.3 (node-fact T H c rise inside);
-      elements = elements-step T H p v c P rise inside behind;
-      entries = entries-step T H p v c P rise inside behind;
-      second = second-step T H p v c P rise inside behind;
+      elements = elements-step T H p v c P rise inside expected_after;
+      entries = entries-step T H p v c P rise inside expected_after;
+      second = second-step T H p v c P rise inside expected_after;
       elements_at = λ k n d q low h. inside.elements k n d v low h.3;
       entries_at = λ key k n d q low h. inside.entries key k n d v low h.3;
     }

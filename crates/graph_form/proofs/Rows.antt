@@ -9,9 +9,9 @@ use Rattle.mrpc_table.specs.declared.table.Field.{Field}
 use Rattle.mrpc_table.specs.declared.table.Table.{Table}
 use Rattle.graph_form.specs.declared.reason.Reason.TheVariants.{Address, Narrow}
 use Rattle.graph_form.specs.Roles.{value, size_words, slot_of}
-use Rattle.graph_form.specs.Placed.{Placed, nothing, first, word, loads, Offends}
+use Rattle.graph_form.specs.Placed.{Placed, nothing, first, word, loads, IsInvalidWord}
 use Rattle.graph_form.specs.Forgotten.{tree_of}
-use Rattle.graph_form.specs.Malformed.{order_of, OffendsFirst, IsMalformed, no_root}
+use Rattle.graph_form.specs.Malformed.{reason_rank, IsInvalidFirst, IsMalformed, no_root}
 use Rattle.graph_form.proofs.Ends.{ends-at-offence}
 
 -- a table of one message with these fields
@@ -104,10 +104,10 @@ outside : IsMalformed (table_of (one_field 1 Plain Uint64 ∷ []) []) 16 0 15 10
 outside = no_root (λ lies. (let a = lies.to_end in omega (arith, a))) refl refl refl refl
 
 -- 2^32 - 1 is no int32
-narrow-first : OffendsFirst numbers 16 (value Int32) 4294967295 Narrow
+narrow-first : IsInvalidFirst numbers 16 (value Int32) 4294967295 Narrow
 narrow-first = record {
   offends = λ form. ⊎_elim (λ low. omega (arith, low)) (λ high. (let a = high.0 in omega (arith, a))) form;
-  first = λ other bad. elim other as (λ r. Offends numbers 16 (value Int32) 4294967295 r → 4 ≤ order_of r) [
+  first = λ other bad. elim other as (λ r. IsInvalidWord numbers 16 (value Int32) 4294967295 r → 4 ≤ reason_rank r) [
     | Narrow ↦ λ b. omega arith
     | _ ↦ λ b. absurd b
   ] bad;

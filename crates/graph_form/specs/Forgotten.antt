@@ -22,19 +22,19 @@ with_field n None t = t
 with_field n (Some c) t = insert_field n c t
 
 -- the bytes of the words of a run
-abbrev pub chain_bytes : Placed → List ℕ
-chain_bytes nothing = []
-chain_bytes (first (word place v content) others) = word_bytes v ++ chain_bytes content
+abbrev pub bytes_of_run : Placed → List ℕ
+bytes_of_run nothing = []
+bytes_of_run (first (word place v content) others) = word_bytes v ++ bytes_of_run content
 
 -- the first `bytes` bytes of the run at an address word
 abbrev pub run_at : ℕ → Placed → List ℕ
 run_at bytes nothing = []
-run_at bytes (first (word place v content) others) = take bytes (chain_bytes content)
+run_at bytes (first (word place v content) others) = take bytes (bytes_of_run content)
 
 -- the number in a single word
-abbrev pub number_at : Placed → ℕ
-number_at nothing = 0
-number_at (first (word place v content) others) = v
+abbrev pub single_number : Placed → ℕ
+single_number nothing = 0
+single_number (first (word place v content) others) = v
 
 -- nothing if the first word of a slot is 0
 abbrev pub unless_zero : ℕ → Content → Option Content
@@ -50,7 +50,7 @@ scalar_item k v content = number v
 abbrev pub optional_item : Kind → ℕ → Placed → Item
 optional_item Text v content = run (run_at (v - 1) content)
 optional_item Octets v content = run (run_at (v - 1) content)
-optional_item k v content = number (number_at content)
+optional_item k v content = number (single_number content)
 
 abbrev mutual
   -- the fields of these slots, then the members of the oneofs of the fields `fs`

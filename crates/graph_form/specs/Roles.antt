@@ -10,48 +10,48 @@ use Rattle.mrpc_table.specs.declared.table.Field.{Field}
 use Rattle.mrpc_table.specs.declared.table.Table.{Table}
 
 -- the role of a word; a depth is that of the message that contains the word, and the root has depth 1
-pub data Role : Type 0 where
+pub data WordRole : Type 0 where
   -- a number of the kind
-  value : Kind → Role
+  value : Kind → WordRole
   -- a presence word: 0, or 1 if the number follows
-  presence : Kind → Role
+  presence : Kind → WordRole
   -- the length of a run; the address follows unless it is 0
-  run_length : Kind → Role
+  run_length : Kind → WordRole
   -- 0 if the run is absent, otherwise its length plus 1
-  run_presence : Kind → Role
+  run_presence : Kind → WordRole
   -- the address of a run of `bytes` bytes
-  run_address : Kind → (bytes : ℕ) → Role
+  run_address : Kind → (bytes : ℕ) → WordRole
   -- a word of a run: `left` bytes remain, this word's included, and the bytes `before` were loaded
-  run_word : Kind → (left : ℕ) → (before : List ℕ) → Role
+  run_word : Kind → (left : ℕ) → (before : List ℕ) → WordRole
   -- the address of a message; 0 means absent, unless the message is needed
-  link : (message depth : ℕ) → (needed : Bool) → Role
+  link : (message depth : ℕ) → (needed : Bool) → WordRole
   -- the number of elements, and their address
-  count : Kind → (depth : ℕ) → Role
-  elements_address : Kind → (elements depth : ℕ) → Role
+  count : Kind → (depth : ℕ) → WordRole
+  elements_address : Kind → (elements depth : ℕ) → WordRole
   -- the number of entries of a map, and their address
-  entry_count : (key kind : Kind) → (depth : ℕ) → Role
-  entries_address : (key kind : Kind) → (entries depth : ℕ) → Role
+  entry_count : (key kind : Kind) → (depth : ℕ) → WordRole
+  entries_address : (key kind : Kind) → (entries depth : ℕ) → WordRole
   -- the number of the member that a oneof has, or 0
-  case_word : List Field → (oneof depth : ℕ) → Role
+  case_word : List Field → (oneof depth : ℕ) → WordRole
 
 -- the expected words: each a role and a place
 abbrev pub Expected : Type 0
-Expected = List (Role × ℕ)
+Expected = List (WordRole × ℕ)
 
 -- the first word of a plain slot
-abbrev pub plain_role : Kind → ℕ → Bool → Role
+abbrev pub plain_role : Kind → ℕ → Bool → WordRole
 plain_role Text depth needed = run_length Text
 plain_role Octets depth needed = run_length Octets
 plain_role (OfMessage m) depth needed = link m depth needed
 plain_role k depth needed = value k
 
-abbrev pub optional_role : Kind → Role
+abbrev pub optional_role : Kind → WordRole
 optional_role Text = run_presence Text
 optional_role Octets = run_presence Octets
 optional_role k = presence k
 
 -- the first word of a field's slot
-abbrev pub slot_role : Label → Kind → ℕ → Role
+abbrev pub slot_role : Label → Kind → ℕ → WordRole
 slot_role Optional k depth = optional_role k
 slot_role Repeated k depth = count k depth
 slot_role Packed k depth = count k depth
@@ -70,8 +70,8 @@ abbrev pub own_slots : List Field → List Field
 own_slots fs = filter has_own_slot fs
 
 -- the number of oneofs of the message at an index
-abbrev pub oneofs_of : Table → ℕ → ℕ
-oneofs_of T m = unwrap_or (option_map (λ d. length d.oneofs) (slice_get T.messages m)) 0
+abbrev pub oneof_count : Table → ℕ → ℕ
+oneof_count T m = unwrap_or (option_map (λ d. length d.oneofs) (slice_get T.messages m)) 0
 
 -- slots of two words by ascending number, starting at a place
 abbrev pub slots_from : List Field → ℕ → ℕ → Expected
@@ -87,10 +87,10 @@ cases_from (suc more) fs oneof depth at = (case_word fs oneof depth, at) ∷ cas
 abbrev pub node_words : Table → ℕ → ℕ → ℕ → Expected
 node_words T m depth at =
     slots_from (own_slots (fields_of T m)) depth at
-    ++ cases_from (oneofs_of T m) (fields_of T m) 0 depth (at + 2 * length (own_slots (fields_of T m)))
+    ++ cases_from (oneof_count T m) (fields_of T m) 0 depth (at + 2 * length (own_slots (fields_of T m)))
 
 abbrev pub size_words : Table → ℕ → ℕ
-size_words T m = 2 * length (own_slots (fields_of T m)) + 3 * oneofs_of T m
+size_words T m = 2 * length (own_slots (fields_of T m)) + 3 * oneof_count T m
 
 -- the number of fields before a field number that have slots of their own
 abbrev pub slots_before : List Field → ℕ → ℕ
@@ -130,17 +130,17 @@ abbrev pub run_words : ℕ → ℕ
 run_words bytes = (bytes + 7) / 8
 
 -- the words that a word of a role leads to, by its place and value; they are loaded right after it
-abbrev pub behind : Table → Role → ℕ → ℕ → Expected
-behind T (value k) p v = []
-behind T (presence k) p v = if v == 0 then [] else (value k, p + 1) ∷ []
-behind T (run_length k) p v = if v == 0 then [] else (run_address k v, p + 1) ∷ []
-behind T (run_presence k) p v = if nat_le v 1 then [] else (run_address k (v - 1), p + 1) ∷ []
-behind T (run_address k bytes) p v = (run_word k bytes [], v) ∷ []
-behind T (run_word k left before) p v =
+abbrev pub expected_after : Table → WordRole → ℕ → ℕ → Expected
+expected_after T (value k) p v = []
+expected_after T (presence k) p v = if v == 0 then [] else (value k, p + 1) ∷ []
+expected_after T (run_length k) p v = if v == 0 then [] else (run_address k v, p + 1) ∷ []
+expected_after T (run_presence k) p v = if nat_le v 1 then [] else (run_address k (v - 1), p + 1) ∷ []
+expected_after T (run_address k bytes) p v = (run_word k bytes [], v) ∷ []
+expected_after T (run_word k left before) p v =
     if nat_le left 8 then [] else (run_word k (left - 8) (before ++ word_bytes v), p + 1) ∷ []
-behind T (link m depth needed) p v = if v == 0 then [] else node_words T m (depth + 1) v
-behind T (count k depth) p v = if v == 0 then [] else (elements_address k v depth, p + 1) ∷ []
-behind T (elements_address k elements depth) p v = elements_from elements k depth v
-behind T (entry_count key k depth) p v = if v == 0 then [] else (entries_address key k v depth, p + 1) ∷ []
-behind T (entries_address key k entries depth) p v = entries_from entries key k depth v
-behind T (case_word fs oneof depth) p v = if v == 0 then [] else (plain_role (kind_at fs v) depth true, p + 1) ∷ []
+expected_after T (link m depth needed) p v = if v == 0 then [] else node_words T m (depth + 1) v
+expected_after T (count k depth) p v = if v == 0 then [] else (elements_address k v depth, p + 1) ∷ []
+expected_after T (elements_address k elements depth) p v = elements_from elements k depth v
+expected_after T (entry_count key k depth) p v = if v == 0 then [] else (entries_address key k v depth, p + 1) ∷ []
+expected_after T (entries_address key k entries depth) p v = entries_from entries key k depth v
+expected_after T (case_word fs oneof depth) p v = if v == 0 then [] else (plain_role (kind_at fs v) depth true, p + 1) ∷ []

@@ -11,9 +11,9 @@ mod reason;
 mod size;
 
 pub use laws::{
-    loads_determine_placed_tree, loads_end_malformed, malformed_graphs_keep_the_limit,
+    loads_determine_placed_tree, loads_end_malformed, malformed_graphs_are_within_limit,
     reading_determines_outcome, sound_tree_is_normal, sound_words_are_loaded,
 };
 pub use placed::{Loads, Placed};
 pub use reason::Reason;
-pub use size::{element_words, is_member, oneofs_of, run_words, size_words, slot_of};
+pub use size::{element_words, is_member, oneof_count, run_words, size_words, slot_of};

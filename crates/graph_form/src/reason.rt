@@ -25,11 +25,11 @@ pub enum Reason {
 
 impl Reason {
     ghost use Rattle.std.specs.Prelude.{◌≡◌};
-    ghost use Rattle.graph_form.specs.Words.{reason_word};
+    ghost use Rattle.graph_form.specs.Words.{graph_reason_word};
 
     /// The reason as a word of a line that the program prints.
     pub fn word(self) -> &'static str
-        ensures { result.now ≡ reason_word self }
+        ensures { result.now ≡ graph_reason_word self }
     {
         match self {
             Reason::Address => "Address",

@@ -4,7 +4,7 @@ ghost use Rattle.std.specs.Prelude.{◌≡◌, ◌<◌, ◌≤◌, ◌+◌, ◌*
 ghost use Rattle.mrpc_table.specs.Valid.{IsValid};
 ghost use Rattle.mrpc_table.specs.Normal.{fields_of, field_at};
 ghost use Rattle.mrpc_table.specs.declared.limits.TheConstants.{MAX_FIELDS};
-ghost use Rattle.graph_form.specs.Roles.{element_words, has_own_slot, is_member, oneofs_of, own_slots, run_words, size_words, slots_before, slot_of};
+ghost use Rattle.graph_form.specs.Roles.{element_words, has_own_slot, is_member, oneof_count, own_slots, run_words, size_words, slots_before, slot_of};
 
 use mrpc_table::{Field, Kind, Label, Message, Table};
 
@@ -14,13 +14,13 @@ pub fn size_words(table: &Table, msg: u32) -> u64
     requires { IsValid table.now }
     ensures { result ≡ size_words table.now msg }
 {
-    2 * own_slots(table.fields(msg)) + 3 * u64::from(oneofs_of(table, msg))
+    2 * own_slots(table.fields(msg)) + 3 * u64::from(oneof_count(table, msg))
 }
 
 /// The number of oneofs of a message; 0 if the table has no such message.
-pub fn oneofs_of(table: &Table, msg: u32) -> u32
+pub fn oneof_count(table: &Table, msg: u32) -> u32
     requires { IsValid table.now }
-    ensures number { result ≡ oneofs_of table.now msg }
+    ensures number { result ≡ oneof_count table.now msg }
     ensures few { result ≤ MAX_FIELDS }
 {
     match message_at(table, msg) {

@@ -9,15 +9,15 @@ use Rattle.mrpc_table.specs.declared.table.Kind.TheVariants.{Choice}
 use Rattle.mrpc_table.specs.declared.table.Label.{Label}
 use Rattle.mrpc_table.specs.declared.table.Label.TheVariants.{Plain, Optional, Repeated, Packed, Map, Member}
 use Rattle.mrpc_table.specs.declared.table.Table.{Table}
-use Rattle.graph_form.specs.Roles.{behind, plain_role, slot_role, is_member}
-use Rattle.graph_form.specs.Placed.{nothing, word, IsFine}
+use Rattle.graph_form.specs.Roles.{expected_after, plain_role, slot_role, is_member}
+use Rattle.graph_form.specs.Placed.{nothing, word, IsValidWord}
 use Rattle.graph_form.specs.Forgotten.{slot_content}
 use Rattle.graph_place.proofs.Beginning.{Loads}
 use Rattle.graph_place.proofs.Fine.{fine_value, fine_presence, fine_run_length, fine_run_presence, fine_absent, fine_count, fine_entry_count}
 use Rattle.graph_place.proofs.Laying.{lone_word}
 use Rattle.graph_place.proofs.Spelled.{PutsWordAt}
 
-none_behind : (T : Table) (l : Label) (k : Kind) (level p : ℕ) → is_member l ≡ false → behind T (slot_role l k level) p 0 ≡ []
+none_behind : (T : Table) (l : Label) (k : Kind) (level p : ℕ) → is_member l ≡ false → expected_after T (slot_role l k level) p 0 ≡ []
 none_behind T Plain Text level p fails = refl
 none_behind T Plain Octets level p fails = refl
 none_behind T Plain (OfMessage m) level p fails = refl
@@ -30,7 +30,7 @@ none_behind T Packed k level p fails = refl
 none_behind T (Map key) k level p fails = refl
 none_behind T (Member o) k level p fails = absurd (true≢false fails)
 
-plain_fine : (T : Table) (H : ℕ) (k : Kind) (level : ℕ) → 1 ≤ H → IsFine T H (plain_role k level false) 0
+plain_fine : (T : Table) (H : ℕ) (k : Kind) (level : ℕ) → 1 ≤ H → IsValidWord T H (plain_role k level false) 0
 plain_fine T H Text level some = fine_run_length T H Text 0 (omega (arith, some))
 plain_fine T H Octets level some = fine_run_length T H Octets 0 (omega (arith, some))
 plain_fine T H (OfMessage m) level some = fine_absent T H m level false refl
@@ -49,7 +49,7 @@ plain_fine T H Fixed32 level some = fine_value T H Fixed32 0 (omega arith)
 plain_fine T H Float level some = fine_value T H Float 0 (omega arith)
 plain_fine T H TheBool level some = fine_value T H TheBool 0 (omega arith)
 
-absent_fine : (T : Table) (H : ℕ) (l : Label) (k : Kind) (level : ℕ) → is_member l ≡ false → 1 ≤ H → IsFine T H (slot_role l k level) 0
+absent_fine : (T : Table) (H : ℕ) (l : Label) (k : Kind) (level : ℕ) → is_member l ≡ false → 1 ≤ H → IsValidWord T H (slot_role l k level) 0
 absent_fine T H Plain k level fails some = plain_fine T H k level some
 absent_fine T H Optional Text level fails some = fine_run_presence T H Text 0 (omega (arith, some))
 absent_fine T H Optional Octets level fails some = fine_run_presence T H Octets 0 (omega (arith, some))

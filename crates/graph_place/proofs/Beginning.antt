@@ -1,8 +1,8 @@
 -- Words that are appended one after another.
 use Rattle.std.proofs.Common.{◌≡◌, ℕ, ◌+◌, ◌<◌, ◌≤◌, ◌^◌, List, [], ◌∷◌, ◌++◌, refl, sym, ap, subst, ◌∙◌, arith, append_assoc, append-nil}
 use Rattle.mrpc_table.specs.declared.table.Table.{Table}
-use Rattle.graph_form.specs.Roles.{Role, Expected, behind}
-use Rattle.graph_form.specs.Placed.{Placed, nothing, first, Word, word, loads, IsFine}
+use Rattle.graph_form.specs.Roles.{WordRole, Expected, expected_after}
+use Rattle.graph_form.specs.Placed.{Placed, nothing, first, Word, word, loads, IsValidWord}
 use Rattle.graph_place.proofs.Spelled.{SpreadAt, PutsAt, PutsWordAt, BegunAt}
 use Rattle.graph_place.proofs.Spreads.{spread_join, spread_none, spread_one, spread_content, spread_wide}
 
@@ -21,7 +21,7 @@ begun_none T H all a c before Made = record {
 pub joined : (before own now more next : Loads) → now ≡ before ++ own → next ≡ now ++ more → next ≡ before ++ (own ++ more)
 joined before own now more next here there = there ∙ ap (λ xs. xs ++ more) here ∙ append_assoc before own more
 
-pub begun_more : (T : Table) (H : ℕ) (all : Expected) (e : Role × ℕ) (rest : Expected) (a b b2 c d d2 : ℕ)
+pub begun_more : (T : Table) (H : ℕ) (all : Expected) (e : WordRole × ℕ) (rest : Expected) (a b b2 c d d2 : ℕ)
     (before now next : Loads) (Made Rest Less : Placed → Type 0) (Here : Word → Type 0)
     → a ≤ b → b ≤ b2 → b2 ≤ c → c ≤ d → d ≤ d2 → e.1 ≡ b
     → BegunAt T H all (e ∷ rest) a b c d before now Made Rest
@@ -74,10 +74,10 @@ begun_join T H all rest a b b2 c d d2 before now next Made Rest ab bb bc cd dd b
     }
 
 -- a word, and then the words that it leads to
-pub word_put : (T : Table) (H : ℕ) (r : Role) (p v b2 c d : ℕ) (before mid next : Loads) (Made : Placed → Type 0) (Here : Word → Type 0)
-    → p + 1 ≤ b2 → b2 ≤ c → c ≤ d → v < 2 ^ 64 → IsFine T H r v
+pub word_put : (T : Table) (H : ℕ) (r : WordRole) (p v b2 c d : ℕ) (before mid next : Loads) (Made : Placed → Type 0) (Here : Word → Type 0)
+    → p + 1 ≤ b2 → b2 ≤ c → c ≤ d → v < 2 ^ 64 → IsValidWord T H r v
     → mid ≡ before ++ (p, v) ∷ []
-    → PutsAt T H (behind T r p v) (p + 1) b2 c d mid next Made
+    → PutsAt T H (expected_after T r p v) (p + 1) b2 c d mid next Made
     → ((P : Placed) → Made P → Here (word p v P))
     → PutsWordAt T H (r, p) b2 c d before next Here
 word_put T H r p v b2 c d before mid next Made Here pb bc cd small fine put puts says = record {
@@ -103,7 +103,7 @@ nothing_put T H b b2 c before Made bb made = record {
 }
 
 -- a word with its content is all that is expected
-pub one_put : (T : Table) (H : ℕ) (e : Role × ℕ) (b c d : ℕ) (before next : Loads) (Here : Word → Type 0) (Made : Placed → Type 0)
+pub one_put : (T : Table) (H : ℕ) (e : WordRole × ℕ) (b c d : ℕ) (before next : Loads) (Here : Word → Type 0) (Made : Placed → Type 0)
     → PutsWordAt T H e b c d before next Here → ((w : Word) → Here w → Made (first w nothing)) → PutsAt T H (e ∷ []) e.1 b c d before next Made
 one_put T H e b c d before next Here Made puts says =
     let w = word e.1 puts.value puts.content in
@@ -116,7 +116,7 @@ one_put T H e b c d before next Here Made puts says =
       made = says w puts.made;
     }
 
-pub word_wide : (T : Table) (H : ℕ) (e : Role × ℕ) (b b2 c d : ℕ) (before next : Loads) (Here There : Word → Type 0)
+pub word_wide : (T : Table) (H : ℕ) (e : WordRole × ℕ) (b b2 c d : ℕ) (before next : Loads) (Here There : Word → Type 0)
     → b ≤ b2 → PutsWordAt T H e b c d before next Here → ((w : Word) → Here w → There w) → PutsWordAt T H e b2 c d before next There
 word_wide T H e b b2 c d before next Here There bb puts says = record {
   value = puts.value;

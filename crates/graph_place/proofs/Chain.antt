@@ -7,9 +7,9 @@ use Rattle.std.proofs.lemmas.Bool.{ne_eqb, le-leb, lt-leb}
 use Rattle.mrpc_table.specs.declared.table.Kind.{Kind}
 use Rattle.mrpc_table.specs.declared.table.Kind.TheVariants.{Text}
 use Rattle.mrpc_table.specs.declared.table.Table.{Table}
-use Rattle.graph_form.specs.Roles.{Expected, behind, run_address, run_word, run_words, word_bytes}
-use Rattle.graph_form.specs.Placed.{Placed, nothing, first, word, loads, IsFine, AreSound}
-use Rattle.graph_form.specs.Forgotten.{chain_bytes, run_at}
+use Rattle.graph_form.specs.Roles.{Expected, expected_after, run_address, run_word, run_words, word_bytes}
+use Rattle.graph_form.specs.Placed.{Placed, nothing, first, word, loads, IsValidWord, AreSound}
+use Rattle.graph_form.specs.Forgotten.{bytes_of_run, run_at}
 use Rattle.graph_place.specs.Laid.{HasBytes, run_expected}
 use Rattle.graph_place.proofs.Spelled.{PutsAt, PutsWordAt, BegunAt}
 use Rattle.graph_place.proofs.Spreads.{spread_join, spread_free}
@@ -17,7 +17,7 @@ use Rattle.graph_place.proofs.Beginning.{Loads, joined, begun_none, begun_end, w
 use Rattle.graph_place.proofs.Fine.{fine_run_address, fine_run_word}
 
 abbrev pub HasAll : List ℕ → Placed → Type 0
-HasAll bytes P = take (length bytes) (chain_bytes P) ≡ bytes
+HasAll bytes P = take (length bytes) (bytes_of_run P) ≡ bytes
 
 -- some bytes are laid out, and these remain
 pub record RunOn (all : List ℕ) (c : ℕ) (start : Loads) (rest : List ℕ) (free : ℕ) (now : Loads) : Type 0 where
@@ -45,10 +45,10 @@ eight : (v : ℕ) (piece : List ℕ) → length piece ≡ 8 → HasBytes v piece
 eight v piece len has = sym (ap (λ n. take n (word_bytes v)) len) ∙ has.low
 
 long_behind : (T : Table) (k : Kind) (left : ℕ) (before : List ℕ) (p v : ℕ) → 8 < left
-    → behind T (run_word k left before) p v ≡ (run_word k (left - 8) (before ++ word_bytes v), p + 1) ∷ []
+    → expected_after T (run_word k left before) p v ≡ (run_word k (left - 8) (before ++ word_bytes v), p + 1) ∷ []
 long_behind T k left before p v more = ap (λ b. cond b [] ((run_word k (left - 8) (before ++ word_bytes v), p + 1) ∷ [])) (lt-leb left 8 more)
 
-short_behind : (T : Table) (k : Kind) (left : ℕ) (before : List ℕ) (p v : ℕ) → left ≤ 8 → behind T (run_word k left before) p v ≡ []
+short_behind : (T : Table) (k : Kind) (left : ℕ) (before : List ℕ) (p v : ℕ) → left ≤ 8 → expected_after T (run_word k left before) p v ≡ []
 short_behind T k left before p v few = ap (λ b. cond b [] ((run_word k (left - 8) (before ++ word_bytes v), p + 1) ∷ [])) (le-leb left 8 few)
 
 one_word : (T : Table) (H : ℕ) (es : Expected) (rest less : Expected) (b c free v : ℕ) (start now next : Loads) (Made Rest Less : Placed → Type 0) → b ≤ c → c ≤ free
@@ -86,11 +86,11 @@ run_more all c start rest piece others free v now next r split len more has is =
       past = omega (arith, r.past);
       on = λ T H k b bc text.
           let left_is : length rest - 8 ≡ length others = omega (arith, count) in
-          let behind_is : behind T (run_word k (length rest) r.done) free v ≡ (run_word k (length others) (r.done ++ piece), free + 1) ∷ []
+          let behind_is : expected_after T (run_word k (length rest) r.done) free v ≡ (run_word k (length others) (r.done ++ piece), free + 1) ∷ []
           = long_behind T k (length rest) r.done free v more
           ∙ ap (λ n. (run_word k n (r.done ++ word_bytes v), free + 1) ∷ []) left_is
           ∙ ap (λ xs. (run_word k (length others) (r.done ++ xs), free + 1) ∷ []) bytes in
-          let fine : IsFine T H (run_word k (length rest) r.done) v =
+          let fine : IsValidWord T H (run_word k (length rest) r.done) v =
           fine_run_word T H k (length rest) r.done v (λ few. absurd (omega (arith, few, more)))
           (λ e few. absurd (omega (arith, few, more))) in
           one_word T H ((run_word k (length all) [], c) ∷ []) ((run_word k (length rest) r.done, free) ∷ [])
@@ -99,9 +99,9 @@ run_more all c start rest piece others free v now next r split len more has is =
           (r.on T H k b bc text)
           (λ Q sound. (refl, has.small, fine, subst (λ es. AreSound T H es Q) (sym behind_is) sound, tt))
           (λ Q made.
-          ap (λ n. take n (word_bytes v ++ chain_bytes Q)) (count ∙ ap (λ n. n + length others) (sym len))
-          ∙ ap (λ xs. take (length piece + length others) (xs ++ chain_bytes Q)) bytes
-          ∙ take-append-add piece (chain_bytes Q) (length others)
+          ap (λ n. take n (word_bytes v ++ bytes_of_run Q)) (count ∙ ap (λ n. n + length others) (sym len))
+          ∙ ap (λ xs. take (length piece + length others) (xs ++ bytes_of_run Q)) bytes
+          ∙ take-append-add piece (bytes_of_run Q) (length others)
           ∙ ap (λ xs. piece ++ xs) made ∙ sym split);
     }
 
@@ -111,14 +111,14 @@ pub run_ends : (all : List ℕ) (c : ℕ) (start : Loads) (rest : List ℕ) (fre
     → PutsAt T H ((run_word k (length all) [], c) ∷ []) b b c (free + 1) start next (HasAll all)
 run_ends all c start rest free v now next r few has is T H k b bc text =
     let last : r.done ++ take (length rest) (word_bytes v) ≡ all = ap (λ xs. r.done ++ xs) has.low ∙ r.whole in
-    let fine : IsFine T H (run_word k (length rest) r.done) v = fine_run_word T H k (length rest) r.done v has.spare (λ e le. subst IsUtf8 (sym last) (text e)) in
+    let fine : IsValidWord T H (run_word k (length rest) r.done) v = fine_run_word T H k (length rest) r.done v has.spare (λ e le. subst IsUtf8 (sym last) (text e)) in
     let none = short_behind T k (length rest) r.done free v few in
     let begun : BegunAt T H ((run_word k (length all) [], c) ∷ []) [] b b c (free + 1) start next (HasAll all) (λ Q. Q ≡ nothing)
     = one_word T H ((run_word k (length all) [], c) ∷ []) ((run_word k (length rest) r.done, free) ∷ []) [] b c free v
     start now next (HasAll all) (HasAll rest) (λ Q. Q ≡ nothing) bc r.past is
     (r.on T H k b bc text)
     (λ Q sound. (refl, has.small, fine, subst (λ es. AreSound T H es Q) (sym none) sound, tt))
-    (λ Q made. ap (λ P. take (length rest) (word_bytes v ++ chain_bytes P)) made ∙ ap (take (length rest)) (append-nil (word_bytes v)) ∙ has.low) in
+    (λ Q made. ap (λ P. take (length rest) (word_bytes v ++ bytes_of_run P)) made ∙ ap (take (length rest)) (append-nil (word_bytes v)) ∙ has.low) in
     begun_end T H ((run_word k (length all) [], c) ∷ []) b b c (free + 1) start next (HasAll all) (λ Q. Q ≡ nothing) begun refl
 
 -- the address and all words

@@ -1,7 +1,7 @@
 -- The effect of a field's slot, by the effects of its calls.
 use Rattle.std.proofs.Common.{◌≡◌, ◌≢◌, ℕ, ◌+◌, ◌<◌, ◌≤◌, ◌^◌, false, List, [], ◌∷◌, ◌++◌, length, Some, None, refl, sym, ap, subst, arith}
 use Rattle.mrpc_table.specs.Node.{Node, Content, one, many, pairs, Item, number, run, node, no_pairs, content_at}
-use Rattle.mrpc_table.specs.Normal.{field_at, HasFields, IsItem, ArePairs, KeysAscend, content_depth, items_depth, pairs_depth}
+use Rattle.mrpc_table.specs.Normal.{field_at, HasFields, IsItem, ArePairs, AreKeysAscending, content_depth, items_depth, pairs_depth}
 use Rattle.mrpc_table.specs.Valid.{IsField}
 use Rattle.mrpc_table.specs.View.{item_of, items_of, pairs_of, content_of}
 use Rattle.mrpc_table.specs.declared.table.Kind.{Kind}
@@ -16,7 +16,7 @@ use Rattle.mrpc_table.specs.declared.tree.FieldValue.TheVariants.{One, Many, Pai
 use Rattle.std.specs.Global.{Vec}
 use Rattle.graph_form.specs.Roles.{elements_address, entries_address, slot_role, is_member}
 use Rattle.graph_form.specs.Forgotten.{slot_content, elements_at, entries_at}
-use Rattle.graph_place.specs.Laid.{HoldsContent, listed, found_words, NoMessage}
+use Rattle.graph_place.specs.Laid.{IsContentFor, listed, optional_content_words, IsNotMessage}
 use Rattle.graph_place.specs.Size.{content_words, item_words, many_words, pairs_words, run_words_of}
 use Rattle.graph_place.proofs.Absent.{no_slot}
 use Rattle.graph_place.proofs.Beginning.{Loads}
@@ -51,31 +51,31 @@ run_words_less T k (number n) = omega arith
 run_words_less T k (run bytes) = omega arith
 run_words_less T k (node t) = omega arith
 
-pub run_words_whole : (T : Table) (k : Kind) (i : Item) → NoMessage i → item_words T k i ≡ run_words_of i
+pub run_words_whole : (T : Table) (k : Kind) (i : Item) → IsNotMessage i → item_words T k i ≡ run_words_of i
 run_words_whole T k (number n) none = refl
 run_words_whole T k (run bytes) none = refl
 run_words_whole T k (node t) none = absurd none
 
-pub no_message_in : (T : Table) (k : Kind) (i : Item) → ((m : ℕ) → k ≢ OfMessage m) → IsItem T k i → NoMessage i
+pub no_message_in : (T : Table) (k : Kind) (i : Item) → ((m : ℕ) → k ≢ OfMessage m) → IsItem T k i → IsNotMessage i
 no_message_in T k (number n) simple is = tt
 no_message_in T k (run bytes) simple is = tt
 no_message_in T k (node t) simple is = absurd (simple is.0 is.1)
 
-pub holds_one : (T : Table) (l : Label) (k : Kind) (fv : FieldValue) (v : Value) → fv ≡ One v → HoldsContent T l k (content_of fv) → HoldsContent T l k (one (item_of v))
-holds_one T l k fv v is holds = subst (λ (x : FieldValue). HoldsContent T l k (content_of x)) is holds
+pub holds_one : (T : Table) (l : Label) (k : Kind) (fv : FieldValue) (v : Value) → fv ≡ One v → IsContentFor T l k (content_of fv) → IsContentFor T l k (one (item_of v))
+holds_one T l k fv v is holds = subst (λ (x : FieldValue). IsContentFor T l k (content_of x)) is holds
 
 pub holds_many : (T : Table) (l : Label) (k : Kind) (fv : FieldValue) (vs : Vec Value) → fv ≡ Many vs
-    → HoldsContent T l k (content_of fv) → HoldsContent T l k (many (items_of vs.items))
-holds_many T l k fv vs is holds = subst (λ (x : FieldValue). HoldsContent T l k (content_of x)) is holds
+    → IsContentFor T l k (content_of fv) → IsContentFor T l k (many (items_of vs.items))
+holds_many T l k fv vs is holds = subst (λ (x : FieldValue). IsContentFor T l k (content_of x)) is holds
 
 pub holds_pairs : (T : Table) (l : Label) (k : Kind) (fv : FieldValue) (es : Vec (Value × Value)) → fv ≡ ThePairs es
-    → HoldsContent T l k (content_of fv) → HoldsContent T l k (pairs (pairs_of es.items))
-holds_pairs T l k fv es is holds = subst (λ (x : FieldValue). HoldsContent T l k (content_of x)) is holds
+    → IsContentFor T l k (content_of fv) → IsContentFor T l k (pairs (pairs_of es.items))
+holds_pairs T l k fv es is holds = subst (λ (x : FieldValue). IsContentFor T l k (content_of x)) is holds
 
 -- ---- the slot of a field that is present
 
 pub slot_optional_put : (T : Table) (l : Label) (k : Kind) (fv : FieldValue) (v : Value) (place c d : ℕ)
-    (before next : Loads) → fv ≡ One v → l ≡ Optional → HoldsContent T l k (content_of fv)
+    (before next : Loads) → fv ≡ One v → l ≡ Optional → IsContentFor T l k (content_of fv)
     → OptionalPut (item_of v) place c before d next
     → SlotPut T l k (content_of fv) place c before d next
 slot_optional_put T l k fv v place c d before next is label holds puts =
@@ -84,7 +84,7 @@ slot_optional_put T l k fv v place c d before next is label holds puts =
     (subst (λ x. SlotPut T x k (one (item_of v)) place c before d next) (sym label) (λ H level within deep. puts T H k within (h.1 label) h.0.1))
 
 pub slot_one_put : (T : Table) (l : Label) (k : Kind) (fv : FieldValue) (v : Value) (place c d : ℕ)
-    (before next : Loads) → fv ≡ One v → l ≢ Optional → is_member l ≡ false → HoldsContent T l k (content_of fv)
+    (before next : Loads) → fv ≡ One v → l ≢ Optional → is_member l ≡ false → IsContentFor T l k (content_of fv)
     → ItemPut T k (item_of v) place c before d next
     → SlotPut T l k (content_of fv) place c before d next
 slot_one_put T l k fv v place c d before next is other own holds puts =
@@ -93,7 +93,7 @@ slot_one_put T l k fv v place c d before next is other own holds puts =
     (λ H level within deep. slot_plain T H l k level place (item_of v) c d before next own other h.0.0 (puts H level false within deep))
 
 pub slot_many_put : (T : Table) (l : Label) (k : Kind) (fv : FieldValue) (vs : Vec Value) (place c mid_free d : ℕ)
-    (before mid next : Loads) → fv ≡ Many vs → HoldsContent T l k (content_of fv) → length vs.items < 2 ^ 64
+    (before mid next : Loads) → fv ≡ Many vs → IsContentFor T l k (content_of fv) → length vs.items < 2 ^ 64
     → place + 2 ≤ c
     → mid_free ≡ c → d ≡ mid_free + many_words T k (items_of vs.items) → mid ≡ before ++ (place, length vs.items) ∷ []
     → ElementsPut T k vs.items (place + 1) mid_free mid d next
@@ -107,12 +107,12 @@ slot_many_put T l k fv vs place c mid_free d before mid next is holds small slot
 
 -- the key of a map
 pub key_given : (T : Table) (l : Label) (k key : Kind) (fv : FieldValue) (es : Vec (Value × Value)) → fv ≡ ThePairs es
-    → HoldsContent T l k (content_of fv) → ((x : Kind) → l ≡ Map x → key ≡ x)
-    → (l ≡ Map key) × ((m : ℕ) → key ≢ OfMessage m) × (pairs_of es.items ≢ no_pairs) × ArePairs T key k (pairs_of es.items) × KeysAscend key (pairs_of es.items)
+    → IsContentFor T l k (content_of fv) → ((x : Kind) → l ≡ Map x → key ≡ x)
+    → (l ≡ Map key) × ((m : ℕ) → key ≢ OfMessage m) × (pairs_of es.items ≢ no_pairs) × ArePairs T key k (pairs_of es.items) × AreKeysAscending key (pairs_of es.items)
 key_given T l k key fv es is holds says =
     let h = holds_pairs T l k fv es is holds in
     subst (λ x. (l ≡ Map x) × ((m : ℕ) → x ≢ OfMessage m) × (pairs_of es.items ≢ no_pairs)
-    × ArePairs T x k (pairs_of es.items) × KeysAscend x (pairs_of es.items)) (sym (says h.0 h.1)) (
+    × ArePairs T x k (pairs_of es.items) × AreKeysAscending x (pairs_of es.items)) (sym (says h.0 h.1)) (
       h.1,
       h.2,
       h.3,
@@ -121,7 +121,7 @@ key_given T l k key fv es is holds says =
     )
 
 pub slot_pairs_put : (T : Table) (l : Label) (k key : Kind) (fv : FieldValue) (es : Vec (Value × Value))
-    (place c mid_free d : ℕ) (before mid next : Loads) → fv ≡ ThePairs es → HoldsContent T l k (content_of fv)
+    (place c mid_free d : ℕ) (before mid next : Loads) → fv ≡ ThePairs es → IsContentFor T l k (content_of fv)
     → ((x : Kind) → l ≡ Map x → key ≡ x) → length es.items < 2 ^ 64
     → place + 2 ≤ c → mid_free ≡ c → d ≡ mid_free + pairs_words T k (pairs_of es.items)
     → mid ≡ before ++ (place, length es.items) ∷ [] → EntriesPut T key k es.items (place + 1) mid_free mid d next
@@ -153,14 +153,14 @@ field_absent T f t place c d before next own none slot size put = λ H level wit
     (λ w. slot_content T f.label f.kind w ≡ o)) (sym none)
     (no_slot T H f.label f.kind level place c before next own slot low put))
 
-pub found_there : (T : Table) (k : Kind) (n : ℕ) (t : Node) (content : Content) → content_at t n ≡ Some content → found_words T k (content_at t n) ≡ content_words T k content
-found_there T k n t content found = ap (found_words T k) found
+pub found_there : (T : Table) (k : Kind) (n : ℕ) (t : Node) (content : Content) → content_at t n ≡ Some content → optional_content_words T k (content_at t n) ≡ content_words T k content
+found_there T k n t content found = ap (optional_content_words T k) found
 
-pub found_none : (T : Table) (k : Kind) (n : ℕ) (t : Node) → content_at t n ≡ None → found_words T k (content_at t n) ≡ 0
-found_none T k n t none = ap (found_words T k) none
+pub found_none : (T : Table) (k : Kind) (n : ℕ) (t : Node) → content_at t n ≡ None → optional_content_words T k (content_at t n) ≡ 0
+found_none T k n t none = ap (optional_content_words T k) none
 
 -- the content that the tree has for the field
 pub field_holds : (T : Table) (fs : List Field) (oneofs : ℕ) (f : Field) (t : Node) (content : Content)
     → HasFields T fs 0 t → field_at fs f.number ≡ Some f → IsField T oneofs f → content_at t f.number ≡ Some content
-    → HoldsContent T f.label f.kind content
+    → IsContentFor T f.label f.kind content
 field_holds T fs oneofs f t content has known is found = content_holds T oneofs fs f.number f content is known (content_has T fs 0 f.number content t has found)

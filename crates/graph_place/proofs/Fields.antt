@@ -6,22 +6,22 @@ use Rattle.std.proofs.lemmas.Bool.{ne_eqb, cases_Bool, or_from, or_left, or_righ
 use Rattle.std.proofs.lemmas.Bool.Decides.{eqb_tells}
 use Rattle.std.proofs.lemmas.Option.{slice_get_cases}
 use Rattle.std.proofs.lemmas.List.Elements.{All-head, All-tail}
-use Rattle.mrpc_table.specs.Node.{Node, no_fields, field, Content, one, many, pairs, content_at, NumbersAscend}
+use Rattle.mrpc_table.specs.Node.{Node, no_fields, field, Content, one, many, pairs, content_at, AreNumbersAscending}
 use Rattle.mrpc_table.specs.Normal.{fields_of, field_at, HasFields, HasContent, depth, content_depth}
-use Rattle.mrpc_table.specs.Valid.{IsValid, IsMessage, IsField, Ascends as InOrder, Joins, OneofsFollow, GoesWith}
+use Rattle.mrpc_table.specs.Valid.{IsValid, IsMessage, IsField, IsAscendingBy as InOrder, IsNextOneof, AreOneofsInOrder, IsLabelFor}
 use Rattle.mrpc_table.specs.declared.table.Field.{Field}
 use Rattle.mrpc_table.specs.declared.table.Label.{Label}
 use Rattle.mrpc_table.specs.declared.table.Label.TheVariants.{Plain, Optional, Repeated, Packed, Map, Member}
 use Rattle.mrpc_table.specs.declared.table.Message.{Message}
 use Rattle.mrpc_table.specs.declared.table.Table.{Table}
-use Rattle.graph_form.specs.Roles.{own_slots, oneofs_of, is_member}
+use Rattle.graph_form.specs.Roles.{own_slots, oneof_count, is_member}
 use Rattle.graph_place.specs.Content.{is_of, is_member_of}
 use Rattle.graph_place.specs.Laid.{is_member_at, keep, members}
 use Rattle.graph_place.proofs.Keeping.{Each, each_weaker, each_always, keep_same, keep_all, or_none}
 
 -- ---- a tree
 
-pub fields_ascend : (T : Table) (fs : List Field) (last : ℕ) (t : Node) → HasFields T fs last t → NumbersAscend last t
+pub fields_ascend : (T : Table) (fs : List Field) (last : ℕ) (t : Node) → HasFields T fs last t → AreNumbersAscending last t
 fields_ascend T fs last no_fields h = tt
 fields_ascend T fs last (field n c t) h = (h.0, fields_ascend T fs n t h.2)
 
@@ -153,13 +153,13 @@ fields_at T i m got = ap (λ o. unwrap_or (option_map (λ x. x.fields) o) []) go
 pub no_fields_at : (T : Table) (i : ℕ) → slice_get T.messages i ≡ None → fields_of T i ≡ []
 no_fields_at T i got = ap (λ (o : Option Message). unwrap_or (option_map (λ x. x.fields) o) []) got
 
-pub oneofs_at : (T : Table) (i : ℕ) (m : Message) → slice_get T.messages i ≡ Some m → oneofs_of T i ≡ length m.oneofs
+pub oneofs_at : (T : Table) (i : ℕ) (m : Message) → slice_get T.messages i ≡ Some m → oneof_count T i ≡ length m.oneofs
 oneofs_at T i m got = ap (λ o. unwrap_or (option_map (λ x. length x.oneofs) o) 0) got
 
-pub no_oneofs_at : (T : Table) (i : ℕ) → slice_get T.messages i ≡ None → oneofs_of T i ≡ 0
+pub no_oneofs_at : (T : Table) (i : ℕ) → slice_get T.messages i ≡ None → oneof_count T i ≡ 0
 no_oneofs_at T i got = ap (λ (o : Option Message). unwrap_or (option_map (λ x. length x.oneofs) o) 0) got
 
-joined_le : (met all n : ℕ) (l : Label) (Same Next : Type 0) → (Same → all ≤ met + n) → (Next → all ≤ met + 1 + n) → Joins met l Same Next → all ≤ met + suc n
+joined_le : (met all n : ℕ) (l : Label) (Same Next : Type 0) → (Same → all ≤ met + n) → (Next → all ≤ met + 1 + n) → IsNextOneof met l Same Next → all ≤ met + suc n
 joined_le met all n Plain Same Next same next h = omega (arith, same h)
 joined_le met all n Optional Same Next same next h = omega (arith, same h)
 joined_le met all n Repeated Same Next same next h = omega (arith, same h)
@@ -167,9 +167,9 @@ joined_le met all n Packed Same Next same next h = omega (arith, same h)
 joined_le met all n (Map k) Same Next same next h = omega (arith, same h)
 joined_le met all n (Member o) Same Next same next h = elim h [ inl old ↦ omega (arith, same old.1) | inr new ↦ omega (arith, next new.1) ]
 
-follow_le : (met all : ℕ) (fs : List Field) → OneofsFollow met all fs → all ≤ met + length fs
+follow_le : (met all : ℕ) (fs : List Field) → AreOneofsInOrder met all fs → all ≤ met + length fs
 follow_le met all [] h = omega (arith, h)
-follow_le met all (f ∷ fs) h = joined_le met all (length fs) f.label (OneofsFollow met all fs) (OneofsFollow (met + 1) all fs) (follow_le met all fs) (follow_le (met + 1) all fs) h
+follow_le met all (f ∷ fs) h = joined_le met all (length fs) f.label (AreOneofsInOrder met all fs) (AreOneofsInOrder (met + 1) all fs) (follow_le met all fs) (follow_le (met + 1) all fs) h
 
 pub few_oneofs : (T : Table) (m : Message) → IsMessage T m → length m.oneofs ≤ 128
 few_oneofs T m h = omega (arith, follow_le 0 (length m.oneofs) m.fields h.oneof_order, h.few)
@@ -182,7 +182,7 @@ pub record AreFields (T : Table) (oneofs : ℕ) (fs : List Field) : Type 0 where
   pub each : All (IsField T oneofs) fs
   pub ascend : InNumbers fs
 
-pub are_fields : (T : Table) (i : ℕ) → IsValid T → AreFields T (oneofs_of T i) (fields_of T i)
+pub are_fields : (T : Table) (i : ℕ) → IsValid T → AreFields T (oneof_count T i) (fields_of T i)
 are_fields T i valid =
     elim (slice_get_cases T.messages i).1 [
       | inl in_range ↦
@@ -191,11 +191,11 @@ are_fields T i valid =
           let fields = fields_at T i m in_range.2 in
           let oneofs = oneofs_at T i m in_range.2 in
           let here : AreFields T (length m.oneofs) m.fields = record { each = is.fields; ascend = is.ascend } in
-          subst (AreFields T (oneofs_of T i)) (sym fields) (subst (λ k. AreFields T k m.fields) (sym oneofs) here)
+          subst (AreFields T (oneof_count T i)) (sym fields) (subst (λ k. AreFields T k m.fields) (sym oneofs) here)
       | inr out ↦
           let none = no_fields_at T i out.1 in
-          let empty : AreFields T (oneofs_of T i) [] = record { each = λ k d below. absurd (omega (arith, below)); ascend = tt } in
-          subst (AreFields T (oneofs_of T i)) (sym none) empty
+          let empty : AreFields T (oneof_count T i) [] = record { each = λ k d below. absurd (omega (arith, below)); ascend = tt } in
+          subst (AreFields T (oneof_count T i)) (sym none) empty
     ]
 
 pub field_is : (T : Table) (oneofs : ℕ) (fs : List Field) (n : ℕ) (f : Field) → All (IsField T oneofs) fs → field_at fs n ≡ Some f → IsField T oneofs f
@@ -256,7 +256,7 @@ label_all oneofs Packed within = sym (label_none 0 oneofs Packed refl)
 label_all oneofs (Map key) within = sym (label_none 0 oneofs (Map key) refl)
 
 goes_within : (T : Table) (oneofs : ℕ) (f : Field) (p : ℕ) → IsField T oneofs f → f.label ≡ Member p → p < oneofs
-goes_within T oneofs f p is e = subst (λ l. GoesWith oneofs l f.kind) e is.label
+goes_within T oneofs f p is e = subst (λ l. IsLabelFor oneofs l f.kind) e is.label
 
 -- the members are those of all oneofs
 pub all_members : (T : Table) (oneofs : ℕ) (fs : List Field) (t : Node) → All (IsField T oneofs) fs → HasFields T fs 0 t → members fs t ≡ keep (in_oneofs fs 0 oneofs) t
@@ -287,7 +287,7 @@ not_behind fs o k n holds =
     let m = member_found fs o n holds in
     in_by_label fs (o + 1) k n m.0 m.1 ∙ ap (label_in (o + 1) k) m.2 ∙ label_below (o + 1) k o (omega arith)
 
-few_at : (T : Table) (i : ℕ) → IsValid T → oneofs_of T i ≤ 128
+few_at : (T : Table) (i : ℕ) → IsValid T → oneof_count T i ≤ 128
 few_at T i valid =
     elim (slice_get_cases T.messages i).1 [
       | inl in_range ↦
@@ -299,7 +299,7 @@ few_at T i valid =
 -- the oneof of a member is inside the array
 pub member_within : (T : Table) (i n o : ℕ) (f : Field) → IsValid T → field_at (fields_of T i) n ≡ Some f → f.label ≡ Member o → o < 128
 member_within T i n o f valid at label =
-    let is = field_is T (oneofs_of T i) (fields_of T i) n f (are_fields T i valid).each at in
-    let within = goes_within T (oneofs_of T i) f o is label in
+    let is = field_is T (oneof_count T i) (fields_of T i) n f (are_fields T i valid).each at in
+    let within = goes_within T (oneof_count T i) f o is label in
     let few = few_at T i valid in
     omega (arith, within, few)

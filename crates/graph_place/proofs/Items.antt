@@ -2,7 +2,7 @@
 use Rattle.std.proofs.Common.{inl, inr, ◌≡◌, ◌≢◌, ℕ, ◌+◌, ◌*◌, ◌<◌, ◌≤◌, ◌^◌, Bool, true, List, [], ◌∷◌, ◌++◌, length}
 use Rattle.std.proofs.Common.{drop, get_or, Some, sym, ap, subst, ◌∙◌, arith}
 use Rattle.mrpc_table.specs.Node.{Node, one, Item, number, node}
-use Rattle.mrpc_table.specs.Normal.{fields_of, IsItem, HasFields, OneMemberEach, depth, item_depth}
+use Rattle.mrpc_table.specs.Normal.{fields_of, IsItem, HasFields, HasOneMemberEach, depth, item_depth}
 use Rattle.mrpc_table.specs.View.{item_of, items_of, pairs_of}
 use Rattle.mrpc_table.specs.declared.table.Kind.{Kind}
 use Rattle.mrpc_table.specs.Words.{IsWordForm, IsSigned32, nested_message}
@@ -16,7 +16,7 @@ use Rattle.mrpc_table.specs.declared.tree.Value.{Value}
 use Rattle.mrpc_table.specs.declared.tree.Value.TheVariants.{Number, Run, Node as TheNode}
 use Rattle.graph_form.specs.Roles.{plain_role, optional_role, node_words, element_words, run_words}
 use Rattle.graph_form.specs.Forgotten.{slot_content, tree_of}
-use Rattle.graph_place.specs.Laid.{HoldsItem}
+use Rattle.graph_place.specs.Laid.{IsSlotOf}
 use Rattle.graph_place.specs.Size.{tree_words, item_words, many_words, pairs_words, run_words_of}
 use Rattle.graph_place.proofs.Beginning.{Loads}
 use Rattle.graph_place.proofs.Chain.{RunPut}
@@ -31,7 +31,7 @@ NodePut T m t c before d next = (H level : ℕ) → d ≤ H → level + depth t 
 abbrev pub ItemPut : Table → Kind → Item → ℕ → ℕ → Loads → ℕ → Loads → Type 0
 ItemPut T k i place c before d next =
     (H level : ℕ) (needed : Bool) → d ≤ H → level + item_depth i ≤ 33
-    → PutsWordAt T H (plain_role k level needed, place) (place + element_words k) c d before next (HoldsItem T k i)
+    → PutsWordAt T H (plain_role k level needed, place) (place + element_words k) c d before next (IsSlotOf T k i)
 
 abbrev pub OptionalPut : Item → ℕ → ℕ → Loads → ℕ → Loads → Type 0
 OptionalPut i place c before d next =
@@ -69,7 +69,7 @@ item_number T k v n place c d before next is item slot size put =
     subst (λ (x : Value). IsItem T k (item_of x) → ItemPut T k (item_of x) place c before d next) (sym is)
     (λ form. λ H level needed within deep.
     subst (λ e. PutsWordAt T H (plain_role k level needed, place) (place + element_words k) c e before next
-    (HoldsItem T k (number n))) (sym size) (number_item T H k level needed place n c before next form
+    (IsSlotOf T k (number n))) (sym size) (number_item T H k level needed place n c before next form
     (word_small k n form) slot put)) item
 
 pub item_run : (T : Table) (k : Kind) (v : Value) (bytes : List ℕ) (place c mid_free d : ℕ) (before mid next : Loads)
@@ -100,10 +100,10 @@ node_fields T k v t m is item message =
     let node_is : IsItem T k (node t) = subst (λ (x : Value). IsItem T k (item_of x)) is item in
     subst (λ j. HasFields T (fields_of T j) 0 t) (sym (message ∙ ap nested_message node_is.1)) node_is.2
 
-pub node_oneofs : (T : Table) (k : Kind) (v : Value) (t : Node) (m : ℕ) → v ≡ TheNode t → IsItem T k (item_of v) → m ≡ nested_message k → OneMemberEach (fields_of T m) t
+pub node_oneofs : (T : Table) (k : Kind) (v : Value) (t : Node) (m : ℕ) → v ≡ TheNode t → IsItem T k (item_of v) → m ≡ nested_message k → HasOneMemberEach (fields_of T m) t
 node_oneofs T k v t m is item message =
     let node_is : IsItem T k (node t) = subst (λ (x : Value). IsItem T k (item_of x)) is item in
-    subst (λ j. OneMemberEach (fields_of T j) t) (sym (message ∙ ap nested_message node_is.1)) node_is.3
+    subst (λ j. HasOneMemberEach (fields_of T j) t) (sym (message ∙ ap nested_message node_is.1)) node_is.3
 
 pub number_words : (T : Table) (k : Kind) (v : Value) (n : ℕ) → v ≡ Number n → item_words T k (item_of v) ≡ 0
 number_words T k v n is = ap (λ (x : Value). item_words T k (item_of x)) is

@@ -11,18 +11,18 @@ use Rattle.mrpc_table.specs.declared.table.Kind.{Kind}
 use Rattle.mrpc_table.specs.declared.table.Kind.TheVariants.{Text, Octets, Message as OfMessage}
 use Rattle.mrpc_table.specs.declared.table.Label.TheVariants.{Optional}
 use Rattle.mrpc_table.specs.declared.table.Table.{Table}
-use Rattle.graph_form.specs.Roles.{Role, value, presence, run_length, run_presence, run_address, link, behind, plain_role, optional_role, node_words, element_words, run_words}
-use Rattle.graph_form.specs.Placed.{Placed, nothing, first, Word, word, IsFine, AreSound}
-use Rattle.graph_form.specs.Forgotten.{run_at, number_at, optional_item, slot_content, plain_item, tree_of}
-use Rattle.graph_place.specs.Laid.{HoldsItem, run_expected}
+use Rattle.graph_form.specs.Roles.{WordRole, value, presence, run_length, run_presence, run_address, link, expected_after, plain_role, optional_role, node_words, element_words, run_words}
+use Rattle.graph_form.specs.Placed.{Placed, nothing, first, Word, word, IsValidWord, AreSound}
+use Rattle.graph_form.specs.Forgotten.{run_at, single_number, optional_item, slot_content, plain_item, tree_of}
+use Rattle.graph_place.specs.Laid.{IsSlotOf, run_expected}
 use Rattle.graph_place.specs.Size.{tree_words}
 use Rattle.graph_place.proofs.Spelled.{PutsAt, PutsWordAt}
 use Rattle.graph_place.proofs.Spreads.{spread_one}
 use Rattle.graph_place.proofs.Beginning.{Loads, word_put, one_put, content_put}
 use Rattle.graph_place.proofs.Fine.{fine_value, fine_presence, fine_run_length, fine_run_presence, fine_link}
 
-pub lone_word : (T : Table) (H : ℕ) (r : Role) (p v b c : ℕ) (before after : Loads) (Here : Word → Type 0)
-    → behind T r p v ≡ [] → v < 2 ^ 64 → IsFine T H r v → p < b → b ≤ c
+pub lone_word : (T : Table) (H : ℕ) (r : WordRole) (p v b c : ℕ) (before after : Loads) (Here : Word → Type 0)
+    → expected_after T r p v ≡ [] → v < 2 ^ 64 → IsValidWord T H r v → p < b → b ≤ c
     → after ≡ before ++ (p, v) ∷ [] → Here (word p v nothing) → PutsWordAt T H (r, p) b c c before after Here
 lone_word T H r p v b c before after Here none small fine pb bc is here = record {
   value = v;
@@ -61,20 +61,20 @@ numeric_optional Octets n form = absurd form
 numeric_optional (OfMessage m) n form = absurd form
 numeric_optional _ n form = refl
 
-numeric_given : (k : Kind) (n v : ℕ) (P : Placed) → IsWordForm k n → optional_item k v P ≡ number (number_at P)
+numeric_given : (k : Kind) (n v : ℕ) (P : Placed) → IsWordForm k n → optional_item k v P ≡ number (single_number P)
 numeric_given Text n v P form = absurd form
 numeric_given Octets n v P form = absurd form
 numeric_given (OfMessage m) n v P form = absurd form
 numeric_given _ n v P form = refl
 
 pub number_item : (T : Table) (H : ℕ) (k : Kind) (level : ℕ) (needed : Bool) (place n c : ℕ) (before after : Loads) → IsWordForm k n → n < 2 ^ 64 → place + element_words k ≤ c
-    → after ≡ before ++ (place, n) ∷ [] → PutsWordAt T H (plain_role k level needed, place) (place + element_words k) c c before after (HoldsItem T k (number n))
+    → after ≡ before ++ (place, n) ∷ [] → PutsWordAt T H (plain_role k level needed, place) (place + element_words k) c c before after (IsSlotOf T k (number n))
 number_item T H k level needed place n c before after form small slot is =
     let width = numeric_width k n form in
-    let puts : PutsWordAt T H (value k, place) (place + element_words k) c c before after (HoldsItem T k (number n))
-    = lone_word T H (value k) place n (place + element_words k) c before after (HoldsItem T k (number n)) refl small (fine_value T H k n form) (omega (arith, width)) slot is
+    let puts : PutsWordAt T H (value k, place) (place + element_words k) c c before after (IsSlotOf T k (number n))
+    = lone_word T H (value k) place n (place + element_words k) c before after (IsSlotOf T k (number n)) refl small (fine_value T H k n form) (omega (arith, width)) slot is
     (record { item = numeric_item T k n place n nothing form; some = λ some_is. some_is }) in
-    subst (λ r. PutsWordAt T H (r, place) (place + element_words k) c c before after (HoldsItem T k (number n))) (sym (numeric_role k n level needed form)) puts
+    subst (λ r. PutsWordAt T H (r, place) (place + element_words k) c c before after (IsSlotOf T k (number n))) (sym (numeric_role k n level needed form)) puts
 
 -- ---- kinds of runs
 
@@ -114,18 +114,18 @@ pub run_item : (T : Table) (H : ℕ) (k : Kind) (level : ℕ) (needed : Bool) (p
     (before mid next : Loads) → IsRun k bytes → length bytes < 2 ^ 64 → 1 ≤ place → place + element_words k ≤ c
     → d ≡ c + run_words (length bytes) → d ≤ H → mid ≡ before ++ (place, length bytes) ∷ []
     → PutsAt T H (run_expected k (length bytes) (place + 1)) (place + 1) (place + 1 + 1) c d mid next (λ P. run_at (length bytes) P ≡ bytes)
-    → PutsWordAt T H (plain_role k level needed, place) (place + element_words k) c d before next (HoldsItem T k (run bytes))
+    → PutsWordAt T H (plain_role k level needed, place) (place + element_words k) c d before next (IsSlotOf T k (run bytes))
 run_item T H k level needed place bytes c d before mid next is small from slot size within put puts =
     let width = run_width k bytes is in
     let two : place + 1 + 1 ≡ place + element_words k = omega (arith, width) in
-    let whole : PutsWordAt T H (run_length k, place) (place + 1 + 1) c d before next (HoldsItem T k (run bytes))
+    let whole : PutsWordAt T H (run_length k, place) (place + 1 + 1) c d before next (IsSlotOf T k (run bytes))
     = word_put T H (run_length k) place (length bytes) (place + 1 + 1) c d before mid next
-    (λ P. run_at (length bytes) P ≡ bytes) (HoldsItem T k (run bytes)) (omega arith) (omega (arith, slot, width))
+    (λ P. run_at (length bytes) P ≡ bytes) (IsSlotOf T k (run bytes)) (omega arith) (omega (arith, slot, width))
     (omega (arith, size)) small
     (fine_run_length T H k (length bytes) (omega (arith, size, within, slot, width, from))) put puts
     (λ P made. record { item = run_item_is T k bytes place (length bytes) P is ∙ ap run made; some = λ some_is zero_is. some_is (empty_run bytes zero_is) }) in
-    subst (λ r. PutsWordAt T H (r, place) (place + element_words k) c d before next (HoldsItem T k (run bytes))) (sym (run_role k bytes level needed is))
-    (subst (λ b. PutsWordAt T H (run_length k, place) b c d before next (HoldsItem T k (run bytes))) two whole)
+    subst (λ r. PutsWordAt T H (r, place) (place + element_words k) c d before next (IsSlotOf T k (run bytes))) (sym (run_role k bytes level needed is))
+    (subst (λ b. PutsWordAt T H (run_length k, place) b c d before next (IsSlotOf T k (run bytes))) two whole)
 
 -- ---- messages
 
@@ -133,28 +133,28 @@ depth_some : (t : Node) → 1 ≤ depth t
 depth_some no_fields = omega arith
 depth_some (field n c t) = let rest = depth_some t in omega (arith, rest)
 
-node_behind : (T : Table) (m level c p : ℕ) (needed : Bool) → 1 ≤ c → behind T (link m level needed) p c ≡ node_words T m (level + 1) c
+node_behind : (T : Table) (m level c p : ℕ) (needed : Bool) → 1 ≤ c → expected_after T (link m level needed) p c ≡ node_words T m (level + 1) c
 node_behind T m level c p needed from = ap (λ b. cond b [] (node_words T m (level + 1) c)) (ne_eqb c 0 (λ e. omega (arith, e, from)))
 
 pub node_item : (T : Table) (H : ℕ) (k : Kind) (m level : ℕ) (needed : Bool) (place : ℕ) (t : Node) (c d : ℕ)
     (before mid next : Loads) → k ≡ OfMessage m → 1 ≤ place → place + element_words k ≤ c → c < 2 ^ 64
     → d ≡ c + tree_words T m t → d ≤ H → level + (1 + depth t) ≤ 33 → mid ≡ before ++ (place, c) ∷ []
     → ((level : ℕ) → level + depth t ≤ 33 → PutsAt T H (node_words T m level c) c c c d mid next (λ P. tree_of T m P ≡ t))
-    → PutsWordAt T H (plain_role k level needed, place) (place + element_words k) c d before next (HoldsItem T k (node t))
+    → PutsWordAt T H (plain_role k level needed, place) (place + element_words k) c d before next (IsSlotOf T k (node t))
 node_item T H k m level needed place t c d before mid next kind from slot small size within deep put puts =
     let slot_one : place + 1 ≤ c = subst (λ x. place + element_words x ≤ c) kind slot in
     let room = depth_some t in
     let inner = puts (level + 1) (omega (arith, deep)) in
     let some : c ≢ 0 = λ e. omega (arith, e, slot_one) in
-    let there : PutsAt T H (behind T (link m level needed) place c) (place + 1) (place + 1) c d mid next (λ P. tree_of T m P ≡ t)
+    let there : PutsAt T H (expected_after T (link m level needed) place c) (place + 1) (place + 1) c d mid next (λ P. tree_of T m P ≡ t)
     = subst (λ es. PutsAt T H es (place + 1) (place + 1) c d mid next (λ P. tree_of T m P ≡ t)) (sym (node_behind T m level c place needed (omega (arith, slot_one))))
     (content_put T H (node_words T m (level + 1) c) (place + 1) c c d mid next (λ P. tree_of T m P ≡ t) (λ P. tree_of T m P ≡ t) slot_one inner (λ P h. h)) in
-    let whole : PutsWordAt T H (link m level needed, place) (place + 1) c d before next (HoldsItem T (OfMessage m) (node t))
+    let whole : PutsWordAt T H (link m level needed, place) (place + 1) c d before next (IsSlotOf T (OfMessage m) (node t))
     = word_put T H (link m level needed) place c (place + 1) c d before mid next (λ P. tree_of T m P ≡ t)
-    (HoldsItem T (OfMessage m) (node t)) (omega arith) slot_one (omega (arith, size)) small
+    (IsSlotOf T (OfMessage m) (node t)) (omega arith) slot_one (omega (arith, size)) small
     (fine_link T H m level needed c (omega (arith, slot_one)) (omega (arith, size, within)) (omega (arith, deep, room))) put there
     (λ P made. record { item = ap node made; some = λ _. some }) in
-    subst (λ x. PutsWordAt T H (plain_role x level needed, place) (place + element_words x) c d before next (HoldsItem T x (node t))) (sym kind) whole
+    subst (λ x. PutsWordAt T H (plain_role x level needed, place) (place + element_words x) c d before next (IsSlotOf T x (node t))) (sym kind) whole
 
 -- ---- optional slots
 
@@ -165,19 +165,19 @@ pub optional_number : (T : Table) (H : ℕ) (k : Kind) (place n c : ℕ) (before
     → mid ≡ before ++ (place, 1) ∷ [] → next ≡ mid ++ (place + 1, n) ∷ []
     → PutsWordAt T H (optional_role k, place) (place + 2) c c before next (λ w. slot_content T Optional k w ≡ Some (one (number n)))
 optional_number T H k place n c before mid next form small slot put is =
-    let inner : PutsWordAt T H (value k, place + 1) (place + 2) c c mid next (λ w. number_at (first w nothing) ≡ n)
-    = lone_word T H (value k) (place + 1) n (place + 2) c mid next (λ w. number_at (first w nothing) ≡ n) refl small (fine_value T H k n form) (omega arith) slot is refl in
-    let there : PutsAt T H (behind T (presence k) place 1) (place + 1) (place + 2) c c mid next (λ P. number_at P ≡ n)
-    = one_put T H (value k, place + 1) (place + 2) c c mid next (λ w. number_at (first w nothing) ≡ n) (λ P. number_at P ≡ n) inner (λ w h. h) in
+    let inner : PutsWordAt T H (value k, place + 1) (place + 2) c c mid next (λ w. single_number (first w nothing) ≡ n)
+    = lone_word T H (value k) (place + 1) n (place + 2) c mid next (λ w. single_number (first w nothing) ≡ n) refl small (fine_value T H k n form) (omega arith) slot is refl in
+    let there : PutsAt T H (expected_after T (presence k) place 1) (place + 1) (place + 2) c c mid next (λ P. single_number P ≡ n)
+    = one_put T H (value k, place + 1) (place + 2) c c mid next (λ w. single_number (first w nothing) ≡ n) (λ P. single_number P ≡ n) inner (λ w h. h) in
     let whole : PutsWordAt T H (presence k, place) (place + 2) c c before next (λ w. slot_content T Optional k w ≡ Some (one (number n)))
-    = word_put T H (presence k) place 1 (place + 2) c c before mid next (λ P. number_at P ≡ n)
+    = word_put T H (presence k) place 1 (place + 2) c c before mid next (λ P. single_number P ≡ n)
     (λ w. slot_content T Optional k w ≡ Some (one (number n))) (omega arith) slot (omega arith) (omega arith)
     (fine_presence T H k 1 (omega arith)) put there
     (λ P made. optional_says T k place 1 P (λ e. omega (arith, e)) ∙ ap (λ i. Some (one i)) (numeric_given k n 1 P form ∙ ap number made)) in
     subst (λ r. PutsWordAt T H (r, place) (place + 2) c c before next (λ w. slot_content T Optional k w ≡ Some (one (number n)))) (sym (numeric_optional k n form)) whole
 
 -- a length plus 1 leads to the same words as the length
-presence_behind : (T : Table) (k : Kind) (p n : ℕ) → behind T (run_presence k) p (n + 1) ≡ run_expected k n (p + 1)
+presence_behind : (T : Table) (k : Kind) (p n : ℕ) → expected_after T (run_presence k) p (n + 1) ≡ run_expected k n (p + 1)
 presence_behind T k p n =
     let less : n + 1 - 1 ≡ n = omega arith in
     elim (eqb_tells n 0) [
@@ -197,8 +197,8 @@ pub optional_run : (T : Table) (H : ℕ) (k : Kind) (place : ℕ) (bytes : List 
 optional_run T H k place bytes c d before mid next is small slot size within put puts =
     let two : place + 1 + 1 ≡ place + 2 = omega arith in
     let less : length bytes + 1 - 1 ≡ length bytes = omega arith in
-    let there : PutsAt T H (behind T (run_presence k) place (length bytes + 1)) (place + 1) (place + 2) c d mid next (λ P. run_at (length bytes) P ≡ bytes)
-    = subst (λ b. PutsAt T H (behind T (run_presence k) place (length bytes + 1)) (place + 1) b c d mid next (λ P. run_at (length bytes) P ≡ bytes)) two
+    let there : PutsAt T H (expected_after T (run_presence k) place (length bytes + 1)) (place + 1) (place + 2) c d mid next (λ P. run_at (length bytes) P ≡ bytes)
+    = subst (λ b. PutsAt T H (expected_after T (run_presence k) place (length bytes + 1)) (place + 1) b c d mid next (λ P. run_at (length bytes) P ≡ bytes)) two
     (subst (λ es. PutsAt T H es (place + 1) (place + 1 + 1) c d mid next (λ P. run_at (length bytes) P ≡ bytes)) (sym (presence_behind T k place (length bytes))) puts) in
     let whole : PutsWordAt T H (run_presence k, place) (place + 2) c d before next (λ w. slot_content T Optional k w ≡ Some (one (run bytes)))
     = word_put T H (run_presence k) place (length bytes + 1) (place + 2) c d before mid next

@@ -10,7 +10,7 @@ use Rattle.mrpc_table.specs.declared.tree.Value.{Value}
 use Rattle.graph_form.specs.Roles.{plain_role, elements_address, entries_address, elements_from, entries_from, element_words}
 use Rattle.graph_form.specs.Placed.{Placed, nothing, first, Word}
 use Rattle.graph_form.specs.Forgotten.{plain_item, elements_at, elements_in, entries_at, entries_in}
-use Rattle.graph_place.specs.Laid.{HoldsItem, listed}
+use Rattle.graph_place.specs.Laid.{IsSlotOf, listed}
 use Rattle.graph_place.specs.Size.{item_words, many_words, pairs_words, run_words_of}
 use Rattle.graph_place.proofs.Beginning.{Loads, begun_none, begun_more, begun_end, word_put, one_put, word_wide, content_put}
 use Rattle.graph_place.proofs.Fine.{fine_elements, fine_entries}
@@ -59,7 +59,7 @@ pub elements_more : (T : Table) (k : Kind) (all : List Value) (at c : ℕ) (befo
     → ElementsOn T k all at c before (v ∷ rest) next free now → free2 ≡ free + item_words T k (item_of v)
     → ((H level : ℕ) → free2 ≤ H → level + item_depth (item_of v) ≤ 33
     → PutsWordAt T H (plain_role k level true, next) (next + element_words k) free free2 now now2
-    (HoldsItem T k (item_of v)))
+    (IsSlotOf T k (item_of v)))
     → ElementsOn T k all at c before rest (next + element_words k) free2 now2
 elements_more T k all at c before v rest next free free2 now now2 r size puts = record {
   next_is = omega (arith, r.next_is);
@@ -71,7 +71,7 @@ elements_more T k all at c before v rest next free free2 now now2 r size puts = 
   on = λ H level within deep.
       let deep_v : level + item_depth (item_of v) ≤ 33 = omega (arith, deep, r.shallow) in
       begun_more T H (elements_from (length all) k level at) (plain_role k level true, next) (elements_from (length rest) k level (next + element_words k))
-      at next (next + element_words k) c free free2 before now now2 (Elements T k all) (Elements T k (v ∷ rest)) (Elements T k rest) (HoldsItem T k (item_of v))
+      at next (next + element_words k) c free free2 before now now2 (Elements T k all) (Elements T k (v ∷ rest)) (Elements T k rest) (IsSlotOf T k (item_of v))
       r.from (omega arith) (omega (arith, r.next_is)) r.past (omega (arith, size)) refl
       (r.on H level (omega (arith, within, size)) deep) (puts H level within deep_v)
       (λ Q w holds less. ap (λ i. item i (elements_in T k Q)) holds.item ∙ ap (item (item_of v)) less);
@@ -147,10 +147,10 @@ pub entries_more : (T : Table) (key k : Kind) (all : List (Value × Value)) (at 
     → EntriesOn T key k all at c before ((x, y) ∷ rest) next free now → mid ≡ free + run_words_of (item_of x) → free2 ≡ mid + item_words T k (item_of y)
     → ((H level : ℕ) → mid ≤ H → level + item_depth (item_of x) ≤ 33
     → PutsWordAt T H (plain_role key level true, next) (next + element_words key) free mid now then
-    (HoldsItem T key (item_of x)))
+    (IsSlotOf T key (item_of x)))
     → ((H level : ℕ) → free2 ≤ H → level + item_depth (item_of y) ≤ 33
     → PutsWordAt T H (plain_role k level true, next + 2) (next + 2 + element_words k) mid free2 then now2
-    (HoldsItem T k (item_of y)))
+    (IsSlotOf T k (item_of y)))
     → EntriesOn T key k all at c before rest (next + 4) free2 now2
 entries_more T key k all at c before x y rest next free mid free2 now then now2 r keyed sized keys values =
     let slot_key = narrow key in
@@ -166,28 +166,28 @@ entries_more T key k all at c before x y rest next free mid free2 now then now2 
       on = λ H level within deep.
           let key_deep : level + item_depth (item_of x) ≤ 33 = omega (arith, deep, r.shallow) in
           let value_deep : level + item_depth (item_of y) ≤ 33 = omega (arith, deep, r.shallow) in
-          let Behind : Placed → Type 0 = λ Q. (w : Word) → HoldsItem T key (item_of x) w → Entries T key k ((x, y) ∷ rest) (first w Q) in
+          let Behind : Placed → Type 0 = λ Q. (w : Word) → IsSlotOf T key (item_of x) w → Entries T key k ((x, y) ∷ rest) (first w Q) in
           let behind : BegunAt T H (entries_from (length all) key k level at) ((plain_role k level true, next + 2)
           ∷ entries_from (length rest) key k level (next + 4)) at (next + 2) c mid before then
           (Entries T key k all) Behind
           = begun_more T H (entries_from (length all) key k level at) (plain_role key level true, next)
           ((plain_role k level true, next + 2) ∷ entries_from (length rest) key k level (next + 4))
-          at next (next + 2) c free mid before now then (Entries T key k all) (Entries T key k ((x, y) ∷ rest)) Behind (HoldsItem T key (item_of x))
+          at next (next + 2) c free mid before now then (Entries T key k all) (Entries T key k ((x, y) ∷ rest)) Behind (IsSlotOf T key (item_of x))
           r.from (omega arith) (omega (arith, r.next_is)) r.past (omega (arith, keyed)) refl
           (r.on H level (omega (arith, within, keyed, sized)) deep)
           (word_wide T H (plain_role key level true, next) (next + element_words key) (next + 2) free mid now then
-          (HoldsItem T key (item_of x)) (HoldsItem T key (item_of x)) (omega (arith, slot_key))
+          (IsSlotOf T key (item_of x)) (IsSlotOf T key (item_of x)) (omega (arith, slot_key))
           (keys H level (omega (arith, within, sized)) key_deep) (λ w holds. holds))
           (λ Q w holds less. less w holds) in
           subst (λ b. BegunAt T H (entries_from (length all) key k level at)
           (entries_from (length rest) key k level (next + 4)) at b c free2 before now2 (Entries T key k all)
           (Entries T key k rest)) four
           (begun_more T H (entries_from (length all) key k level at) (plain_role k level true, next + 2) (entries_from (length rest) key k level (next + 4))
-          at (next + 2) (next + 2 + 2) c mid free2 before then now2 (Entries T key k all) Behind (Entries T key k rest) (HoldsItem T k (item_of y))
+          at (next + 2) (next + 2 + 2) c mid free2 before then now2 (Entries T key k all) Behind (Entries T key k rest) (IsSlotOf T k (item_of y))
           (omega (arith, r.from)) (omega arith) (omega (arith, r.next_is)) (omega (arith, r.past, keyed)) (omega (arith, sized)) refl
           behind
           (word_wide T H (plain_role k level true, next + 2) (next + 2 + element_words k)
-          (next + 2 + 2) mid free2 then now2 (HoldsItem T k (item_of y)) (HoldsItem T k (item_of y))
+          (next + 2 + 2) mid free2 then now2 (IsSlotOf T k (item_of y)) (IsSlotOf T k (item_of y))
           (omega (arith, slot_value)) (values H level within value_deep) (λ w holds. holds))
           (λ Q w holds less. λ x1 first_holds. ap (λ i. (i, plain_item T k w) ∷ entries_in T key k Q) first_holds.item
           ∙ ap (λ j. (item_of x, j) ∷ entries_in T key k Q) holds.item

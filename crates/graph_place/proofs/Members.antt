@@ -3,7 +3,7 @@ use Rattle.std.proofs.Common.{◌≡◌, ◌≢◌, ◌⊎◌, ℕ, ◌+◌, ◌
 use Rattle.std.proofs.Common.{None, refl, sym, ap, subst, ◌∙◌, arith, inl, inr}
 use Rattle.std.specs.Prelude.{option_map, unwrap_or}
 use Rattle.std.proofs.lemmas.Bool.{eq-eqb, ne_eqb, cases_Bool, true≢false}
-use Rattle.mrpc_table.specs.Node.{Node, no_fields, field, Content, content_at, NumbersAscend}
+use Rattle.mrpc_table.specs.Node.{Node, no_fields, field, Content, content_at, AreNumbersAscending}
 use Rattle.mrpc_table.specs.Normal.{field_at, members_in, membership}
 use Rattle.mrpc_table.specs.declared.table.Field.{Field}
 use Rattle.mrpc_table.specs.declared.table.Label.{Label}
@@ -62,7 +62,7 @@ one_more fs o last n c t found fails sole =
     }
 
 one_first : (fs : List Field) (o n : ℕ) (c : Content) (t : Node) (found : ℕ) → found ≡ n → is_member_of fs o n ≡ true
-    → NumbersAscend n t → Each (λ k. is_member_of fs o k ≡ false) t → OneMember fs o (field n c t) found
+    → AreNumbersAscending n t → Each (λ k. is_member_of fs o k ≡ false) t → OneMember fs o (field n c t) found
 one_first fs o n c t found e holds up none = record {
   content = c;
   at = ap (λ b. cond b (Some c) (content_at t found)) (eq-eqb n found (sym e));
@@ -75,7 +75,7 @@ one_first fs o n c t found e holds up none = record {
   );
 }
 
-pub one_member : (fs : List Field) (o otherwise last : ℕ) (t : Node) → NumbersAscend last t → members_in fs o t ≤ 1
+pub one_member : (fs : List Field) (o otherwise last : ℕ) (t : Node) → AreNumbersAscending last t → members_in fs o t ≤ 1
     → (members_in fs o t ≡ 0) ⊎ OneMember fs o t (member_of fs o otherwise t)
 one_member fs o otherwise last no_fields up few = inl refl
 one_member fs o otherwise last (field n c t) up few =
@@ -99,14 +99,14 @@ pub data Tells (fs : List Field) (o : ℕ) (t : Node) (found : ℕ) : Type 0 whe
   tells_none : found ≡ 0 → Each (λ n. is_member_of fs o n ≡ false) t → Tells fs o t found
   tells_one : found ≢ 0 → OneMember fs o t found → Tells fs o t found
 
-pub member_tells : (fs : List Field) (o : ℕ) (t : Node) → NumbersAscend 0 t → members_in fs o t ≤ 1 → Tells fs o t (member_of fs o 0 t)
+pub member_tells : (fs : List Field) (o : ℕ) (t : Node) → AreNumbersAscending 0 t → members_in fs o t ≤ 1 → Tells fs o t (member_of fs o 0 t)
 member_tells fs o t up few =
     elim (one_member fs o 0 0 t up few) [
       | inl none ↦ let n = no_member fs o 0 t none in tells_none n.is n.none
       | inr sole ↦ tells_one (λ zero_is. let e : None ≡ Some sole.content = sym (ap (λ n. content_at t n) zero_is ∙ absent 0 0 t (omega arith) up) ∙ sole.at in absurd (cc)) sole
     ]
 
-pub tells_member : (fs : List Field) (o : ℕ) (t : Node) (found : ℕ) → NumbersAscend 0 t → Tells fs o t found → IsMemberOf fs o t found
+pub tells_member : (fs : List Field) (o : ℕ) (t : Node) (found : ℕ) → AreNumbersAscending 0 t → Tells fs o t found → IsMemberOf fs o t found
 tells_member fs o t found up (tells_none is none) = record {
   none = λ zero_is. ap (λ n. content_at t n) zero_is ∙ absent 0 0 t (omega arith) up;
   there = λ some. absurd (some is);

@@ -3,17 +3,17 @@ use Rattle.std.proofs.Common.{◌≡◌, ◌≢◌, ℕ, suc, ◌+◌, ◌-◌, 
 use Rattle.std.proofs.Common.{◌++◌, length, drop, get_or, Some, sym, ap, subst, ◌∙◌, arith, inl, inr}
 use Rattle.std.proofs.lemmas.Bool.{cases_Bool}
 use Rattle.mrpc_table.specs.Node.{Node, no_fields, field, Content, one, many, pairs, Item, content_at}
-use Rattle.mrpc_table.specs.Normal.{fields_of, field_at, HasFields, OneMemberEach, TakesMany, IsItem, depth, item_depth, kind_at}
+use Rattle.mrpc_table.specs.Normal.{fields_of, field_at, HasFields, HasOneMemberEach, CanHaveMany, IsItem, depth, item_depth, kind_at}
 use Rattle.mrpc_table.specs.Valid.{IsValid, IsField}
 use Rattle.mrpc_table.specs.declared.table.Kind.{Kind}
 use Rattle.mrpc_table.specs.declared.table.Label.{Label}
 use Rattle.mrpc_table.specs.declared.table.Label.TheVariants.{Map, Member}
 use Rattle.mrpc_table.specs.declared.table.Field.{Field}
 use Rattle.mrpc_table.specs.declared.table.Table.{Table}
-use Rattle.graph_form.specs.Roles.{Expected, slot_role, case_word, slots_from, cases_from, own_slots, oneofs_of, size_words, is_member}
+use Rattle.graph_form.specs.Roles.{Expected, slot_role, case_word, slots_from, cases_from, own_slots, oneof_count, size_words, is_member}
 use Rattle.graph_form.specs.Forgotten.{with_field, slots_tree, slot_content, with_member}
 use Rattle.graph_place.specs.Content.{is_member_of, member_of}
-use Rattle.graph_place.specs.Laid.{keep, is_member_at, members, found_words, IsMemberOf}
+use Rattle.graph_place.specs.Laid.{keep, is_member_at, members, optional_content_words, IsMemberOf}
 use Rattle.graph_place.specs.Size.{fields_words}
 use Rattle.graph_place.proofs.Beginning.{Loads}
 use Rattle.graph_place.proofs.Fields.{own_here, fields_ascend, content_has, content_within, are_fields, field_is, all_members, member_found}
@@ -34,7 +34,7 @@ SlotsPut T m t at c before d next =
 abbrev pub CasesPut : Table → ℕ → Node → ℕ → ℕ → Loads → ℕ → Loads → Type 0
 CasesPut T m t at c before d next =
     (H level : ℕ) → d ≤ H → level + depth t ≤ 33
-    → PutsAt T H (cases_from (oneofs_of T m) (fields_of T m) 0 level at) at (at + 3 * oneofs_of T m) c d before next (λ P. slots_tree T (fields_of T m) [] P ≡ members (fields_of T m) t)
+    → PutsAt T H (cases_from (oneof_count T m) (fields_of T m) 0 level at) at (at + 3 * oneof_count T m) c d before next (λ P. slots_tree T (fields_of T m) [] P ≡ members (fields_of T m) t)
 
 pub keep_less : (T : Table) (fs : List Field) (p : ℕ → Bool) (t : Node) → fields_words T fs (keep p t) ≤ fields_words T fs t
 keep_less T fs p no_fields = omega arith
@@ -59,7 +59,7 @@ node_puts T m t f0 at f1 place f2 f3 w0 w1 w2 w3 first grown words behind middle
     = subst (λ p. CasesPut T m t p f2 w2 f3 w3) (behind ∙ ap (λ a. a + 2 * length (own_slots (fields_of T m))) first) cases in
     λ H level within deep.
     node_put T H m level t f0 f3 f2 w0 w2 w3 lower upper
-    (there H level (cases_from (oneofs_of T m) (fields_of T m) 0 level (f0 + 2 * length (own_slots (fields_of T m)))) (omega (arith, upper, within)) deep) (then H level within deep)
+    (there H level (cases_from (oneof_count T m) (fields_of T m) 0 level (f0 + 2 * length (own_slots (fields_of T m)))) (omega (arith, upper, within)) deep) (then H level within deep)
 
 -- ---- slots of fields
 
@@ -75,7 +75,7 @@ pub record FieldFits (T : Table) (f : Field) (t : Node) (place free : ℕ) : Typ
   pub field : (oneofs : ℕ) × IsField T oneofs f
   pub from : 1 ≤ place
   pub slot : is_member f.label ≡ false → place + 2 ≤ free
-  pub room : is_member f.label ≡ false → free + found_words T f.kind (content_at t f.number) < 2 ^ 64
+  pub room : is_member f.label ≡ false → free + optional_content_words T f.kind (content_at t f.number) < 2 ^ 64
 
 pub field_fits : (T : Table) (m : ℕ) (t : Node) (at c : ℕ) (before : Loads) (all : List Field) (i : ℕ) (f : Field)
     (place free : ℕ) (now : Loads) → IsValid T → HasFields T (fields_of T m) 0 t → 1 ≤ at
@@ -88,7 +88,7 @@ field_fits T m t at c before all i f place free now valid has from slots room wi
     in
     record {
       known = (fields_of T m, has, r.each.0);
-      field = (oneofs_of T m, field_is T (oneofs_of T m) (fields_of T m) f.number f (are_fields T m valid).each r.each.0);
+      field = (oneof_count T m, field_is T (oneof_count T m) (fields_of T m) f.number f (are_fields T m valid).each r.each.0);
       from = omega (arith, from, r.from);
       slot = λ fails. let count : length (own_slots (f ∷ drop (i + 1) all))
           ≡ suc (length (own_slots (drop (i + 1) all))) = ap length (own_here f (drop (i + 1) all) fails) in
@@ -102,7 +102,7 @@ pub slots_step : (T : Table) (fs : List Field) (t : Node) (at c : ℕ) (before :
     → i < length all → f ≡ get_or all i f → SlotsOn T fs t at c before (drop i all) place free now
     → (is_member f.label ≡ true → (next ≡ place) × (free2 ≡ free) × (now2 ≡ now))
     → (is_member f.label ≡ false → next ≡ place + 2)
-    → (is_member f.label ≡ false → free2 ≡ free + found_words T f.kind (content_at t f.number))
+    → (is_member f.label ≡ false → free2 ≡ free + optional_content_words T f.kind (content_at t f.number))
     → (is_member f.label ≡ false → FieldPut T f t place free now free2 now2)
     → SlotsOn T fs t at c before (drop (i + 1) all) next free2 now2
 slots_step T fs t at c before all i f place next free free2 now now2 has slots within is on past moved size puts =
@@ -128,23 +128,23 @@ CasePut T fs t member place c before d next =
 
 pub cases_first : (T : Table) (m : ℕ) (t : Node) (at c : ℕ) (before : Loads) → IsValid T
     → HasFields T (fields_of T m) 0 t
-    → CasesOn T (fields_of T m) t (oneofs_of T m) at c before 0 (oneofs_of T m - 0) at c before
+    → CasesOn T (fields_of T m) t (oneof_count T m) at c before 0 (oneof_count T m - 0) at c before
 cases_first T m t at c before valid has =
-    let all : oneofs_of T m ≡ oneofs_of T m - 0 = omega arith in
-    subst (λ n. CasesOn T (fields_of T m) t (oneofs_of T m) at c before 0 n at c before) all
-    (cases_begin T (fields_of T m) t (oneofs_of T m) at c before (all_members T (oneofs_of T m) (fields_of T m) t (are_fields T m valid).each has))
+    let all : oneof_count T m ≡ oneof_count T m - 0 = omega arith in
+    subst (λ n. CasesOn T (fields_of T m) t (oneof_count T m) at c before 0 n at c before) all
+    (cases_begin T (fields_of T m) t (oneof_count T m) at c before (all_members T (oneof_count T m) (fields_of T m) t (are_fields T m valid).each has))
 
 pub record CaseFits (T : Table) (fs : List Field) (t : Node) (member place free : ℕ) : Type 0 where
   pub known : (oneof : ℕ) × IsMemberOf fs oneof t member
   pub from : 1 ≤ place
   pub slot : place + 3 ≤ free
-  pub room : free + found_words T (kind_at fs member) (content_at t member) < 2 ^ 64
+  pub room : free + optional_content_words T (kind_at fs member) (content_at t member) < 2 ^ 64
 
-tells : (T : Table) (fs : List Field) (o : ℕ) (t : Node) (member : ℕ) → HasFields T fs 0 t → OneMemberEach fs t → member ≡ member_of fs o 0 t → Tells fs o t member
+tells : (T : Table) (fs : List Field) (o : ℕ) (t : Node) (member : ℕ) → HasFields T fs 0 t → HasOneMemberEach fs t → member ≡ member_of fs o 0 t → Tells fs o t member
 tells T fs o t member has few is = subst (Tells fs o t) (sym is) (member_tells fs o t (fields_ascend T fs 0 t has) (few o))
 
 pub case_fits : (T : Table) (fs : List Field) (t : Node) (all at c : ℕ) (before : Loads) (o place free member : ℕ)
-    (now : Loads) → HasFields T fs 0 t → OneMemberEach fs t → 1 ≤ at → at + 3 * all ≤ c
+    (now : Loads) → HasFields T fs 0 t → HasOneMemberEach fs t → 1 ≤ at → at + 3 * all ≤ c
     → c + fields_words T fs (members fs t) < 2 ^ 64 → o < all → member ≡ member_of fs o 0 t
     → CasesOn T fs t all at c before o (all - o) place free now → CaseFits T fs t member place free
 case_fits T fs t all at c before o place free member now has few from slots room more is on =
@@ -161,10 +161,10 @@ case_fits T fs t all at c before o place free member now has few from slots room
     }
 
 pub cases_step : (T : Table) (fs : List Field) (t : Node) (all at c : ℕ) (before : Loads)
-    (o place next free free2 member : ℕ) (now now2 : Loads) → HasFields T fs 0 t → OneMemberEach fs t
+    (o place next free free2 member : ℕ) (now now2 : Loads) → HasFields T fs 0 t → HasOneMemberEach fs t
     → at + 3 * all ≤ c → o < all
     → member ≡ member_of fs o 0 t → next ≡ place + 3 → CasesOn T fs t all at c before o (all - o) place free now
-    → free2 ≡ free + found_words T (kind_at fs member) (content_at t member)
+    → free2 ≡ free + optional_content_words T (kind_at fs member) (content_at t member)
     → CasePut T fs t member place free now free2 now2
     → CasesOn T fs t all at c before (o + 1) (all - (o + 1)) next free2 now2
 cases_step T fs t all at c before o place next free free2 member now now2 has few slots more is step on size puts =
@@ -211,7 +211,7 @@ member_item T fs t o n (many is) has member at =
     let h = content_has T fs 0 n (many is) t has at in
     let m = member_found fs o n member in
     let same : h.0 ≡ m.0 = (let e : Some h.0 ≡ Some m.0 = sym h.1 ∙ m.1 in cc) in
-    absurd (subst TakesMany (ap (λ (f : Field). f.label) same ∙ m.2) h.2)
+    absurd (subst CanHaveMany (ap (λ (f : Field). f.label) same ∙ m.2) h.2)
 member_item T fs t o n (pairs ps) has member at =
     let h = content_has T fs 0 n (pairs ps) t has at in
     let m = member_found fs o n member in

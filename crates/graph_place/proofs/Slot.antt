@@ -6,8 +6,8 @@ use Rattle.std.specs.declared.cmp.Ordering.TheVariants.{Less, Equal, Greater}
 use Rattle.std.proofs.lemmas.Bool.{ne_eqb, true≢false, false≢true}
 use Rattle.std.proofs.lemmas.Bool.Decides.{nat_tests}
 use Rattle.mrpc_table.specs.Node.{Content, one, many, pairs, Item, number, run, node, Items, no_items, Pairs, no_pairs, pair}
-use Rattle.mrpc_table.specs.Normal.{field_at, IsDefault, TakesOne, TakesMany, IsItem, AreItems, ArePairs, IsBefore, AscendFrom, KeysAscend, HasContent}
-use Rattle.mrpc_table.specs.Valid.{IsField, GoesWith, IsMessageKind}
+use Rattle.mrpc_table.specs.Normal.{field_at, IsDefault, CanHaveOne, CanHaveMany, IsItem, AreItems, ArePairs, IsBefore, AreKeysAscendingFrom, AreKeysAscending, HasContent}
+use Rattle.mrpc_table.specs.Valid.{IsField, IsLabelFor, IsMessageKind}
 use Rattle.mrpc_table.specs.View.{items_of, pairs_of}
 use Rattle.mrpc_table.specs.Words.{rank}
 use Rattle.mrpc_table.specs.declared.table.Kind.{Kind}
@@ -18,10 +18,10 @@ use Rattle.mrpc_table.specs.declared.table.Field.{Field}
 use Rattle.mrpc_table.specs.declared.table.Table.{Table}
 use Rattle.mrpc_table.specs.declared.tree.Value.{Value}
 use Rattle.mrpc_table.specs.MapEntries.{key_cmp, with_pair, last_of_each}
-use Rattle.graph_form.specs.Roles.{behind, count, entry_count, elements_address, entries_address, plain_role, slot_role, is_member, element_words}
+use Rattle.graph_form.specs.Roles.{expected_after, count, entry_count, elements_address, entries_address, plain_role, slot_role, is_member, element_words}
 use Rattle.graph_form.specs.Placed.{Placed, Word, word}
 use Rattle.graph_form.specs.Forgotten.{slot_content, plain_item, elements_at, entries_at}
-use Rattle.graph_place.specs.Laid.{HoldsItem, HoldsContent, listed, value_of}
+use Rattle.graph_place.specs.Laid.{IsSlotOf, IsContentFor, listed, value_of}
 use Rattle.graph_place.specs.Size.{many_words, pairs_words}
 use Rattle.graph_place.proofs.Beginning.{Loads, word_put, word_wide}
 use Rattle.graph_place.proofs.Fine.{fine_count, fine_entry_count}
@@ -33,19 +33,19 @@ use Rattle.graph_place.proofs.Widths.{narrow}
 
 is_true_key : (T : Table) (oneofs : ℕ) (f : Field) (key : Kind) → IsField T oneofs f → f.label ≡ Map key → (m : ℕ) → key ≢ OfMessage m
 is_true_key T oneofs f key is e m same =
-    let goes : GoesWith oneofs (Map (OfMessage m)) f.kind = subst (λ k. GoesWith oneofs (Map k) f.kind) same (subst (λ l. GoesWith oneofs l f.kind) e is.label) in
+    let goes : IsLabelFor oneofs (Map (OfMessage m)) f.kind = subst (λ k. IsLabelFor oneofs (Map k) f.kind) same (subst (λ l. IsLabelFor oneofs l f.kind) e is.label) in
     false≢true goes
 
 pub content_holds : (T : Table) (oneofs : ℕ) (fs : List Field) (n : ℕ) (f : Field) (c : Content) → IsField T oneofs f
-    → field_at fs n ≡ Some f → HasContent T fs n c → HoldsContent T f.label f.kind c
+    → field_at fs n ≡ Some f → HasContent T fs n c → IsContentFor T f.label f.kind c
 content_holds T oneofs fs n f (one i) is at h =
     let e : h.0 ≡ f = (let s : Some h.0 ≡ Some f = sym h.1 ∙ at in cc) in (
-      (subst (λ g. TakesOne g.label i) e h.2, subst (λ g. IsItem T g.kind i) e h.3),
-      λ label m same. subst (λ k. IsMessageKind k → ⊥) same (subst (λ l. GoesWith oneofs l f.kind) label is.label) tt,
+      (subst (λ g. CanHaveOne g.label i) e h.2, subst (λ g. IsItem T g.kind i) e h.3),
+      λ label m same. subst (λ k. IsMessageKind k → ⊥) same (subst (λ l. IsLabelFor oneofs l f.kind) label is.label) tt,
     )
 content_holds T oneofs fs n f (many is) field_is at h =
     let e : h.0 ≡ f = (let s : Some h.0 ≡ Some f = sym h.1 ∙ at in cc) in
-    (subst (λ g. TakesMany g.label) e h.2, h.3, subst (λ g. AreItems T g.kind is) e h.4)
+    (subst (λ g. CanHaveMany g.label) e h.2, h.3, subst (λ g. AreItems T g.kind is) e h.4)
 content_holds T oneofs fs n f (pairs ps) is at h =
     let e : h.0 ≡ f = (let s : Some h.0 ≡ Some f = sym h.2 ∙ at in cc) in
     let label : f.label ≡ Map h.1 = ap (λ g. g.label) (sym e) ∙ h.3 in
@@ -65,16 +65,16 @@ before_cmp k (run a) (number n) h = absurd h
 before_cmp k (run a) (node t) h = absurd h
 before_cmp k (node t) j h = absurd h
 
-put_first : (key : Kind) (i j : Item) (ps : Pairs) → AscendFrom key i ps → with_pair key i j ps ≡ pair i j ps
+put_first : (key : Kind) (i j : Item) (ps : Pairs) → AreKeysAscendingFrom key i ps → with_pair key i j ps ≡ pair i j ps
 put_first key i j no_pairs h = refl
 put_first key i j (pair l w ps) h =
     ap (λ r. elim r [ Less ↦ pair i j (pair l w ps) | Equal ↦ pair l w ps | Greater ↦ pair l w (with_pair key i j ps) ]) (before_cmp key i l h.0)
 
-ascend_tail : (k : Kind) (i : Item) (ps : Pairs) → AscendFrom k i ps → KeysAscend k ps
+ascend_tail : (k : Kind) (i : Item) (ps : Pairs) → AreKeysAscendingFrom k i ps → AreKeysAscending k ps
 ascend_tail k i no_pairs h = tt
 ascend_tail k i (pair l w ps) h = h.1
 
-last_kept : (key : Kind) (ps : Pairs) → KeysAscend key ps → last_of_each key (listed ps) ≡ ps
+last_kept : (key : Kind) (ps : Pairs) → AreKeysAscending key ps → last_of_each key (listed ps) ≡ ps
 last_kept key no_pairs h = refl
 last_kept key (pair i j ps) h = ap (with_pair key i j) (last_kept key ps (ascend_tail key i ps h)) ∙ put_first key i j ps h
 
@@ -84,7 +84,7 @@ plain_says : (T : Table) (k : Kind) (w : Word) → value_of w ≢ 0 → slot_con
 plain_says T (OfMessage m) (word p v P) some = ap (λ b. cond b None (Some (one (plain_item T (OfMessage m) (word p v P))))) (ne_eqb v 0 some)
 plain_says T k (word p v P) some = ap (λ b. cond b None (Some (one (plain_item T k (word p v P))))) (ne_eqb v 0 some)
 
-plain_label : (l : Label) (i : Item) → is_member l ≡ false → l ≢ Optional → TakesOne l i → l ≡ Plain
+plain_label : (l : Label) (i : Item) → is_member l ≡ false → l ≢ Optional → CanHaveOne l i → l ≡ Plain
 plain_label Plain i fails other takes = refl
 plain_label Optional i fails other takes = absurd (other refl)
 plain_label Repeated i fails other takes = absurd takes
@@ -92,21 +92,21 @@ plain_label Packed i fails other takes = absurd takes
 plain_label (Map key) i fails other takes = absurd takes
 plain_label (Member o) i fails other takes = absurd (true≢false fails)
 
-pub slot_plain : (T : Table) (H : ℕ) (l : Label) (k : Kind) (level place : ℕ) (i : Item) (c d : ℕ) (before next : Loads) → is_member l ≡ false → l ≢ Optional → TakesOne l i
-    → PutsWordAt T H (plain_role k level false, place) (place + element_words k) c d before next (HoldsItem T k i)
+pub slot_plain : (T : Table) (H : ℕ) (l : Label) (k : Kind) (level place : ℕ) (i : Item) (c d : ℕ) (before next : Loads) → is_member l ≡ false → l ≢ Optional → CanHaveOne l i
+    → PutsWordAt T H (plain_role k level false, place) (place + element_words k) c d before next (IsSlotOf T k i)
     → PutsWordAt T H (slot_role l k level, place) (place + 2) c d before next (λ w. slot_content T l k w ≡ Some (one i))
 slot_plain T H l k level place i c d before next fails other takes puts =
     let plain = plain_label l i fails other takes in
-    let some : IsDefault i → ⊥ = subst (λ x. TakesOne x i) plain takes in
+    let some : IsDefault i → ⊥ = subst (λ x. CanHaveOne x i) plain takes in
     let wide = narrow k in
     let whole : PutsWordAt T H (plain_role k level false, place) (place + 2) c d before next (λ w. slot_content T Plain k w ≡ Some (one i))
     = word_wide T H (plain_role k level false, place) (place + element_words k) (place + 2) c d before next
-    (HoldsItem T k i) (λ w. slot_content T Plain k w ≡ Some (one i)) (omega (arith, wide)) puts
+    (IsSlotOf T k i) (λ w. slot_content T Plain k w ≡ Some (one i)) (omega (arith, wide)) puts
     (λ w holds. plain_says T k w (holds.some some) ∙ ap (λ j. Some (one j)) holds.item) in
     subst (λ x. PutsWordAt T H (slot_role x k level, place) (place + 2) c d before next (λ w. slot_content T x k w ≡ Some (one i))) (sym plain) whole
 
 -- elements after their count
-count_behind : (T : Table) (k : Kind) (level p n : ℕ) → n ≢ 0 → behind T (count k level) p n ≡ (elements_address k n level, p + 1) ∷ []
+count_behind : (T : Table) (k : Kind) (level p n : ℕ) → n ≢ 0 → expected_after T (count k level) p n ≡ (elements_address k n level, p + 1) ∷ []
 count_behind T k level p n some = ap (λ b. cond b [] ((elements_address k n level, p + 1) ∷ [])) (ne_eqb n 0 some)
 
 some_items : (vs : List Value) → items_of vs ≢ no_items → length vs ≢ 0
@@ -142,7 +142,7 @@ packed_same : (T : Table) (k : Kind) (c : Content) (w : Word) → slot_content T
 packed_same T k c (word p v P) made = made
 
 pub slot_many : (T : Table) (H : ℕ) (l : Label) (k : Kind) (level place : ℕ) (vs : List Value) (c d : ℕ)
-    (before mid next : Loads) → TakesMany l → items_of vs ≢ no_items → length vs < 2 ^ 64 → place + 2 ≤ c
+    (before mid next : Loads) → CanHaveMany l → items_of vs ≢ no_items → length vs < 2 ^ 64 → place + 2 ≤ c
     → d ≡ c + many_words T k (items_of vs) → d ≤ H
     → mid ≡ before ++ (place, length vs) ∷ []
     → PutsAt T H ((elements_address k (length vs) level, place + 1) ∷ []) (place + 1) (place + 1 + 1) c d mid next (λ P. elements_at T k P ≡ items_of vs)
@@ -160,17 +160,17 @@ slot_many T H (Map key) k level place vs c d before mid next takes some small sl
 slot_many T H (Member o) k level place vs c d before mid next takes some small slot size within put puts = absurd takes
 
 -- entries after their count
-entries_behind : (T : Table) (key k : Kind) (level p n : ℕ) → n ≢ 0 → behind T (entry_count key k level) p n ≡ (entries_address key k n level, p + 1) ∷ []
+entries_behind : (T : Table) (key k : Kind) (level p n : ℕ) → n ≢ 0 → expected_after T (entry_count key k level) p n ≡ (entries_address key k n level, p + 1) ∷ []
 entries_behind T key k level p n some = ap (λ b. cond b [] ((entries_address key k n level, p + 1) ∷ [])) (ne_eqb n 0 some)
 
-pairs_say : (T : Table) (key k : Kind) (p v : ℕ) (P : Placed) (ps : Pairs) → v ≢ 0 → KeysAscend key ps
+pairs_say : (T : Table) (key k : Kind) (p v : ℕ) (P : Placed) (ps : Pairs) → v ≢ 0 → AreKeysAscending key ps
     → entries_at T key k P ≡ listed ps → slot_content T (Map key) k (word p v P) ≡ Some (pairs ps)
 pairs_say T key k p v P ps some up made =
     ap (λ b. cond b None (Some (pairs (last_of_each key (entries_at T key k P))))) (ne_eqb v 0 some)
     ∙ ap (λ es. Some (pairs (last_of_each key es))) made ∙ ap (λ x. Some (pairs x)) (last_kept key ps up)
 
 pub slot_pairs : (T : Table) (H : ℕ) (l : Label) (key k : Kind) (level place : ℕ) (es : List (Value × Value))
-    (c d : ℕ) (before mid next : Loads) → l ≡ Map key → pairs_of es ≢ no_pairs → KeysAscend key (pairs_of es)
+    (c d : ℕ) (before mid next : Loads) → l ≡ Map key → pairs_of es ≢ no_pairs → AreKeysAscending key (pairs_of es)
     → length es < 2 ^ 64 → place + 2 ≤ c
     → d ≡ c + pairs_words T k (pairs_of es) → d ≤ H
     → mid ≡ before ++ (place, length es) ∷ []

@@ -4,16 +4,16 @@ use Rattle.std.proofs.Common.{[], ◌∷◌, ◌++◌, length, Some, None, refl,
 use Rattle.std.specs.Prelude.{option_map, unwrap_or}
 use Rattle.std.specs.List.{AllByRecursion}
 use Rattle.std.proofs.lemmas.Bool.{eq-eqb, ne_eqb, or_from, cases_Bool}
-use Rattle.mrpc_table.specs.Node.{Node, no_fields, one, Item, content_at, NumbersAscend}
+use Rattle.mrpc_table.specs.Node.{Node, no_fields, one, Item, content_at, AreNumbersAscending}
 use Rattle.mrpc_table.specs.Normal.{fields_of, field_at, HasFields, depth, kind_at}
 use Rattle.mrpc_table.specs.declared.table.Kind.TheVariants.{Uint64}
 use Rattle.mrpc_table.specs.declared.table.Field.{Field}
 use Rattle.mrpc_table.specs.declared.table.Table.{Table}
-use Rattle.graph_form.specs.Roles.{Expected, behind, plain_role, slot_role, case_word, slots_from, cases_from, node_words, own_slots, oneofs_of, size_words, is_member, element_words}
+use Rattle.graph_form.specs.Roles.{Expected, expected_after, plain_role, slot_role, case_word, slots_from, cases_from, node_words, own_slots, oneof_count, size_words, is_member, element_words}
 use Rattle.graph_form.specs.Placed.{word}
 use Rattle.graph_form.specs.Forgotten.{with_field, slots_tree, slot_content, with_member, tree_of}
 use Rattle.graph_place.specs.Content.{is_member_of}
-use Rattle.graph_place.specs.Laid.{HoldsItem, keep, is_member_at, members, found_words}
+use Rattle.graph_place.specs.Laid.{IsSlotOf, keep, is_member_at, members, optional_content_words}
 use Rattle.graph_place.specs.Size.{fields_words}
 use Rattle.graph_place.proofs.Beginning.{Loads, begun_none, begun_more, begun_end, begun_join, word_put, one_put, word_wide, content_put}
 use Rattle.graph_place.proofs.Fields.{is_left, has_number, left_step, own_here, own_past, all_left, members_left, member_at, fields_ascend, in_oneofs, member_found, not_behind, InNumbers}
@@ -116,7 +116,7 @@ slots_past T fs t at c before f rest place free now r holds =
           (r.on H level others within deep);
     }
 
-left_next : (fs : List Field) (f : Field) (rest : List Field) (t : Node) → NumbersAscend 0 t → field_at fs f.number ≡ Some f → is_member f.label ≡ false → InNumbers (f ∷ rest)
+left_next : (fs : List Field) (f : Field) (rest : List Field) (t : Node) → AreNumbersAscending 0 t → field_at fs f.number ≡ Some f → is_member f.label ≡ false → InNumbers (f ∷ rest)
     → keep (is_left fs (f ∷ own_slots rest)) t ≡ with_field f.number (content_at t f.number) (Left fs rest t)
 left_next fs f rest t up found fails ascend =
     keep_step (is_left fs (f ∷ own_slots rest)) (is_left fs (own_slots rest)) f.number 0 t up
@@ -130,13 +130,13 @@ kind_is fs n f at = ap (λ o. unwrap_or (option_map (λ x. x.kind) o) Uint64) at
 pub next_words : (T : Table) (fs : List Field) (t : Node) (at c : ℕ) (before : Loads) (f : Field) (rest : List Field)
     (place free : ℕ) (now : Loads) → HasFields T fs 0 t → SlotsOn T fs t at c before (f ∷ rest) place free now
     → is_member f.label ≡ false
-    → free + (found_words T f.kind (content_at t f.number) + fields_words T fs (Left fs rest t)) ≡ c + fields_words T fs t
+    → free + (optional_content_words T f.kind (content_at t f.number) + fields_words T fs (Left fs rest t)) ≡ c + fields_words T fs t
 next_words T fs t at c before f rest place free now has r fails =
     let same = own_here f rest fails in
     let step = left_next fs f rest t (fields_ascend T fs 0 t has) r.each.0 fails r.ascend in
-    let sum : fields_words T fs (keep (is_left fs (f ∷ own_slots rest)) t) ≡ found_words T f.kind (content_at t f.number) + fields_words T fs (Left fs rest t)
+    let sum : fields_words T fs (keep (is_left fs (f ∷ own_slots rest)) t) ≡ optional_content_words T f.kind (content_at t f.number) + fields_words T fs (Left fs rest t)
     = ap (fields_words T fs) step ∙ with_words T fs f.number (content_at t f.number) (Left fs rest t)
-    ∙ ap (λ k. found_words T k (content_at t f.number) + fields_words T fs (Left fs rest t))
+    ∙ ap (λ k. optional_content_words T k (content_at t f.number) + fields_words T fs (Left fs rest t))
     (kind_is fs f.number f r.each.0) in
     let now_is : free + fields_words T fs (keep (is_left fs (f ∷ own_slots rest)) t) ≡ c + fields_words T fs t =
     ap (λ xs. free + fields_words T fs (keep (is_left fs xs) t)) (sym same) ∙ r.free_is in
@@ -144,7 +144,7 @@ next_words T fs t at c before f rest place free now has r fails =
 
 pub slots_more : (T : Table) (fs : List Field) (t : Node) (at c : ℕ) (before : Loads) (f : Field) (rest : List Field)
     (place free free2 : ℕ) (now now2 : Loads) → HasFields T fs 0 t → at + 2 * length (own_slots fs) ≤ c
-    → SlotsOn T fs t at c before (f ∷ rest) place free now → is_member f.label ≡ false → free2 ≡ free + found_words T f.kind (content_at t f.number)
+    → SlotsOn T fs t at c before (f ∷ rest) place free now → is_member f.label ≡ false → free2 ≡ free + optional_content_words T f.kind (content_at t f.number)
     → ((H level : ℕ) → free2 ≤ H → level + depth t ≤ 33
     → PutsWordAt T H (slot_role f.label f.kind level, place) (place + 2) free free2 now now2
     (λ w. slot_content T f.label f.kind w ≡ content_at t f.number))
@@ -239,7 +239,7 @@ or_turned true false x e = e
 or_turned false true x e = refl
 or_turned false false x e = e
 
-behind_next : (fs : List Field) (o left m : ℕ) (t : Node) → NumbersAscend 0 t → Tells fs o t m → Behind fs o (suc left) t ≡ with_field m (content_at t m) (Behind fs (o + 1) left t)
+behind_next : (fs : List Field) (o left m : ℕ) (t : Node) → AreNumbersAscending 0 t → Tells fs o t m → Behind fs o (suc left) t ≡ with_field m (content_at t m) (Behind fs (o + 1) left t)
 behind_next fs o left m t up (tells_none is none) =
     keep_same (in_oneofs fs o (suc left)) (in_oneofs fs (o + 1) left) t
     (each_weaker (λ n. is_member_of fs o n ≡ false) (λ n. in_oneofs fs o (suc left) n
@@ -253,16 +253,16 @@ behind_next fs o left m t up (tells_one some sole) =
     (not_behind fs o left m sole.is)
 
 pub next_case_words : (T : Table) (fs : List Field) (t : Node) (all at c : ℕ) (before : Loads)
-    (o left place free m : ℕ) (now : Loads) → NumbersAscend 0 t → Tells fs o t m
+    (o left place free m : ℕ) (now : Loads) → AreNumbersAscending 0 t → Tells fs o t m
     → CasesOn T fs t all at c before o (suc left) place free now
-    → free + (found_words T (kind_at fs m) (content_at t m) + fields_words T fs (Behind fs (o + 1) left t)) ≡ c + fields_words T fs (members fs t)
+    → free + (optional_content_words T (kind_at fs m) (content_at t m) + fields_words T fs (Behind fs (o + 1) left t)) ≡ c + fields_words T fs (members fs t)
 next_case_words T fs t all at c before o left place free m now up tells r =
     let sum = ap (fields_words T fs) (behind_next fs o left m t up tells) ∙ with_words T fs m (content_at t m) (Behind fs (o + 1) left t) in
     ap (λ n. free + n) (sym sum) ∙ r.free_is
 
 pub cases_more : (T : Table) (fs : List Field) (t : Node) (all at c : ℕ) (before : Loads)
-    (o left place free free2 m : ℕ) (now now2 : Loads) → NumbersAscend 0 t → Tells fs o t m → at + 3 * all ≤ c
-    → CasesOn T fs t all at c before o (suc left) place free now → free2 ≡ free + found_words T (kind_at fs m) (content_at t m)
+    (o left place free free2 m : ℕ) (now now2 : Loads) → AreNumbersAscending 0 t → Tells fs o t m → at + 3 * all ≤ c
+    → CasesOn T fs t all at c before o (suc left) place free now → free2 ≡ free + optional_content_words T (kind_at fs m) (content_at t m)
     → ((H level : ℕ) → free2 ≤ H → level + depth t ≤ 33
     → PutsWordAt T H (case_word fs o level, place) (place + 3) free free2 now now2 (λ w. (u : Node)
     → with_member T fs w u ≡ with_field m (content_at t m) u))
@@ -316,20 +316,20 @@ pub some_case : (T : Table) (H : ℕ) (fs : List Field) (o level place c d m : �
     (before mid next : Loads) → m ≢ 0 → m < 2 ^ 64 → content_at t m ≡ Some (one i) → is_member_of fs o m ≡ true
     → place + 3 ≤ c → c ≤ d
     → mid ≡ before ++ (place, m) ∷ []
-    → PutsWordAt T H (plain_role (kind_at fs m) level true, place + 1) (place + 1 + element_words (kind_at fs m)) c d mid next (HoldsItem T (kind_at fs m) i)
+    → PutsWordAt T H (plain_role (kind_at fs m) level true, place + 1) (place + 1 + element_words (kind_at fs m)) c d mid next (IsSlotOf T (kind_at fs m) i)
     → PutsWordAt T H (case_word fs o level, place) (place + 3) c d before next (λ w. (u : Node) → with_member T fs w u ≡ with_field m (content_at t m) u)
 some_case T H fs o level place c d m t i before mid next some small found member slot cd put puts =
     let wide = narrow (kind_at fs m) in
     let inner : PutsAt T H ((plain_role (kind_at fs m) level true, place + 1) ∷ []) (place + 1) (place + 3) c d mid next
     (λ P. (u : Node) → with_member T fs (word place m P) u ≡ with_field m (content_at t m) u)
     = one_put T H (plain_role (kind_at fs m) level true, place + 1) (place + 3) c d mid next
-    (HoldsItem T (kind_at fs m) i) (λ P. (u : Node)
+    (IsSlotOf T (kind_at fs m) i) (λ P. (u : Node)
     → with_member T fs (word place m P) u ≡ with_field m (content_at t m) u)
     (word_wide T H (plain_role (kind_at fs m) level true, place + 1) (place + 1 + element_words (kind_at fs m))
-    (place + 3) c d mid next (HoldsItem T (kind_at fs m) i) (HoldsItem T (kind_at fs m) i)
+    (place + 3) c d mid next (IsSlotOf T (kind_at fs m) i) (IsSlotOf T (kind_at fs m) i)
     (omega (arith, wide)) puts (λ w holds. holds))
     (λ w holds. λ u. ap (λ j. with_field m (Some (one j)) u) holds.item ∙ ap (λ x. with_field m x u) (sym found)) in
-    let behind_is : behind T (case_word fs o level) place m ≡ (plain_role (kind_at fs m) level true, place + 1) ∷ []
+    let behind_is : expected_after T (case_word fs o level) place m ≡ (plain_role (kind_at fs m) level true, place + 1) ∷ []
     = ap (λ b. cond b [] ((plain_role (kind_at fs m) level true, place + 1) ∷ [])) (ne_eqb m 0 some) in
     word_put T H (case_word fs o level) place m (place + 3) c d before mid next (λ P. (u : Node)
     → with_member T fs (word place m P) u ≡ with_field m (content_at t m) u) (λ w. (u : Node)
@@ -342,25 +342,25 @@ some_case T H fs o level place c d m t i before mid next some small found member
 
 pub node_put : (T : Table) (H m level : ℕ) (t : Node) (c d : ℕ) (mid_free : ℕ) (before mid next : Loads)
     → c + size_words T m ≤ mid_free → mid_free ≤ d
-    → BegunAt T H (slots_from (own_slots (fields_of T m)) level c ++ cases_from (oneofs_of T m) (fields_of T m) 0 level
+    → BegunAt T H (slots_from (own_slots (fields_of T m)) level c ++ cases_from (oneof_count T m) (fields_of T m) 0 level
     (c + 2 * length (own_slots (fields_of T m))))
-    (cases_from (oneofs_of T m) (fields_of T m) 0 level (c + 2 * length (own_slots (fields_of T m))))
+    (cases_from (oneof_count T m) (fields_of T m) 0 level (c + 2 * length (own_slots (fields_of T m))))
     c (c + 2 * length (own_slots (fields_of T m))) (c + size_words T m) mid_free before mid
     (λ P. slots_tree T (fields_of T m) (own_slots (fields_of T m)) P ≡ t) (λ Q. slots_tree T (fields_of T m) [] Q
     ≡ members (fields_of T m) t)
-    → PutsAt T H (cases_from (oneofs_of T m) (fields_of T m) 0 level (c + 2 * length (own_slots (fields_of T m))))
-    (c + 2 * length (own_slots (fields_of T m))) (c + 2 * length (own_slots (fields_of T m)) + 3 * oneofs_of T m)
+    → PutsAt T H (cases_from (oneof_count T m) (fields_of T m) 0 level (c + 2 * length (own_slots (fields_of T m))))
+    (c + 2 * length (own_slots (fields_of T m))) (c + 2 * length (own_slots (fields_of T m)) + 3 * oneof_count T m)
     mid_free d mid next (λ P. slots_tree T (fields_of T m) [] P ≡ members (fields_of T m) t)
     → PutsAt T H (node_words T m level c) c c c d before next (λ P. tree_of T m P ≡ t)
 node_put T H m level t c d mid_free before mid next lower upper slots cases =
-    let end : c + 2 * length (own_slots (fields_of T m)) + 3 * oneofs_of T m ≡ c + size_words T m = omega arith in
+    let end : c + 2 * length (own_slots (fields_of T m)) + 3 * oneof_count T m ≡ c + size_words T m = omega arith in
     content_put T H (node_words T m level c) c c (c + size_words T m) d before next (λ P. tree_of T m P ≡ t) (λ P. tree_of T m P ≡ t) (omega arith)
-    (begun_join T H (node_words T m level c) (cases_from (oneofs_of T m) (fields_of T m) 0 level (c + 2 * length (own_slots (fields_of T m))))
+    (begun_join T H (node_words T m level c) (cases_from (oneof_count T m) (fields_of T m) 0 level (c + 2 * length (own_slots (fields_of T m))))
     c (c + 2 * length (own_slots (fields_of T m))) (c + size_words T m) (c + size_words T m) mid_free d before mid
     next (λ P. tree_of T m P ≡ t) (λ Q. slots_tree T (fields_of T m) [] Q ≡ members (fields_of T m) t)
     (omega arith) (omega (arith, end)) (omega arith) lower upper slots
     (subst (λ e. PutsAt T H
-    (cases_from (oneofs_of T m) (fields_of T m) 0 level (c + 2 * length (own_slots (fields_of T m))))
+    (cases_from (oneof_count T m) (fields_of T m) 0 level (c + 2 * length (own_slots (fields_of T m))))
     (c + 2 * length (own_slots (fields_of T m))) e mid_free d mid next (λ P. slots_tree T (fields_of T m) [] P
     ≡ members (fields_of T m) t)) end cases))
     (λ P made. made)

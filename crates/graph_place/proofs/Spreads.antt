@@ -2,8 +2,8 @@
 use Rattle.std.proofs.Common.{◌≡◌, ℕ, ◌+◌, ◌<◌, ◌≤◌, List, [], ◌∷◌, ◌++◌, arith, length-append}
 use Rattle.std.specs.List.{AllByRecursion, Contains}
 use Rattle.std.proofs.lemmas.List.Elements.{All-from_recursion, All-contains}
-use Rattle.graph_place.specs.Laid.{Apart}
-use Rattle.graph_place.specs.Stored.{places, StandWithin, StandApart}
+use Rattle.graph_place.specs.Laid.{ArePairwiseApart}
+use Rattle.graph_place.specs.Stored.{places, AreWithin, HaveDistinctPlaces}
 use Rattle.graph_place.proofs.Spelled.{BetweenAt, SpreadAt}
 
 -- ---- lists
@@ -19,7 +19,7 @@ each_append P (x ∷ xs) ys a b = (a.0, each_append P xs ys a.1 b)
 abbrev Differs : ℕ × ℕ → ℕ × ℕ → Type 0
 Differs x y = x.0 ≡ y.0 → ⊥
 
-apart_append : (xs ys : List (ℕ × ℕ)) → Apart xs → Apart ys → AllByRecursion (λ x. AllByRecursion (Differs x) ys) xs → Apart (xs ++ ys)
+apart_append : (xs ys : List (ℕ × ℕ)) → ArePairwiseApart xs → ArePairwiseApart ys → AllByRecursion (λ x. AllByRecursion (Differs x) ys) xs → ArePairwiseApart (xs ++ ys)
 apart_append [] ys a b h = b
 apart_append (x ∷ xs) ys a b h = (each_append (Differs x) xs ys a.0 h.0, apart_append xs ys a.1 b h.1)
 
@@ -92,7 +92,7 @@ spread_wide a b b2 c d xs bb h = record {
 
 -- ---- as contracts state it
 
-pub spread_within : (a d n : ℕ) (xs : List (ℕ × ℕ)) → d ≡ a + n → SpreadAt a a a d xs → StandWithin a n xs
+pub spread_within : (a d n : ℕ) (xs : List (ℕ × ℕ)) → d ≡ a + n → SpreadAt a a a d xs → AreWithin a n xs
 spread_within a d n xs e h =
     All-from_recursion (λ (x : ℕ × ℕ). (a ≤ x.0) × (x.0 < a + n)) xs
     (each_weaker (λ x. BetweenAt a a a d x.0) (λ x. (a ≤ x.0) × (x.0 < a + n)) (λ x hx. (hx.low, omega (arith, hx.high, e))) xs h.within)
@@ -101,7 +101,7 @@ differs_places : (x : ℕ) (ys : List (ℕ × ℕ)) → AllByRecursion (λ (y : 
 differs_places x [] h = tt
 differs_places x (y ∷ ys) h = (h.0, differs_places x ys h.1)
 
-pub apart_distinct : (xs : List (ℕ × ℕ)) → Apart xs → StandApart xs
+pub apart_distinct : (xs : List (ℕ × ℕ)) → ArePairwiseApart xs → HaveDistinctPlaces xs
 apart_distinct [] h = tt
 apart_distinct (x ∷ xs) h =
     let each = All-from_recursion (λ q. x.0 ≡ q → ⊥) (places xs) (differs_places x.0 xs h.0) in

@@ -5,8 +5,8 @@ use Rattle.std.specs.List.{AllByRecursion, Contains}
 use Rattle.std.proofs.lemmas.Bool.{cases_Bool, eq-eqb, ne_eqb}
 use Rattle.std.proofs.lemmas.List.Elements.{All-from_recursion, recursion_from_All}
 use Rattle.mrpc_base.specs.Heap.{last_or, word_after}
-use Rattle.graph_form.specs.Malformed.{ReadsBy}
-use Rattle.graph_place.specs.Stored.{places, StandApart}
+use Rattle.graph_form.specs.Malformed.{AreReadBy}
+use Rattle.graph_place.specs.Stored.{places, HaveDistinctPlaces}
 
 abbrev Stores : Type 0
 Stores = List (ℕ × ℕ)
@@ -54,19 +54,19 @@ last_here before x xs none =
     (stored_one x) ∙ ap (λ zs. x.1 ∷ zs) (stored_none x.0 xs none) in
     ap (last_or 0) (stored_append before (x ∷ xs) x.0 ∙ ap (λ zs. stored before x.0 ++ zs) tail) ∙ last_end 0 (stored before x.0) x.1
 
-each_stands : (before xs : Stores) → StandApart xs → AllByRecursion (λ (w : ℕ × ℕ). word_after (before ++ xs) w.0 ≡ w.1) xs
+each_stands : (before xs : Stores) → HaveDistinctPlaces xs → AllByRecursion (λ (w : ℕ × ℕ). word_after (before ++ xs) w.0 ≡ w.1) xs
 each_stands before [] h = tt
 each_stands before (x ∷ xs) h = (
   last_here before x xs (differs x.0 xs h.0),
   subst (λ all. AllByRecursion (λ (w : ℕ × ℕ). word_after all w.0 ≡ w.1) xs) (append_assoc before (x ∷ []) xs) (each_stands (before ++ x ∷ []) xs h.1),
 )
 
-pub stand : (before xs : Stores) → StandApart xs → All (λ (w : ℕ × ℕ). word_after (before ++ xs) w.0 ≡ w.1) xs
+pub stand : (before xs : Stores) → HaveDistinctPlaces xs → All (λ (w : ℕ × ℕ). word_after (before ++ xs) w.0 ≡ w.1) xs
 stand before xs h = All-from_recursion (λ (w : ℕ × ℕ). word_after (before ++ xs) w.0 ≡ w.1) xs (each_stands before xs h)
 
-reads_each : (reading : ℕ → ℕ) (k : ℕ) (xs : Stores) → AllByRecursion (λ (w : ℕ × ℕ). reading w.0 ≡ w.1) xs → ReadsBy (λ k place. reading place) k xs
+reads_each : (reading : ℕ → ℕ) (k : ℕ) (xs : Stores) → AllByRecursion (λ (w : ℕ × ℕ). reading w.0 ≡ w.1) xs → AreReadBy (λ k place. reading place) k xs
 reads_each reading k [] h = tt
 reads_each reading k (x ∷ xs) h = (sym h.0, reads_each reading (k + 1) xs h.1)
 
-pub reads : (reading : ℕ → ℕ) (xs : Stores) → All (λ (w : ℕ × ℕ). reading w.0 ≡ w.1) xs → ReadsBy (λ k place. reading place) 1 xs
+pub reads : (reading : ℕ → ℕ) (xs : Stores) → All (λ (w : ℕ × ℕ). reading w.0 ≡ w.1) xs → AreReadBy (λ k place. reading place) 1 xs
 reads reading xs h = reads_each reading 1 xs (recursion_from_All (λ (w : ℕ × ℕ). reading w.0 ≡ w.1) xs h)

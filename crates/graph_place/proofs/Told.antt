@@ -4,11 +4,11 @@ use Rattle.mrpc_table.specs.Node.{Node}
 use Rattle.mrpc_table.specs.Normal.{depth}
 use Rattle.mrpc_table.specs.declared.table.Table.{Table}
 use Rattle.graph_form.specs.Roles.{node_words, size_words}
-use Rattle.graph_form.specs.Placed.{loads, LiesIn, IsSound}
+use Rattle.graph_form.specs.Placed.{loads, IsSpanInHeap, IsSound}
 use Rattle.graph_form.specs.Forgotten.{tree_of}
 use Rattle.graph_form.specs.declared.placed.Placed.{Placed as PlacedWords}
 use Rattle.graph_place.specs.Size.{tree_words}
-use Rattle.graph_place.specs.Stored.{StandsIn, StandWithin, StandApart}
+use Rattle.graph_place.specs.Stored.{IsPlacedIn, AreWithin, HaveDistinctPlaces}
 use Rattle.graph_place.proofs.Beginning.{Loads}
 use Rattle.graph_place.proofs.Items.{NodePut}
 use Rattle.graph_place.proofs.Spelled.{PutsAt}
@@ -28,9 +28,9 @@ words_are : (T : Table) (H msg at d : ℕ) (t : Node) (words : Loads) (p : LaidO
 words_are T H msg at d t words p = p.words
 
 pub stands : (T : Table) (H msg at d : ℕ) (t : Node) (words : Loads) (told : PlacedWords) → 1 ≤ at → at + tree_words T msg t ≤ H → d ≡ at + tree_words T msg t
-    → told.address ≡ at → told.words ≡ words → LaidOut T H msg at d t words → StandsIn T H msg t at (tree_words T msg t) told
+    → told.address ≡ at → told.words ≡ words → LaidOut T H msg at d t words → IsPlacedIn T H msg t at (tree_words T msg t) told
 stands T H msg at d t words told from within size address same p =
-    let root : LiesIn H at (size_words T msg) = record { from_one = from; to_end = omega (arith, within) } in
+    let root : IsSpanInHeap H at (size_words T msg) = record { from_one = from; to_end = omega (arith, within) } in
     let sound : IsSound T H msg at p.placed = record { root = root; words = p.sound } in
     let are : told.words ≡ loads p.placed = same ∙ words_are T H msg at d t words p in
     let few = p.spread.few in
@@ -40,7 +40,7 @@ stands T H msg at d t words told from within size address same p =
       loaded = record { sound = subst (λ a. IsSound T H msg a p.placed) (sym address) sound; words = are };
       means = p.made;
       address = address;
-      within = subst (StandWithin at (tree_words T msg t)) (sym are) (spread_within at d (tree_words T msg t) (loads p.placed) size p.spread);
-      apart = subst StandApart (sym are) (apart_distinct (loads p.placed) p.spread.apart);
+      within = subst (AreWithin at (tree_words T msg t)) (sym are) (spread_within at d (tree_words T msg t) (loads p.placed) size p.spread);
+      apart = subst HaveDistinctPlaces (sym are) (apart_distinct (loads p.placed) p.spread.apart);
       few = omega (arith, few, long, size);
     }

@@ -2,15 +2,15 @@
 use Rattle.std.specs.Prelude.{◌≡◌, ◌≢◌, ℕ, ◌+◌, ◌*◌, ◌<◌, ◌≤◌, ◌^◌, take, Bool, true, false, List, [], ◌∷◌, ◌++◌, length, Option, Some, None, if◌then◌else◌, ◌==◌}
 use Rattle.std.specs.List.{AllByRecursion}
 use Rattle.mrpc_table.specs.Node.{Node, no_fields, field, Content, one, many, pairs, Item, node, no_items, Pairs, no_pairs, pair, content_at}
-use Rattle.mrpc_table.specs.Normal.{IsDefault, TakesOne, TakesMany, IsItem, AreItems, ArePairs, KeysAscend}
+use Rattle.mrpc_table.specs.Normal.{IsDefault, CanHaveOne, CanHaveMany, IsItem, AreItems, ArePairs, AreKeysAscending}
 use Rattle.mrpc_table.specs.declared.table.Kind.{Kind}
 use Rattle.mrpc_table.specs.declared.table.Kind.TheVariants.{Message as OfMessage}
 use Rattle.mrpc_table.specs.declared.table.Label.{Label}
 use Rattle.mrpc_table.specs.declared.table.Label.TheVariants.{Optional, Map}
 use Rattle.mrpc_table.specs.declared.table.Field.{Field}
 use Rattle.mrpc_table.specs.declared.table.Table.{Table}
-use Rattle.graph_form.specs.Roles.{Role, run_address, Expected, behind, is_member, word_bytes}
-use Rattle.graph_form.specs.Placed.{Placed, Word, word, loads, IsFine, AreSound}
+use Rattle.graph_form.specs.Roles.{WordRole, run_address, Expected, expected_after, is_member, word_bytes}
+use Rattle.graph_form.specs.Placed.{Placed, Word, word, loads, IsValidWord, AreSound}
 use Rattle.graph_form.specs.Forgotten.{plain_item}
 use Rattle.graph_place.specs.Content.{is_member_of}
 use Rattle.graph_place.specs.Size.{content_words}
@@ -28,33 +28,33 @@ pub record Spans : Type 0 where
   pub content_end : ℕ
 
 -- a place is in one of the two spans: from the first slot to the end of the content, but not in the gap
-pub record Between (spans : Spans) (place : ℕ) : Type 0 where
+pub record IsBetween (spans : Spans) (place : ℕ) : Type 0 where
   pub low : spans.slots_begin ≤ place
   pub high : place < spans.content_end
   pub gap : spans.slots_end ≤ place → spans.content_begin ≤ place
 
 -- no two words have the same place
-abbrev pub Apart : List (ℕ × ℕ) → Type 0
-Apart [] = Unit {0}
-Apart (x ∷ xs) = AllByRecursion (λ y. x.0 ≡ y.0 → ⊥) xs × Apart xs
+abbrev pub ArePairwiseApart : List (ℕ × ℕ) → Type 0
+ArePairwiseApart [] = Unit {0}
+ArePairwiseApart (x ∷ xs) = AllByRecursion (λ y. x.0 ≡ y.0 → ⊥) xs × ArePairwiseApart xs
 
 -- the words of a part are in its two spans, at distinct places, and no more than the spans have places
-pub record Spread (spans : Spans) (words : List (ℕ × ℕ)) : Type 0 where
-  pub within : AllByRecursion (λ word. Between spans word.0) words
-  pub apart : Apart words
+pub record IsSpread (spans : Spans) (words : List (ℕ × ℕ)) : Type 0 where
+  pub within : AllByRecursion (λ word. IsBetween spans word.0) words
+  pub apart : ArePairwiseApart words
   pub few : length words + spans.slots_begin + spans.content_begin ≤ spans.slots_end + spans.content_end
 
 -- ---- what a pass appends
 
 -- What is laid out so far: the words in load order, each a place and a value, and the first free place.
-pub record Laid : Type 0 where
+pub record LaidWords : Type 0 where
   pub words : List (ℕ × ℕ)
   pub free : ℕ
 
 -- a pass over a part: the state before it and after it, and the range of the slots that it fills
 pub record Pass : Type 0 where
-  pub before : Laid
-  pub after : Laid
+  pub before : LaidWords
+  pub after : LaidWords
   pub slots_begin : ℕ
   pub slots_end : ℕ
 
@@ -69,13 +69,13 @@ spans_of pass = record {
 
 -- What a builder has laid out. Below: the pass of a call that changes the builder and fills the slots between two
 -- places.
-abbrev pub laid_by : Builder → Laid
-laid_by builder = record { words = builder.words.items; free = builder.free }
+abbrev pub laid_words : Builder → LaidWords
+laid_words builder = record { words = builder.words.items; free = builder.free }
 
 abbrev pub pass_of : (old new : Builder) (slots_begin slots_end : ℕ) → Pass
 pass_of old new slots_begin slots_end = record {
-  before = laid_by old;
-  after = laid_by new;
+  before = laid_words old;
+  after = laid_words new;
   slots_begin = slots_begin;
   slots_end = slots_end;
 }
@@ -92,29 +92,29 @@ part expected fits = record { expected = expected; fits = fits }
 module _ (T : Table) (H : ℕ) where
   -- A pass appends a part: a placed tree of the expected words is sound and fits. Its loads are appended to the
   -- words, and lie in the two spans.
-  pub record Puts (part : Part) (pass : Pass) : Type 0 where
+  pub record HasPut (part : Part) (pass : Pass) : Type 0 where
     pub placed : Placed
     pub sound : AreSound T H part.expected placed
     pub made : part.fits placed
     pub words : pass.after.words ≡ pass.before.words ++ loads placed
-    pub spread : Spread (spans_of pass) (loads placed)
+    pub spread : IsSpread (spans_of pass) (loads placed)
 
   -- A pass appends one expected word, a role and a place. Its value is valid, and its content is a sound placed tree
   -- of the words that it leads to. The word with its content fits. It is appended to the words, followed by the loads
   -- of its content, and all lie in the two spans.
-  pub record PutsWord (expected : Role × ℕ) (pass : Pass) (Fits : Word → Type 0) : Type 0 where
+  pub record HasPutWord (expected : WordRole × ℕ) (pass : Pass) (Fits : Word → Type 0) : Type 0 where
     pub value : ℕ
     pub content : Placed
     pub small : value < 2 ^ 64
-    pub fine : IsFine T H expected.0 value
-    pub sound : AreSound T H (behind T expected.0 expected.1 value) content
+    pub fine : IsValidWord T H expected.0 value
+    pub sound : AreSound T H (expected_after T expected.0 expected.1 value) content
     pub made : Fits (word expected.1 value content)
     pub words : pass.after.words ≡ pass.before.words ++ ((expected.1, value) ∷ loads content)
-    pub spread : Spread (spans_of pass) ((expected.1, value) ∷ loads content)
+    pub spread : IsSpread (spans_of pass) ((expected.1, value) ∷ loads content)
 
   -- After its first words, a placed tree of the remaining ones completes a part. A placed tree of the whole is sound
   -- and fits, and its loads are the first words followed by the loads of the remaining ones.
-  pub record Completes (whole : Part) (first_words : List (ℕ × ℕ)) (rest : Placed) : Type 0 where
+  pub record IsCompletion (whole : Part) (first_words : List (ℕ × ℕ)) (rest : Placed) : Type 0 where
     pub placed : Placed
     pub sound : AreSound T H whole.expected placed
     pub made : whole.fits placed
@@ -122,18 +122,18 @@ module _ (T : Table) (H : ℕ) where
 
   -- A pass appends the first words of a part. They are appended to the words and lie in the two spans. Each sound
   -- placed tree of the remaining words that fits completes the part.
-  pub record Begun (whole rest : Part) (pass : Pass) : Type 0 where
+  pub record HasBegun (whole rest : Part) (pass : Pass) : Type 0 where
     pub own : List (ℕ × ℕ)
     pub words : pass.after.words ≡ pass.before.words ++ own
-    pub spread : Spread (spans_of pass) own
-    pub on : (others : Placed) → AreSound T H rest.expected others → rest.fits others → Completes whole own others
+    pub spread : IsSpread (spans_of pass) own
+    pub on : (others : Placed) → AreSound T H rest.expected others → rest.fits others → IsCompletion whole own others
 
 -- the value of a word
 abbrev pub value_of : Word → ℕ
 value_of (word place v content) = v
 
 -- a word with its content is the plain slot of a value; it is 0 only for a default value
-pub record HoldsItem (T : Table) (k : Kind) (i : Item) (w : Word) : Type 0 where
+pub record IsSlotOf (T : Table) (k : Kind) (i : Item) (w : Word) : Type 0 where
   pub item : plain_item T k w ≡ i
   pub some : (IsDefault i → ⊥) → value_of w ≢ 0
 
@@ -154,9 +154,9 @@ abbrev pub members : List Field → Node → Node
 members fs t = keep (is_member_at fs) t
 
 -- the number of words of optional content
-abbrev pub found_words : Table → Kind → Option Content → ℕ
-found_words T k None = 0
-found_words T k (Some c) = content_words T k c
+abbrev pub optional_content_words : Table → Kind → Option Content → ℕ
+optional_content_words T k None = 0
+optional_content_words T k (Some c) = content_words T k c
 
 -- the entries of a map as a list
 abbrev pub listed : Pairs → List (Item × Item)
@@ -171,16 +171,16 @@ pub record IsMemberOf (fs : List Field) (oneof : ℕ) (t : Node) (n : ℕ) : Typ
   pub there : n ≢ 0 → (c : Content) × (content_at t n ≡ Some c) × (is_member_of fs oneof n ≡ true)
 
 -- the content fits a label that isn't a member's
-abbrev pub HoldsContent : Table → Label → Kind → Content → Type 0
-HoldsContent T l k (one i) = (TakesOne l i × IsItem T k i) × (l ≡ Optional → (m : ℕ) → k ≢ OfMessage m)
-HoldsContent T l k (many is) = TakesMany l × (is ≢ no_items) × AreItems T k is
-HoldsContent T l k (pairs ps) = (key : Kind) × (l ≡ Map key) × ((m : ℕ) → key ≢ OfMessage m)
-    × (ps ≢ no_pairs) × ArePairs T key k ps × KeysAscend key ps
+abbrev pub IsContentFor : Table → Label → Kind → Content → Type 0
+IsContentFor T l k (one i) = (CanHaveOne l i × IsItem T k i) × (l ≡ Optional → (m : ℕ) → k ≢ OfMessage m)
+IsContentFor T l k (many is) = CanHaveMany l × (is ≢ no_items) × AreItems T k is
+IsContentFor T l k (pairs ps) = (key : Kind) × (l ≡ Map key) × ((m : ℕ) → key ≢ OfMessage m)
+    × (ps ≢ no_pairs) × ArePairs T key k ps × AreKeysAscending key ps
 
 -- a value that is no message
-abbrev pub NoMessage : Item → Type 0
-NoMessage (node t) = ⊥
-NoMessage _ = Unit {0}
+abbrev pub IsNotMessage : Item → Type 0
+IsNotMessage (node t) = ⊥
+IsNotMessage _ = Unit {0}
 
 -- the address word of a run, if the run isn't empty
 abbrev pub run_expected : Kind → ℕ → ℕ → Expected

@@ -13,21 +13,21 @@ abbrev pub places : List (ℕ × ℕ) → List ℕ
 places words = map (λ word. word.0) words
 
 -- each word lies in the `words` places from `at`
-abbrev pub StandWithin : ℕ → ℕ → List (ℕ × ℕ) → Type 0
-StandWithin at words xs = All (λ word. (at ≤ word.0) × (word.0 < at + words)) xs
+abbrev pub AreWithin : ℕ → ℕ → List (ℕ × ℕ) → Type 0
+AreWithin at words xs = All (λ word. (at ≤ word.0) × (word.0 < at + words)) xs
 
 -- no two words have the same place
-abbrev pub StandApart : List (ℕ × ℕ) → Type 0
-StandApart xs = AreDistinct (places xs)
+abbrev pub HaveDistinctPlaces : List (ℕ × ℕ) → Type 0
+HaveDistinctPlaces xs = AreDistinct (places xs)
 
 -- A message lies in words of a heap of `words` words. They are what a copy from `at` loads, in that order: the node
 -- first, then each content. They belong to a sound placed tree, whose tree is this one. All lie in the `span` places
 -- from `at`, at distinct places.
-pub record StandsIn (T : Table) (words msg : ℕ) (t : Node) (at span : ℕ) (placed : PlacedWords) : Type 0 where
+pub record IsPlacedIn (T : Table) (words msg : ℕ) (t : Node) (at span : ℕ) (placed : PlacedWords) : Type 0 where
   pub tree : Placed
   pub loaded : AreWordsOf T words msg tree placed
   pub means : tree_of T msg tree ≡ t
   pub address : placed.address ≡ at
-  pub within : StandWithin at span placed.words
-  pub apart : StandApart placed.words
+  pub within : AreWithin at span placed.words
+  pub apart : HaveDistinctPlaces placed.words
   pub few : length placed.words ≤ span

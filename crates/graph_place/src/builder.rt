@@ -3,20 +3,20 @@
 ghost use Rattle.std.specs.Prelude.{◌≡◌, ◌≢◌, ◌≤◌, ◌<◌, ◌+◌, ◌*◌, ◌^◌, ℕ, Bool, true, false, List, [], ◌∷◌, ◌++◌, length, IfOk, OnOk, Some};
 ghost use Rattle.std.specs.Str.{IsUtf8};
 ghost use Rattle.mrpc_table.specs.Node.{Node, one, content_at};
-ghost use Rattle.mrpc_table.specs.Normal.{fields_of, field_at, HasFields, OneMemberEach, IsItem, AreItems, ArePairs, depth, content_depth, item_depth, items_depth, pairs_depth, kind_at};
+ghost use Rattle.mrpc_table.specs.Normal.{fields_of, field_at, HasFields, HasOneMemberEach, IsItem, AreItems, ArePairs, depth, content_depth, item_depth, items_depth, pairs_depth, kind_at};
 ghost use Rattle.mrpc_table.specs.Valid.{IsValid, IsField};
 ghost use Rattle.mrpc_table.specs.View.{item_of, items_of, pairs_of, content_of};
 ghost use Rattle.mrpc_table.specs.declared.limits.TheConstants.{MAX_DEPTH};
 ghost use Rattle.mrpc_table.specs.declared.table.Kind.{Kind};
 ghost use Rattle.mrpc_table.specs.declared.table.Field.{Field};
 ghost use Rattle.mrpc_table.specs.declared.table.Table.{Table};
-ghost use Rattle.graph_form.specs.Roles.{Expected, elements_address, entries_address, case_word, plain_role, optional_role, slot_role, slots_from, cases_from, node_words, own_slots, oneofs_of, is_member, element_words, run_words};
+ghost use Rattle.graph_form.specs.Roles.{Expected, elements_address, entries_address, case_word, plain_role, optional_role, slot_role, slots_from, cases_from, node_words, own_slots, oneof_count, is_member, element_words, run_words};
 ghost use Rattle.graph_form.specs.Forgotten.{run_at, slot_content, slots_tree, with_field, with_member, elements_at, entries_at, tree_of};
-ghost use Rattle.graph_place.specs.Laid.{Puts, PutsWord, Begun, HoldsItem, pass_of, part, members, found_words, listed, IsMemberOf, HoldsContent, NoMessage, run_expected, HasBytes};
+ghost use Rattle.graph_place.specs.Laid.{HasPut, HasPutWord, HasBegun, IsSlotOf, pass_of, part, members, optional_content_words, listed, IsMemberOf, IsContentFor, IsNotMessage, run_expected, HasBytes};
 ghost use Rattle.graph_place.specs.Size.{tree_words, fields_words, content_words, item_words, many_words, pairs_words, run_words_of};
 
 use crate::look_up::{kind_of, members_of, value_of};
-use graph_form::{element_words, is_member, oneofs_of, run_words, size_words};
+use graph_form::{element_words, is_member, oneof_count, run_words, size_words};
 use mrpc_table::{Entries, Field, FieldValue, Kind, Label, Memory, Table, Tree, Value, Values};
 use std::alloc::Global;
 
@@ -66,12 +66,12 @@ impl Builder {
     pub(crate) fn node(&mut self, table: &Table, message: u32, tree: &Tree) -> Result<(), Memory>
         requires valid { IsValid table.now }
         requires fields { HasFields table.now (fields_of table.now message) 0 tree.now }
-        requires oneofs { OneMemberEach (fields_of table.now message) tree.now }
+        requires oneofs { HasOneMemberEach (fields_of table.now message) tree.now }
         requires from_one { 1 ≤ self.old.free }
         requires room { self.old.free + tree_words table.now message tree.now < 2 ^ 64 }
         ensures free { OnOk result (self.new.free ≡ self.old.free + tree_words table.now message tree.now) }
         ensures puts { OnOk result ((H level : ℕ) → self.new.free ≤ H → level + depth tree.now ≤ MAX_DEPTH + 1
-            → Puts table.now H
+            → HasPut table.now H
             (part (node_words table.now message level self.old.free) (λ P. tree_of table.now message P ≡ tree.now))
             (pass_of self.old self.new self.old.free self.old.free)) }
     {
@@ -94,7 +94,7 @@ impl Builder {
             ≡ self.old.free + fields_words table.now (fields_of table.now message) tree.now) }
         ensures puts { OnOk result (let fs = fields_of table.now message in
             (H level : ℕ) (others : Expected) → self.new.free ≤ H → level + depth tree.now ≤ MAX_DEPTH + 1
-            → Begun table.now H
+            → HasBegun table.now H
             (part (slots_from (own_slots fs) level at ++ others)
             (λ P. slots_tree table.now fs (own_slots fs) P ≡ tree.now))
             (part others (λ Q. slots_tree table.now fs [] Q ≡ members fs tree.now))
@@ -124,15 +124,15 @@ impl Builder {
         requires from_one { 1 ≤ place }
         requires slot { is_member field.now.label ≡ false → place + 2 ≤ self.old.free }
         requires room { is_member field.now.label ≡ false
-            → self.old.free + found_words table.now field.now.kind (content_at tree.now field.now.number) < 2 ^ 64 }
+            → self.old.free + optional_content_words table.now field.now.kind (content_at tree.now field.now.number) < 2 ^ 64 }
         ensures member { is_member field.now.label ≡ true
             → IfOk result (λ next. (next ≡ place) × (self.new ≡ self.old)) }
         ensures place { is_member field.now.label ≡ false → IfOk result (λ next. next ≡ place + 2) }
         ensures free { is_member field.now.label ≡ false → OnOk result (self.new.free
-            ≡ self.old.free + found_words table.now field.now.kind (content_at tree.now field.now.number)) }
+            ≡ self.old.free + optional_content_words table.now field.now.kind (content_at tree.now field.now.number)) }
         ensures puts { is_member field.now.label ≡ false → OnOk result ((H level : ℕ)
             → self.new.free ≤ H → level + depth tree.now ≤ MAX_DEPTH + 1
-            → PutsWord table.now H (slot_role field.now.label field.now.kind level, place)
+            → HasPutWord table.now H (slot_role field.now.label field.now.kind level, place)
             (pass_of self.old self.new place (place + 2))
             (λ w. slot_content table.now field.now.label field.now.kind w ≡ content_at tree.now field.now.number)) }
     {
@@ -156,9 +156,9 @@ impl Builder {
     fn cases(&mut self, table: &Table, message: u32, tree: &Tree, at: u64) -> Result<(), Memory>
         requires valid { IsValid table.now }
         requires fields { HasFields table.now (fields_of table.now message) 0 tree.now }
-        requires oneofs { OneMemberEach (fields_of table.now message) tree.now }
+        requires oneofs { HasOneMemberEach (fields_of table.now message) tree.now }
         requires from_one { 1 ≤ at }
-        requires slots { at + 3 * oneofs_of table.now message ≤ self.old.free }
+        requires slots { at + 3 * oneof_count table.now message ≤ self.old.free }
         requires room { self.old.free
             + fields_words table.now (fields_of table.now message) (members (fields_of table.now message) tree.now)
             < 2 ^ 64 }
@@ -166,14 +166,14 @@ impl Builder {
             + fields_words table.now (fields_of table.now message) (members (fields_of table.now message) tree.now)) }
         ensures puts { OnOk result (let fs = fields_of table.now message in
             (H level : ℕ) → self.new.free ≤ H → level + depth tree.now ≤ MAX_DEPTH + 1
-            → Puts table.now H
-            (part (cases_from (oneofs_of table.now message) fs 0 level at)
+            → HasPut table.now H
+            (part (cases_from (oneof_count table.now message) fs 0 level at)
             (λ P. slots_tree table.now fs [] P ≡ members fs tree.now))
-            (pass_of self.old self.new at (at + 3 * oneofs_of table.now message))) }
+            (pass_of self.old self.new at (at + 3 * oneof_count table.now message))) }
     {
         let members = members_of(table, message, tree);
         let mut place = at;
-        for oneof in 0..oneofs_of(table, message) {
+        for oneof in 0..oneof_count(table, message) {
             self.case(table, message, tree, members[oneof as usize], place)?;
             place += 3;
         }
@@ -196,13 +196,13 @@ impl Builder {
         requires from_one { 1 ≤ place }
         requires slot { place + 3 ≤ self.old.free }
         requires room { self.old.free
-            + found_words table.now (kind_at (fields_of table.now message) member) (content_at tree.now member)
+            + optional_content_words table.now (kind_at (fields_of table.now message) member) (content_at tree.now member)
             < 2 ^ 64 }
         ensures free { OnOk result (self.new.free ≡ self.old.free
-            + found_words table.now (kind_at (fields_of table.now message) member) (content_at tree.now member)) }
+            + optional_content_words table.now (kind_at (fields_of table.now message) member) (content_at tree.now member)) }
         ensures puts { OnOk result ((H level oneof : ℕ) → self.new.free ≤ H → level + depth tree.now ≤ MAX_DEPTH + 1
             → IsMemberOf (fields_of table.now message) oneof tree.now member
-            → PutsWord table.now H (case_word (fields_of table.now message) oneof level, place)
+            → HasPutWord table.now H (case_word (fields_of table.now message) oneof level, place)
             (pass_of self.old self.new place (place + 3))
             (λ w. (t : Node) → with_member table.now (fields_of table.now message) w t
             ≡ with_field member (content_at tree.now member) t)) }
@@ -229,7 +229,7 @@ impl Builder {
     ) -> Result<(), Memory>
         requires valid { IsValid table.now }
         requires own { is_member label ≡ false }
-        requires content { HoldsContent table.now label kind (content_of content.now) }
+        requires content { IsContentFor table.now label kind (content_of content.now) }
         requires from_one { 1 ≤ place }
         requires slot { place + 2 ≤ self.old.free }
         requires room { self.old.free + content_words table.now kind (content_of content.now) < 2 ^ 64 }
@@ -237,7 +237,7 @@ impl Builder {
             ≡ self.old.free + content_words table.now kind (content_of content.now)) }
         ensures puts { OnOk result ((H level : ℕ) → self.new.free ≤ H
             → level + content_depth (content_of content.now) ≤ MAX_DEPTH + 1
-            → PutsWord table.now H (slot_role label kind level, place)
+            → HasPutWord table.now H (slot_role label kind level, place)
             (pass_of self.old self.new place (place + 2))
             (λ w. slot_content table.now label kind w ≡ Some (content_of content.now))) }
     {
@@ -275,7 +275,7 @@ impl Builder {
             ≡ self.old.free + many_words table.now kind (items_of values.now.items)) }
         ensures puts { OnOk result ((H level : ℕ) → self.new.free ≤ H
             → level + items_depth (items_of values.now.items) ≤ MAX_DEPTH + 1
-            → Puts table.now H
+            → HasPut table.now H
             (part ((elements_address kind (length values.now.items) level, place) ∷ [])
             (λ P. elements_at table.now kind P ≡ items_of values.now.items))
             (pass_of self.old self.new place (place + 1))) }
@@ -311,7 +311,7 @@ impl Builder {
             ≡ self.old.free + pairs_words table.now kind (pairs_of entries.now.items)) }
         ensures puts { OnOk result ((H level : ℕ) → self.new.free ≤ H
             → level + pairs_depth (pairs_of entries.now.items) ≤ MAX_DEPTH + 1
-            → Puts table.now H
+            → HasPut table.now H
             (part ((entries_address key kind (length entries.now.items) level, place) ∷ [])
             (λ P. entries_at table.now key kind P ≡ listed (pairs_of entries.now.items)))
             (pass_of self.old self.new place (place + 1))) }
@@ -338,9 +338,9 @@ impl Builder {
         ensures free { OnOk result (self.new.free ≡ self.old.free + item_words table.now kind (item_of value.now)) }
         ensures puts { OnOk result ((H level : ℕ) (needed : Bool) → self.new.free ≤ H
             → level + item_depth (item_of value.now) ≤ MAX_DEPTH + 1
-            → PutsWord table.now H (plain_role kind level needed, place)
+            → HasPutWord table.now H (plain_role kind level needed, place)
             (pass_of self.old self.new place (place + element_words kind))
-            (HoldsItem table.now kind (item_of value.now))) }
+            (IsSlotOf table.now kind (item_of value.now))) }
     {
         match value {
             Value::Number(number) => self.put(place, *number),
@@ -360,11 +360,11 @@ impl Builder {
         requires from_one { 1 ≤ place }
         requires slot { place + 2 ≤ self.old.free }
         requires room { self.old.free + run_words_of (item_of value.now) < 2 ^ 64 }
-        ensures free { OnOk result (NoMessage (item_of value.now)
+        ensures free { OnOk result (IsNotMessage (item_of value.now)
             → self.new.free ≡ self.old.free + run_words_of (item_of value.now)) }
         ensures puts { OnOk result ((T : Table) (H : ℕ) (kind : Kind) → self.new.free ≤ H
             → ((m : ℕ) → kind ≢ Kind.Message m) → IsItem T kind (item_of value.now)
-            → PutsWord T H (optional_role kind, place)
+            → HasPutWord T H (optional_role kind, place)
             (pass_of self.old self.new place (place + 2))
             (λ w. slot_content T Label.Optional kind w ≡ Some (one (item_of value.now)))) }
     {
@@ -390,7 +390,7 @@ impl Builder {
         ensures free { OnOk result (self.new.free ≡ self.old.free + run_words (length bytes.now)) }
         ensures puts { OnOk result ((T : Table) (H : ℕ) (kind : Kind) → self.new.free ≤ H
             → (kind ≡ Kind.Text → IsUtf8 bytes.now)
-            → Puts T H
+            → HasPut T H
             (part (run_expected kind (length bytes.now) place) (λ P. run_at (length bytes.now) P ≡ bytes.now))
             (pass_of self.old self.new place (place + 1))) }
     {

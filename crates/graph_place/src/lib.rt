@@ -14,6 +14,6 @@ mod look_up;
 mod placing;
 mod size;
 
-pub use laws::{placed_message_is_copied, stored_words_stand};
+pub use laws::{placed_message_is_copied, stored_words_are_found};
 pub use placing::{layout, place, store};
 pub use size::place_words;

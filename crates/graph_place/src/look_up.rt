@@ -1,7 +1,7 @@
 //! Look-ups of a message in a table and a tree.
 
 ghost use Rattle.std.specs.Prelude.{◌≡◌, ◌≢◌, ◌<◌, ◌*◌, ℕ, length, IfNone, IfSome, Some, None, slice_index, if◌then◌else◌};
-ghost use Rattle.mrpc_table.specs.Node.{Item, one, content_at, NumbersAscend};
+ghost use Rattle.mrpc_table.specs.Node.{Item, one, content_at, AreNumbersAscending};
 ghost use Rattle.mrpc_table.specs.Normal.{fields_of, kind_at};
 ghost use Rattle.mrpc_table.specs.Valid.{IsValid};
 ghost use Rattle.mrpc_table.specs.View.{item_of};
@@ -25,7 +25,7 @@ pub(crate) fn kind_of(table: &Table, message: u32, number: u32) -> Kind
 
 // The value of a tree at a field number, if it has a single one there.
 pub(crate) fn value_of(tree: &Tree, number: u32) -> Option<&Value>
-    requires { NumbersAscend 0 tree.now }
+    requires { AreNumbersAscending 0 tree.now }
     ensures some { IfSome result (λ value. content_at tree.now number ≡ Some (one (item_of value.now))) }
     ensures less { IfSome result (λ value. item_weight (item_of value.now) < weight tree.now) }
     ensures none { IfNone result ((i : Item) → content_at tree.now number ≢ Some (one i)) }

@@ -7,10 +7,10 @@ ghost use Rattle.mrpc_table.specs.Normal.{IsNormal};
 ghost use Rattle.mrpc_table.specs.Valid.{IsValid};
 ghost use Rattle.mrpc_table.specs.declared.table.Table.{Table as TheTable};
 ghost use Rattle.graph_place.specs.Size.{tree_words};
-ghost use Rattle.graph_place.specs.Stored.{StandsIn};
+ghost use Rattle.graph_place.specs.Stored.{IsPlacedIn};
 
 use crate::builder::Builder;
-use crate::laws::stored_words_stand;
+use crate::laws::stored_words_are_found;
 use crate::size::place_words;
 use graph_form::{Loads, Placed};
 use mrpc_base::{Room, Stores};
@@ -38,7 +38,7 @@ pub fn place<H: Stores>(
     requires few { length (H.stores heap.old) + tree_words table.now msg tree.now ≤ 2 ^ 63 }
 
     // The message lies in these words, and they are what is stored.
-    ensures stands { IfOk result (StandsIn table.now (H.words heap.old) msg tree.now at
+    ensures stands { IfOk result (IsPlacedIn table.now (H.words heap.old) msg tree.now at
         (tree_words table.now msg tree.now)) }
     ensures stores { IfOk result (λ placed. H.stores heap.new ≡ H.stores heap.old ++ placed.words) }
 
@@ -77,7 +77,7 @@ pub fn layout(
 
     // In each heap that has these places, the message lies in these words.
     ensures stands { IfOk result (λ placed. (words : ℕ) → at + tree_words table.now msg tree.now ≤ words
-        → StandsIn table.now words msg tree.now at (tree_words table.now msg tree.now) placed) }
+        → IsPlacedIn table.now words msg tree.now at (tree_words table.now msg tree.now) placed) }
 {
     let room = place_words(tree, table, msg);
     let mut builder = Builder::new(alloc, at, room)?;
@@ -96,12 +96,12 @@ pub fn store<H: Stores>(heap: &mut H, placed: &Placed)
     ensures stores { H.stores heap.new ≡ H.stores heap.old ++ placed.now.words }
     // If a message lies in the words, each of their places holds its word.
     ensures found { (T : TheTable) (msg at span : ℕ) (tree : Node)
-        → StandsIn T (H.words heap.old) msg tree at span placed.now
+        → IsPlacedIn T (H.words heap.old) msg tree at span placed.now
         → All (λ word. word_after (H.stores heap.new) word.0 ≡ word.1) placed.now.words }
     ensures size { H.words heap.new ≡ H.words heap.old }
     ensures same_heap { (first : H) → H.since first heap.old → H.since first heap.new }
 {
-    stored_words_stand();
+    stored_words_are_found();
     let words = placed.words.as_slice();
     for word in words {
         heap.store(word.0, word.1);

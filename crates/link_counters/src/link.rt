@@ -1,36 +1,36 @@
 //! A link that counts frames.
 ghost use Rattle.std.specs.Prelude.{◌≡◌, ◌≢◌, ◌<◌, ◌≤◌, None, [], ◌∷◌, ◌++◌, IsTrue, length, take};
 ghost use Rattle.std.specs.Io.KnownBytes.{Appends, Keeps};
-ghost use Rattle.mrpc_base.specs.Faults.{HasCause};
-ghost use Rattle.mrpc_base.specs.Linking.{OnCame, OnNoneCame};
+ghost use Rattle.mrpc_base.specs.Failures.{HasCause};
+ghost use Rattle.mrpc_base.specs.Links.{OnCame, OnNoneCame};
 
-use crate::{FrameStream, Tally};
+use crate::{FrameCounters, FrameScanner};
 use mrpc_base::{Came, Handed, Link};
 use std::marker::Model;
 
 /// A link whose frames are counted. Contracts see it as the link inside.
 #[derive(Drop)]
-pub struct TallyLink<L: Link + Drop> {
+pub struct CountingLink<L: Link + Drop> {
     link: L,
-    tally: Tally,
-    came: FrameStream,
+    tally: FrameCounters,
+    came: FrameScanner,
 }
 
-impl<L: Link + Drop> Model for TallyLink<L> {
+impl<L: Link + Drop> Model for CountingLink<L> {
     ghost Value = { L };
 
     ghost view = { λ l. l.link };
 }
 
-impl<L: Link + Drop> TallyLink<L> {
+impl<L: Link + Drop> CountingLink<L> {
     /// Counts in `tally` the frames on a link on which nothing was received yet.
-    pub fn new(link: L, tally: Tally) -> TallyLink<L>
+    pub fn new(link: L, tally: FrameCounters) -> CountingLink<L>
         ensures { result ≡ link }
     {
-        TallyLink {
+        CountingLink {
             link,
             tally,
-            came: FrameStream::new(),
+            came: FrameScanner::new(),
         }
     }
 
@@ -38,7 +38,7 @@ impl<L: Link + Drop> TallyLink<L> {
     pub fn into_link(self) -> L
         ensures { result ≡ self }
     {
-        let TallyLink {
+        let CountingLink {
             link,
             tally: _tally,
             came: _,
@@ -47,7 +47,7 @@ impl<L: Link + Drop> TallyLink<L> {
     }
 }
 
-impl<L: Link + Drop> Link for TallyLink<L> {
+impl<L: Link + Drop> Link for CountingLink<L> {
     ghost handed = { L.handed };
 
     ghost given = { L.given };
@@ -58,7 +58,7 @@ impl<L: Link + Drop> Link for TallyLink<L> {
 
     ghost peer_finished = { L.peer_finished };
 
-    ghost faults = { L.faults };
+    ghost failures = { L.failures };
 
     ghost since = { L.since };
 
@@ -73,7 +73,7 @@ impl<L: Link + Drop> Link for TallyLink<L> {
         ensures same_ended { L.ended self.new ≡ L.ended self.old }
         ensures same_link { (first : L) → L.since first self.old → L.since first self.new }
         ensures refused { result ≡ Handed.Failed → L.refused self.old frame.now self.new }
-        ensures cause { HasCause (result ≡ Handed.Failed) (L.faults self.old) (L.faults self.new) }
+        ensures cause { HasCause (result ≡ Handed.Failed) (L.failures self.old) (L.failures self.new) }
     {
         let handed = self.link.send(frame);
         if handed == Handed::Done {
@@ -100,11 +100,11 @@ impl<L: Link + Drop> Link for TallyLink<L> {
         ensures same_link { (first : L) → L.since first self.old → L.since first self.new }
         ensures idle { result ≡ Came.Idle → L.nothing_ready self.old self.new }
         ensures end { result ≡ Came.End → L.peer_finished self.old self.new }
-        ensures cause { HasCause (result ≡ Came.Failed) (L.faults self.old) (L.faults self.new) }
+        ensures cause { HasCause (result ≡ Came.Failed) (L.failures self.old) (L.failures self.new) }
     {
         let came = self.link.receive(buf);
         if let Came::Bytes(count) = came {
-            self.tally.count_received(self.came.take(&buf[..count]));
+            self.tally.count_received(self.came.scan(&buf[..count]));
         }
         came
     }
@@ -113,7 +113,7 @@ impl<L: Link + Drop> Link for TallyLink<L> {
         ensures same_handed { L.handed self.new ≡ L.handed self.old }
         ensures same_given { L.given self.new ≡ L.given self.old }
         ensures same_ended { L.ended self.new ≡ L.ended self.old }
-        ensures same_faults { L.faults self.new ≡ L.faults self.old }
+        ensures same_faults { L.failures self.new ≡ L.failures self.old }
         ensures same_link { (first : L) → L.since first self.old → L.since first self.new }
     {
         self.link.finish();

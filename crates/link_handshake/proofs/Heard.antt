@@ -6,30 +6,30 @@ use Rattle.std.specs.Prelude.{IfOk, IfSome, IsTrue}
 use Rattle.std.specs.Io.KnownBytes.{Appends}
 use Rattle.std.specs.List.{AllZip}
 use Rattle.std.proofs.lemmas.List.Elements.{All-head}
-use Rattle.mrpc_base.specs.Faults.{HasCause}
+use Rattle.mrpc_base.specs.Failures.{HasCause}
 use Rattle.mrpc_table.specs.Valid.{IsValid}
 use Rattle.mrpc_table.specs.declared.table.Table.{Table}
-use Rattle.frame_transport.specs.Frames.{IsFaultAt, IsFrame, IsPartial, bytes_of, joined, long, no_kind, no_version}
+use Rattle.frame_transport.specs.Frames.{IsFaultAt, IsFrame, IsPartial, bytes_of_frame, concat_frames, long, no_kind, no_version}
 use Rattle.frame_transport.specs.declared.format.Frame.{Frame}
 use Rattle.frame_transport.specs.declared.format.TheConstants.{HELLO}
 use Rattle.frame_transport.specs.declared.fault.FeedFault.{FeedFault}
 use Rattle.frame_transport.specs.declared.fault.FeedFault.TheVariants.{Memory as NoMemory}
-use Rattle.receive_core.specs.Life.{Lives, Reads, TakesEach, fed, greeted, no_life}
-use Rattle.receive_core.specs.Turns.{IsFirst, Receiving}
+use Rattle.receive_core.specs.ReceiverTraces.{IsTraceOf, HasFrames, IsEachFrameTaken, after_piece, after_hello, empty_trace}
+use Rattle.receive_core.specs.Turns.{IsFirstFrame, ReceiverState}
 use Rattle.receive_heap.specs.Layout.{Layout}
-use Rattle.schema_binding.specs.Agreement.{Refuses}
-use Rattle.schema_binding.specs.Hello.{IsBadAt, IsFaultOf, IsHello}
+use Rattle.schema_binding.specs.Agreement.{IsDisagreement}
+use Rattle.schema_binding.specs.Hello.{IsFirstFaultyLine, IsHelloFaultOf, IsHello}
 use Rattle.schema_binding.specs.declared.fault.AgreeFault.{AgreeFault}
 use Rattle.schema_binding.specs.declared.fault.AgreeFault.TheVariants.{Memory as NoMemoryToAgree}
 use Rattle.schema_binding.specs.declared.fault.HelloFault.{HelloFault}
 use Rattle.schema_binding.specs.declared.fault.HelloFault.TheVariants.{Bad}
-use Rattle.message_delivery.specs.Arriving.{AreSame, HaveLived, IsTold, policy_of}
+use Rattle.message_delivery.specs.Arriving.{HaveSameIdentity, IsArrivalTrace, IsFateLine, policy_of_fate}
 use Rattle.message_delivery.specs.declared.arrivals.Arrivals.{Arrivals}
-use Rattle.message_delivery.specs.declared.arrivals.Stream.{Stream}
-use Rattle.message_delivery.specs.declared.arrivals.Stream.TheVariants.{Cut as IsCut, Ended as HasEnded, Failed as HasFailed, Open}
+use Rattle.message_delivery.specs.declared.arrivals.StreamState.{StreamState}
+use Rattle.message_delivery.specs.declared.arrivals.StreamState.TheVariants.{Cut as IsCut, Ended as HasEnded, Failed as HasFailed, Open}
 use Rattle.message_delivery.specs.declared.limits.TheConstants.{MAX_ARRIVALS}
-use Rattle.link_handshake.specs.Greeting.{BeginsWith, IsUnbound, SaysWhy, cut, disagrees, ended}
-use Rattle.link_handshake.specs.Hearing.{HasCome, HasStayed}
+use Rattle.link_handshake.specs.Handshake.{HasFirstFrame, IsUnbound, IsUnboundCause, cut, disagrees, ended}
+use Rattle.link_handshake.specs.Receiving.{HasReceivedSince, IsUnchangedByReceives}
 use Rattle.link_handshake.specs.declared.unbound.Unbound.{Unbound}
 use Rattle.link_handshake.specs.declared.unbound.Unbound.TheVariants as unbound
 
@@ -48,14 +48,14 @@ appends-more (Some a) (Some b) (Some c) xs ys first second =
     second ∙ ap (λ (zs : List ℕ). zs ++ ys) first ∙ append_assoc a xs ys
 
 -- initially nothing was received
-pub none-come : (given : Option (List ℕ)) (a : Arrivals) → HaveLived no_life a → HasCome given given a
+pub none-come : (given : Option (List ℕ)) (a : Arrivals) → IsArrivalTrace empty_trace a → HasReceivedSince given given a
 none-come given a h = record { stream = []; fault = None; came = appends-nothing given; lived = h }
 
 -- more bytes are appended
-pub more-come : (given mid new : Option (List ℕ)) (a b : Arrivals) → (h : HasCome given mid a)
+pub more-come : (given mid new : Option (List ℕ)) (a b : Arrivals) → (h : HasReceivedSince given mid a)
     → (piece : List ℕ) × (fault : Option FeedFault) × Appends mid new piece
-    × HaveLived (fed (fed no_life h.stream h.fault) piece fault) b
-    → HasCome given new b
+    × IsArrivalTrace (after_piece (after_piece empty_trace h.stream h.fault) piece fault) b
+    → HasReceivedSince given new b
 more-come given mid new a b h (piece, fault, came, lived) = record {
   stream = h.stream ++ piece;
   fault = fault;
@@ -65,9 +65,9 @@ more-come given mid new a b h (piece, fault, came, lived) = record {
 
 -- ---- what is unchanged
 
-pub none-stayed : (given : Option (List ℕ)) (faults : ℕ) (over : Bool) (a : Arrivals) → a.stream ≡ Open
-    → HasStayed given given faults faults over a a
-none-stayed given faults over a going = record {
+pub none-stayed : (given : Option (List ℕ)) (failures : ℕ) (over : Bool) (a : Arrivals) → a.stream ≡ Open
+    → IsUnchangedByReceives given given failures failures over a a
+none-stayed given failures over a going = record {
   same = record { table = refl; policy = refl; conn = refl; words = refl; heap = refl };
   writer = refl;
   lines = refl;
@@ -81,7 +81,7 @@ none-stayed given faults over a going = record {
   silent = λ none. none;
 }
 
-same-both : (a b c : Arrivals) → AreSame a b → AreSame b c → AreSame a c
+same-both : (a b c : Arrivals) → HaveSameIdentity a b → HaveSameIdentity b c → HaveSameIdentity a c
 same-both a b c h k = record {
   table = k.table ∙ h.table;
   policy = k.policy ∙ h.policy;
@@ -91,24 +91,24 @@ same-both a b c h k = record {
 }
 
 -- what one receive doesn't change in open arrivals
-pub record HasReceived (given given' : Option (List ℕ)) (faults faults' : ℕ) (over : Bool) (old new : Arrivals)
+pub record HasReceived (given given' : Option (List ℕ)) (failures faults' : ℕ) (over : Bool) (old new : Arrivals)
     : Type 0 where
-  pub same : AreSame old new
+  pub same : HaveSameIdentity old new
   pub writer : new.writer ≡ old.writer
   pub lines : new.lines ≡ old.lines
   pub heap : new.inbound.heap ≡ old.inbound.heap
-  pub cause : HasCause ((old.stream ≢ HasFailed) × (new.stream ≡ HasFailed)) faults faults'
+  pub cause : HasCause ((old.stream ≢ HasFailed) × (new.stream ≡ HasFailed)) failures faults'
   pub ends : old.stream ≢ HasEnded → new.stream ≡ HasEnded → IsTrue over
   pub silent : given ≡ None → given' ≡ None
 
-pub more-stayed : (given mid new : Option (List ℕ)) (faults faults' faults'' : ℕ) (over over' : Bool)
-    (first a b : Arrivals) → HasStayed given mid faults faults' over first a → a.stream ≡ Open
-    → HasReceived mid new faults' faults'' over' a b → HasStayed given new faults faults'' over' first b
-more-stayed given mid new faults faults' faults'' over over' first a b h going r =
+pub more-stayed : (given mid new : Option (List ℕ)) (failures faults' faults'' : ℕ) (over over' : Bool)
+    (first a b : Arrivals) → IsUnchangedByReceives given mid failures faults' over first a → a.stream ≡ Open
+    → HasReceived mid new faults' faults'' over' a b → IsUnchangedByReceives given new failures faults'' over' first b
+more-stayed given mid new failures faults' faults'' over over' first a b h going r =
     let working : a.stream ≢ HasFailed = λ is. let no : Open ≡ HasFailed = sym going ∙ is in absurd cc in
     let lasting : a.stream ≢ HasEnded = λ is. let no : Open ≡ HasEnded = sym going ∙ is in absurd cc in
-    let none : faults' ≡ faults = h.cause.stays working in
-    let cause : HasCause ((a.stream ≢ HasFailed) × (b.stream ≡ HasFailed)) faults faults'' =
+    let none : faults' ≡ failures = h.cause.stays working in
+    let cause : HasCause ((a.stream ≢ HasFailed) × (b.stream ≡ HasFailed)) failures faults'' =
     subst (λ (n : ℕ). HasCause ((a.stream ≢ HasFailed) × (b.stream ≡ HasFailed)) n faults'') none r.cause in
     record {
       same = same-both first a b h.same r.same;
@@ -128,44 +128,44 @@ more-stayed given mid new faults faults' faults'' over over' first a b h going r
 
 -- the bytes of a frame before others determine it
 abbrev pub Once : Type 0
-Once = (f g : Frame) (more others : List ℕ) → IsFrame f → IsFrame g → bytes_of f ++ more ≡ bytes_of g ++ others
+Once = (f g : Frame) (more others : List ℕ) → IsFrame f → IsFrame g → bytes_of_frame f ++ more ≡ bytes_of_frame g ++ others
     → f.place ≡ g.place → (f ≡ g) × (more ≡ others)
 
 begins : (place : ℕ) (bytes stream : List ℕ) (fault : Option FeedFault) (waiting : List Frame) (f : Frame)
-    (rest : List ℕ) → Once → Reads 0 stream waiting fault → Reads place bytes waiting fault → IsFrame f
-    → bytes ≡ bytes_of f ++ rest → f.place ≡ place → BeginsWith stream fault f
+    (rest : List ℕ) → Once → HasFrames 0 stream waiting fault → HasFrames place bytes waiting fault → IsFrame f
+    → bytes ≡ bytes_of_frame f ++ rest → f.place ≡ place → HasFirstFrame stream fault f
 begins place bytes stream fault [] f rest once all kept frame is at =
     absurd (kept.splits.partial f rest frame (sym kept.splits.whole ∙ is))
 begins place bytes stream fault (g ∷ gs) f rest once all kept frame is at =
-    let same = once g f (joined gs ++ kept.rest) rest (All-head IsFrame g gs kept.splits.each) frame
-    (sym (append_assoc (bytes_of g) (joined gs) kept.rest) ∙ sym kept.splits.whole ∙ is)
+    let same = once g f (concat_frames gs ++ kept.rest) rest (All-head IsFrame g gs kept.splits.each) frame
+    (sym (append_assoc (bytes_of_frame g) (concat_frames gs) kept.rest) ∙ sym kept.splits.whole ∙ is)
     (kept.splits.places.0 ∙ sym at) in
-    (gs, subst (λ (x : Frame). Reads 0 stream (x ∷ gs) fault) same.0 all)
+    (gs, subst (λ (x : Frame). HasFrames 0 stream (x ∷ gs) fault) same.0 all)
 
 -- the first frame that waits is the first of the stream
-pub first-begins : (T : Table) (stream : List ℕ) (fault : Option FeedFault) (r : Receiving) (f : Frame) → Once
-    → Lives T (fed no_life stream fault) r → IsFirst r.fed f → BeginsWith stream fault f
+pub first-begins : (T : Table) (stream : List ℕ) (fault : Option FeedFault) (r : ReceiverState) (f : Frame) → Once
+    → IsTraceOf T (after_piece empty_trace stream fault) r → IsFirstFrame r.fed f → HasFirstFrame stream fault f
 first-begins T stream fault r f once lives first =
     begins r.fed.place r.fed.bytes stream fault lives.waiting f first.rest once lives.all lives.kept first.frame
     first.bytes first.place
 
 -- and so is the hello that was taken
-pub hello-begins : (T : Table) (stream : List ℕ) (fault : Option FeedFault) (r : Receiving) (f : Frame)
-    → Lives T (greeted (fed no_life stream fault) f) r → BeginsWith stream fault f
+pub hello-begins : (T : Table) (stream : List ℕ) (fault : Option FeedFault) (r : ReceiverState) (f : Frame)
+    → IsTraceOf T (after_hello (after_piece empty_trace stream fault) f) r → HasFirstFrame stream fault f
 hello-begins T stream fault r f lives = (lives.waiting, lives.all)
 
 -- the trace of the arrivals continues after the hello
 pub greeted-lived : (stream : List ℕ) (fault : Option FeedFault) (a b : Arrivals) (hello : Frame)
-    → HaveLived (fed no_life stream fault) a
-    → Lives b.table.now (greeted (fed no_life stream fault) hello) b.inbound
+    → IsArrivalTrace (after_piece empty_trace stream fault) a
+    → IsTraceOf b.table.now (after_hello (after_piece empty_trace stream fault) hello) b.inbound
     → b.table.now ≡ a.table.now → b.inbound.heap ≡ a.inbound.heap → b.policy ≡ a.policy → b.lines ≡ a.lines
     → b.writer ≡ a.writer → b.stream ≡ a.stream → b.fault ≡ a.fault
-    → HaveLived (greeted (fed no_life stream fault) hello) b
+    → IsArrivalTrace (after_hello (after_piece empty_trace stream fault) hello) b
 greeted-lived stream fault a b hello h lives table heap policy lines writer state same = record {
   valid = subst IsValid (sym table) h.valid;
   lives = lives;
-  told = subst (λ x. AllZip IsTold [] x.items) (sym lines) h.told;
-  judged = subst (λ p. All (λ x. policy_of x ≡ option_copied p) []) (sym policy) h.judged;
+  told = subst (λ x. AllZip IsFateLine [] x.items) (sym lines) h.told;
+  judged = subst (λ p. All (λ x. policy_of_fate x ≡ option_copied p) []) (sym policy) h.judged;
   stored = ap (λ x. x.stores) writer ∙ h.stored;
   words = ap (λ x. x.heap.words) writer ∙ h.words ∙ sym (ap (λ (l : Layout). l.words) heap);
   most = subst (λ (l : Layout). l.words ≤ 65536) (sym heap) h.most;
@@ -185,13 +185,13 @@ told-so P Q (Err e) all h = h
 -- tables don't agree, for a cause
 pub disagreement : (T theirs : Table) (service said bytes : List ℕ) (f : Frame) (cause : Unbound) (why : AgreeFault)
     → f.kind ≡ HELLO → bytes ≡ f.payload → IsHello bytes said theirs
-    → (why ≡ NoMemoryToAgree) ⊎ Refuses T theirs service f.version why
+    → (why ≡ NoMemoryToAgree) ⊎ IsDisagreement T theirs service f.version why
     → (cause ≡ unbound.Disagrees why) × (why ≢ NoMemoryToAgree)
-    → SaysWhy cause × ((stream : List ℕ) (fault : Option FeedFault) (state : Stream) → BeginsWith stream fault f
+    → IsUnboundCause cause × ((stream : List ℕ) (fault : Option FeedFault) (state : StreamState) → HasFirstFrame stream fault f
     → IsUnbound T service stream fault state cause)
 disagreement T theirs service said bytes f cause why kind same says (inl none) told = absurd (told.1 none)
 disagreement T theirs service said bytes f cause why kind same says (inr refused) told = (
-  subst SaysWhy (sym told.0) told.1,
+  subst IsUnboundCause (sym told.0) told.1,
   λ stream fault state begins.
       disagrees f theirs why (record {
         first = begins;
@@ -203,9 +203,9 @@ disagreement T theirs service said bytes f cause why kind same says (inr refused
 
 -- the invalid line of a payload
 pub bad-line : (payload bytes : List ℕ) (fault : HelloFault) (line : ℕ) → bytes ≡ payload → fault ≡ Bad line
-    → IsFaultOf bytes fault → IsBadAt payload line
+    → IsHelloFaultOf bytes fault → IsFirstFaultyLine payload line
 bad-line payload bytes fault line same is h =
-    subst (λ (xs : List ℕ). IsBadAt xs line) same (subst (IsFaultOf bytes) is h)
+    subst (λ (xs : List ℕ). IsFirstFaultyLine xs line) same (subst (IsHelloFaultOf bytes) is h)
 
 -- ---- no first frame
 
@@ -216,21 +216,21 @@ fault-says place bytes fault (no_kind many small other is) none = absurd cc
 fault-says place bytes fault (no_version many small kind other is) none = absurd cc
 
 -- all received bytes are in no frame
-reads-none : (stream : List ℕ) (fault : Option FeedFault) (a : Arrivals) → TakesEach
-    → HaveLived (fed no_life stream fault) a → IsPartial a.inbound.fed.bytes → Reads 0 stream [] fault
-reads-none stream fault a each h partial = each a.table.now (fed no_life stream fault) a.inbound h.lives partial
+reads-none : (stream : List ℕ) (fault : Option FeedFault) (a : Arrivals) → IsEachFrameTaken
+    → IsArrivalTrace (after_piece empty_trace stream fault) a → IsPartial a.inbound.fed.bytes → HasFrames 0 stream [] fault
+reads-none stream fault a each h partial = each a.table.now (after_piece empty_trace stream fault) a.inbound h.lives partial
 
-pub none-ended : (service stream : List ℕ) (fault : Option FeedFault) (a : Arrivals) → TakesEach
-    → HaveLived (fed no_life stream fault) a → IsPartial a.inbound.fed.bytes → a.stream ≡ HasEnded
+pub none-ended : (service stream : List ℕ) (fault : Option FeedFault) (a : Arrivals) → IsEachFrameTaken
+    → IsArrivalTrace (after_piece empty_trace stream fault) a → IsPartial a.inbound.fed.bytes → a.stream ≡ HasEnded
     → IsUnbound a.table.now service stream fault a.stream unbound.Ended
 none-ended service stream fault a each h partial is =
     let clean : fault ≡ None = h.uncut (λ cut. let no : HasEnded ≡ IsCut = sym is ∙ cut in absurd cc) in
-    ended is (subst (Reads 0 stream []) clean (reads-none stream fault a each h partial)) refl
+    ended is (subst (HasFrames 0 stream []) clean (reads-none stream fault a each h partial)) refl
 
-pub none-cut : (service stream : List ℕ) (fault : Option FeedFault) (a : Arrivals) (first : FeedFault) → TakesEach
-    → HaveLived (fed no_life stream fault) a → IsPartial a.inbound.fed.bytes → a.fault ≡ Some first
+pub none-cut : (service stream : List ℕ) (fault : Option FeedFault) (a : Arrivals) (first : FeedFault) → IsEachFrameTaken
+    → IsArrivalTrace (after_piece empty_trace stream fault) a → IsPartial a.inbound.fed.bytes → a.fault ≡ Some first
     → (first ≢ NoMemory) × IsUnbound a.table.now service stream fault a.stream (unbound.Cut first)
 none-cut service stream fault a first each h partial is =
-    let reads : Reads 0 stream [] (Some first) =
-    subst (Reads 0 stream []) (sym h.first ∙ is) (reads-none stream fault a each h partial) in
+    let reads : HasFrames 0 stream [] (Some first) =
+    subst (HasFrames 0 stream []) (sym h.first ∙ is) (reads-none stream fault a each h partial) in
     (fault-says (0 + 0) reads.rest first reads.first, cut first reads refl)

@@ -14,16 +14,16 @@ use Rattle.mrpc_table.specs.declared.table.Label.TheVariants.{Plain}
 use Rattle.mrpc_table.specs.declared.table.Field.{Field}
 use Rattle.mrpc_table.specs.declared.table.Table.{Table}
 use Rattle.frame_transport.specs.Bytes.{header_bytes}
-use Rattle.frame_transport.specs.Frames.{IsFaultAt, IsFrame, IsPartial, bytes_of, joined, length_in, long}
+use Rattle.frame_transport.specs.Frames.{IsFaultAt, IsFrame, IsPartial, bytes_of_frame, concat_frames, length_field, long}
 use Rattle.frame_transport.specs.declared.format.Frame.{Frame}
 use Rattle.frame_transport.specs.declared.fault.FeedFault.{FeedFault}
 use Rattle.frame_transport.specs.declared.fault.FeedFault.TheVariants.{TooLong}
-use Rattle.receive_core.specs.Life.{Reads}
-use Rattle.schema_binding.specs.Agreement.{DifferAt, Offers, by_text, other_text}
+use Rattle.receive_core.specs.ReceiverTraces.{HasFrames}
+use Rattle.schema_binding.specs.Agreement.{AreFirstDifferentAt, HasMethodOf, by_text, other_text}
 use Rattle.schema_binding.specs.Hello.{IsHello, hello_payload, no_line_feed}
 use Rattle.schema_binding.specs.declared.fault.AgreeFault.TheVariants.{Mismatch}
-use Rattle.message_delivery.specs.declared.arrivals.Stream.TheVariants.{Cut as IsCut, Ended as HasEnded, Failed as HasFailed, Open}
-use Rattle.link_handshake.specs.Greeting.{IsBound, IsUnbound, hello_of, bad_hello, cut, disagrees, ended, failed, other_frame}
+use Rattle.message_delivery.specs.declared.arrivals.StreamState.TheVariants.{Cut as IsCut, Ended as HasEnded, Failed as HasFailed, Open}
+use Rattle.link_handshake.specs.Handshake.{IsBound, IsUnbound, hello_of, bad_hello, cut, disagrees, ended, failed, other_frame}
 use Rattle.link_handshake.specs.declared.unbound.Unbound.TheVariants.{Transport, Ended, Cut, Hello, Disagrees}
 
 -- ---- tables: a message M with a field a, or with fields a and b, and the method Get of the service S that uses
@@ -131,11 +131,11 @@ valid_ab : IsValid a_and_b
 unfolding digits
 valid_ab = is_valid (field_named 1 (codes "a") ∷ field_named 2 (codes "b") ∷ []) is_message_ab (omega arith)
 
-offers_S : (fields : List Field) → Offers (of_fields fields) (codes "S")
+offers_S : (fields : List Field) → HasMethodOf (of_fields fields) (codes "S")
 offers_S fields = (0, omega arith, refl)
 
 -- if one table has a further field, the texts differ first in `m` of `method` against `f` of `field`
-further_field : DifferAt (table_text a_only) (table_text a_and_b) 33 (Some 109) (Some 102)
+further_field : AreFirstDifferentAt (table_text a_only) (table_text a_and_b) 33 (Some 109) (Some 102)
 unfolding digits
 further_field = record {
   same = refl;
@@ -199,18 +199,18 @@ no_fault_in_nothing : (place : ℕ) → ((place : ℕ) (bytes : List ℕ) → le
     → IsFaultAt place bytes fault → ⊥) → (fault : FeedFault) → IsFaultAt place [] fault → ⊥
 no_fault_in_nothing place early fault is = early place [] (omega arith) fault is
 
-module _ (size : (f : Frame) → length (bytes_of f) ≡ 16 + length f.payload)
+module _ (size : (f : Frame) → length (bytes_of_frame f) ≡ 16 + length f.payload)
     (early : (place : ℕ) (bytes : List ℕ) → length bytes < 4 → (fault : FeedFault) → IsFaultAt place bytes fault → ⊥)
   where
     -- a few bytes are no frame
     partial : (bytes : List ℕ) → length bytes < 16 → IsPartial bytes
     partial bytes few f more frame is =
-        let one : length bytes ≡ length (bytes_of f ++ more) = ap (λ (xs : List ℕ). length xs) is in
-        let two : length (bytes_of f ++ more) ≡ length (bytes_of f) + length more = length-append (bytes_of f) more in
-        let three : length (bytes_of f) ≡ 16 + length f.payload = size f in
+        let one : length bytes ≡ length (bytes_of_frame f ++ more) = ap (λ (xs : List ℕ). length xs) is in
+        let two : length (bytes_of_frame f ++ more) ≡ length (bytes_of_frame f) + length more = length-append (bytes_of_frame f) more in
+        let three : length (bytes_of_frame f) ≡ 16 + length f.payload = size f in
         omega (arith, one, two, three, few)
 
-    reads_nothing : Reads 0 [] [] None
+    reads_nothing : HasFrames 0 [] [] None
     reads_nothing = record {
       rest = [];
       splits = record { whole = refl; each = All-nil IsFrame; places = tt; partial = partial [] (omega arith) };
@@ -218,16 +218,16 @@ module _ (size : (f : Frame) → length (bytes_of f) ≡ 16 + length f.payload)
     }
 
     -- one frame, and nothing after it
-    reads_one : (f : Frame) → IsFrame f → f.place ≡ 0 → Reads 0 (joined (f ∷ [])) (f ∷ []) None
+    reads_one : (f : Frame) → IsFrame f → f.place ≡ 0 → HasFrames 0 (concat_frames (f ∷ [])) (f ∷ []) None
     reads_one f is place = record {
       rest = [];
       splits = record {
-        whole = sym (append-nil (joined (f ∷ [])));
+        whole = sym (append-nil (concat_frames (f ∷ [])));
         each = All-cons IsFrame f [] is (All-nil IsFrame);
         places = (place, tt);
         partial = partial [] (omega arith);
       };
-      first = λ fault at. early (0 + length (joined (f ∷ []))) [] (omega arith) fault at;
+      first = λ fault at. early (0 + length (concat_frames (f ∷ []))) [] (omega arith) fault at;
     }
 
     -- ---- the result for a connection
@@ -241,7 +241,7 @@ module _ (size : (f : Frame) → length (bytes_of f) ≡ 16 + length f.payload)
 
     -- the length of a first frame is too large
     too_long : IsUnbound a_only (codes "S") (0 ∷ 4 ∷ 0 ∷ 1 ∷ []) (Some (TooLong 0 262145)) IsCut (Cut (TooLong 0 262145))
-    unfolding length_in
+    unfolding length_field
     too_long = cut (TooLong 0 262145) (record {
       rest = 0 ∷ 4 ∷ 0 ∷ 1 ∷ [];
       splits = record {
@@ -254,12 +254,12 @@ module _ (size : (f : Frame) → length (bytes_of f) ≡ 16 + length f.payload)
     }) refl
 
     -- the first frame is a request
-    begins_with_a_request : IsUnbound a_only (codes "S") (joined (request ∷ [])) None Open (Hello 0)
+    begins_with_a_request : IsUnbound a_only (codes "S") (concat_frames (request ∷ [])) None Open (Hello 0)
     begins_with_a_request =
         other_frame request ([], reads_one request request_is refl) (λ e. omega (arith, e)) refl
 
     -- a hello whose payload has no line feed
-    one_line : IsUnbound a_only (codes "S") (joined (hello_with (codes "S") ∷ [])) None Open (Hello 1)
+    one_line : IsUnbound a_only (codes "S") (concat_frames (hello_with (codes "S") ∷ [])) None Open (Hello 1)
     one_line =
         bad_hello (hello_with (codes "S")) 1
         ([], reads_one (hello_with (codes "S")) (hello_is (codes "S") (omega arith)) refl) refl
@@ -267,7 +267,7 @@ module _ (size : (f : Frame) → length (bytes_of f) ≡ 16 + length f.payload)
         refl
 
     -- hellos of version 1: of a table with a further field, and of an equal one
-    further : IsUnbound a_only (codes "S") (joined (hello_with (hello_payload (codes "S") a_and_b) ∷ [])) None Open
+    further : IsUnbound a_only (codes "S") (concat_frames (hello_with (hello_payload (codes "S") a_and_b) ∷ [])) None Open
         (Disagrees (Mismatch 33 (Some 109) (Some 102)))
     further =
         disagrees (hello_with (hello_payload (codes "S") a_and_b)) a_and_b (Mismatch 33 (Some 109) (Some 102)) (record {
@@ -278,7 +278,7 @@ module _ (size : (f : Frame) → length (bytes_of f) ≡ 16 + length f.payload)
         }) (other_text 33 (Some 109) (Some 102) refl (offers_S (field_named 1 (codes "a") ∷ []))
         (offers_S (field_named 1 (codes "a") ∷ field_named 2 (codes "b") ∷ [])) further_field refl) refl
 
-    equal : IsBound a_only (codes "S") (joined (hello_with (hello_payload (codes "S") a_only) ∷ [])) None
+    equal : IsBound a_only (codes "S") (concat_frames (hello_with (hello_payload (codes "S") a_only) ∷ [])) None
         (hello_with (hello_payload (codes "S") a_only))
     equal = record {
       theirs = a_only;

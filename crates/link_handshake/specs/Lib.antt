@@ -1,2 +1,2 @@
-pub mod Greeting
-pub mod Hearing
+pub mod Handshake
+pub mod Receiving

@@ -3,24 +3,24 @@
 use Rattle.std.proofs.Common.{◌≡◌, ℕ, Bool, true, false, true≢false, List, [], ◌∷◌, ◌++◌, None, Some}
 use Rattle.std.proofs.Common.{refl, sym, ap, inl, inr, arith}
 use Rattle.spsc_queue.specs.declared.piece.Piece.{Piece}
-use Rattle.spsc_queue.specs.declared.piece.Piece.TheVariants.{Bytes, Mark}
-use Rattle.link_queue.specs.declared.marks.Order.{Order}
-use Rattle.link_queue.specs.declared.marks.Order.TheVariants.{Finish, Close}
-use Rattle.link_queue.specs.declared.marks.News.{News}
-use Rattle.link_queue.specs.declared.marks.News.TheVariants.{End, Failed, Memory}
-use Rattle.link_queue.specs.declared.marks.Health.TheVariants.{Working, Failed as HasFailed, Memory as LacksMemory}
-use Rattle.link_queue.specs.Known.{TellsMore, frames_since}
-use Rattle.spsc_queue.specs.Pieces.{frames_of}
-use Rattle.link_queue.specs.Marks.{Among, is_open, is_closed, has_finished, ends_once, may_hold, IsNewsOf}
-use Rattle.link_queue.specs.Marks.{QueuesUp, HearsBack, HasQueuedUp, PassesOn, BringsBack, HasBroughtBack}
+use Rattle.spsc_queue.specs.declared.piece.Piece.TheVariants.{Bytes, Sentinel}
+use Rattle.link_queue.specs.declared.orders.Order.{Order}
+use Rattle.link_queue.specs.declared.orders.Order.TheVariants.{Finish, Close}
+use Rattle.link_queue.specs.declared.orders.News.{News}
+use Rattle.link_queue.specs.declared.orders.News.TheVariants.{End, Failed, Memory}
+use Rattle.link_queue.specs.declared.orders.Health.TheVariants.{Working, Failed as HasFailed, Memory as LacksMemory}
+use Rattle.link_queue.specs.Known.{HasGrownBy, frames_since}
+use Rattle.spsc_queue.specs.Pieces.{frames_of_pieces}
+use Rattle.link_queue.specs.Sentinels.{IsSentinelIn, is_open, is_closed, has_finished, ends_once, may_hold, IsNewsOf}
+use Rattle.link_queue.specs.Sentinels.{IsQueueing, IsReceivingBack, HasQueued, IsForwarding, IsReturning, HasReturned}
 
 abbrev orders : List (Piece Order)
-orders = Bytes (1 ∷ 2 ∷ []) ∷ Mark Finish ∷ Bytes (3 ∷ []) ∷ Mark Close ∷ []
+orders = Bytes (1 ∷ 2 ∷ []) ∷ Sentinel Finish ∷ Bytes (3 ∷ []) ∷ Sentinel Close ∷ []
 
 abbrev frames : List (List ℕ)
 frames = (1 ∷ 2 ∷ []) ∷ (3 ∷ []) ∷ []
 
-both_frames : frames_of orders ≡ frames
+both_frames : frames_of_pieces orders ≡ frames
 both_frames = refl
 
 finished : has_finished orders ≡ true
@@ -30,10 +30,10 @@ closed : is_closed orders ≡ true
 closed = refl
 
 -- nothing follows the closing sentinel
-closed_early : is_closed (Mark Close ∷ Bytes (3 ∷ []) ∷ []) ≡ false
+closed_early : is_closed (Sentinel Close ∷ Bytes (3 ∷ []) ∷ []) ≡ false
 closed_early = refl
 
-still_open : is_open (Bytes (1 ∷ []) ∷ Mark Finish ∷ []) ≡ true
+still_open : is_open (Bytes (1 ∷ []) ∷ Sentinel Finish ∷ []) ≡ true
 still_open = refl
 
 -- the frames sent since a link had sent the first
@@ -42,67 +42,67 @@ the_second = refl
 
 -- an inner link that had received 1 received 2 and 3 since; if the earlier bytes aren't known, nothing is
 -- claimed
-more_came : TellsMore (Some (1 ∷ [])) (Some (1 ∷ 2 ∷ 3 ∷ [])) (2 ∷ 3 ∷ [])
+more_came : HasGrownBy (Some (1 ∷ [])) (Some (1 ∷ 2 ∷ 3 ∷ [])) (2 ∷ 3 ∷ [])
 more_came known e = let same : 1 ∷ [] ≡ known = cc (e) in ap (λ (l : List ℕ). Some (l ++ 2 ∷ 3 ∷ [])) same
 
-no_more_came : TellsMore (Some (1 ∷ [])) (Some (1 ∷ 2 ∷ [])) (3 ∷ []) → ⊥
+no_more_came : HasGrownBy (Some (1 ∷ [])) (Some (1 ∷ 2 ∷ [])) (3 ∷ []) → ⊥
 no_more_came h = let e = h (1 ∷ []) refl in cc (e)
 
-tells_nothing : TellsMore None None (3 ∷ [])
+tells_nothing : HasGrownBy None None (3 ∷ [])
 tells_nothing known e = absurd (cc (e))
 
 -- ---- what a writer forwarded of the orders that it popped
 
 -- all were forwarded, or only the first because the inner link failed then
-all_passed : PassesOn orders frames true Working
+all_passed : IsForwarding orders frames true Working
 all_passed = record { unclosed = λ e. absurd (true≢false e); closed_last = λ _. refl; in_order = refl; whole = λ _. refl }
 
-first_passed : PassesOn orders ((1 ∷ 2 ∷ []) ∷ []) true HasFailed
+first_passed : IsForwarding orders ((1 ∷ 2 ∷ []) ∷ []) true HasFailed
 first_passed = record { unclosed = λ e. absurd (true≢false e); closed_last = λ _. refl; in_order = refl; whole = λ e. absurd (cc (e)) }
 
 -- no frame overtakes another, is duplicated, or is left out while the inner link works
-none_overtakes : PassesOn orders ((3 ∷ []) ∷ (1 ∷ 2 ∷ []) ∷ []) true HasFailed → ⊥
+none_overtakes : IsForwarding orders ((3 ∷ []) ∷ (1 ∷ 2 ∷ []) ∷ []) true HasFailed → ⊥
 none_overtakes h = cc (h.in_order)
 
-none_twice : PassesOn orders ((1 ∷ 2 ∷ []) ∷ (1 ∷ 2 ∷ []) ∷ []) true HasFailed → ⊥
+none_twice : IsForwarding orders ((1 ∷ 2 ∷ []) ∷ (1 ∷ 2 ∷ []) ∷ []) true HasFailed → ⊥
 none_twice h = cc (h.in_order)
 
-none_left_out : PassesOn orders ((1 ∷ 2 ∷ []) ∷ []) true Working → ⊥
+none_left_out : IsForwarding orders ((1 ∷ 2 ∷ []) ∷ []) true Working → ⊥
 none_left_out h = cc (h.whole refl)
 
-none_from_nowhere : PassesOn orders ((9 ∷ []) ∷ []) true HasFailed → ⊥
+none_from_nowhere : IsForwarding orders ((9 ∷ []) ∷ []) true HasFailed → ⊥
 none_from_nowhere h = cc (h.in_order)
 
 -- the closing sentinel is the last piece that it pops
-none_behind_the_closing : PassesOn (Mark Close ∷ Bytes (3 ∷ []) ∷ []) [] true HasFailed → ⊥
+none_behind_the_closing : IsForwarding (Sentinel Close ∷ Bytes (3 ∷ []) ∷ []) [] true HasFailed → ⊥
 none_behind_the_closing h = true≢false (sym (h.closed_last refl))
 
 -- ---- what it returned of the bytes that it received
 
 -- one piece was pushed and one is held; then the end is held
-one_held : BringsBack (Bytes (7 ∷ []) ∷ []) (Some (Bytes (8 ∷ 9 ∷ []))) (7 ∷ 8 ∷ 9 ∷ []) false Working
+one_held : IsReturning (Bytes (7 ∷ []) ∷ []) (Some (Bytes (8 ∷ 9 ∷ []))) (7 ∷ 8 ∷ 9 ∷ []) false Working
 one_held = record { in_order = refl; ends_once = refl; ended_first = λ a. absurd a; holds = refl; failed_first = λ a. absurd a }
 
-end_held : BringsBack (Bytes (7 ∷ []) ∷ []) (Some (Mark End)) (7 ∷ []) true Working
+end_held : IsReturning (Bytes (7 ∷ []) ∷ []) (Some (Sentinel End)) (7 ∷ []) true Working
 end_held = record { in_order = refl; ends_once = refl; ended_first = λ a. absurd a; holds = refl; failed_first = λ a. absurd a }
 
 -- the end is reported after the last piece, and only after the inner link's end; a failure only after a failure
-end_before_the_last : ends_once (Mark End ∷ Bytes (7 ∷ []) ∷ []) ≡ false
+end_before_the_last : ends_once (Sentinel End ∷ Bytes (7 ∷ []) ∷ []) ≡ false
 end_before_the_last = refl
 
-no_end_yet : BringsBack (Mark End ∷ []) None [] false Working → ⊥
+no_end_yet : IsReturning (Sentinel End ∷ []) None [] false Working → ⊥
 no_end_yet h = true≢false (sym (h.ended_first (inl refl)))
 
-no_failure : BringsBack (Mark Failed ∷ []) None [] false LacksMemory → ⊥
+no_failure : IsReturning (Sentinel Failed ∷ []) None [] false LacksMemory → ⊥
 no_failure h = cc (h.failed_first (inl refl))
 
 no_bytes_after_the_end : may_hold true (Some (Bytes (7 ∷ []))) ≡ false
 no_bytes_after_the_end = refl
 
-no_byte_twice : BringsBack (Bytes (7 ∷ []) ∷ []) (Some (Bytes (7 ∷ 8 ∷ []))) (7 ∷ 8 ∷ []) false Working → ⊥
+no_byte_twice : IsReturning (Bytes (7 ∷ []) ∷ []) (Some (Bytes (7 ∷ 8 ∷ []))) (7 ∷ 8 ∷ []) false Working → ⊥
 no_byte_twice h = cc (h.in_order)
 
-no_byte_lost : BringsBack (Bytes (8 ∷ []) ∷ []) None (7 ∷ 8 ∷ []) false Working → ⊥
+no_byte_lost : IsReturning (Bytes (8 ∷ []) ∷ []) None (7 ∷ 8 ∷ []) false Working → ⊥
 no_byte_lost h = cc (h.in_order)
 
 -- a failure is reported only of a link that failed, and out of memory only if the writer was
@@ -117,7 +117,7 @@ no_want_told e = cc (e)
 
 -- when closed, it drops what it held for a full queue, but no byte before that, and no byte if it reported the
 -- end
-held_left_out : HasBroughtBack (Bytes (7 ∷ []) ∷ []) (7 ∷ 8 ∷ 9 ∷ []) false Working
+held_left_out : HasReturned (Bytes (7 ∷ []) ∷ []) (7 ∷ 8 ∷ 9 ∷ []) false Working
 held_left_out = record {
   in_order = refl;
   whole = λ a. absurd a;
@@ -126,7 +126,7 @@ held_left_out = record {
   failed_first = λ a. absurd a;
 }
 
-all_brought : HasBroughtBack (Bytes (7 ∷ []) ∷ Bytes (8 ∷ []) ∷ Mark End ∷ []) (7 ∷ 8 ∷ []) true Working
+all_brought : HasReturned (Bytes (7 ∷ []) ∷ Bytes (8 ∷ []) ∷ Sentinel End ∷ []) (7 ∷ 8 ∷ []) true Working
 all_brought = record {
   in_order = refl;
   whole = λ _. refl;
@@ -135,26 +135,26 @@ all_brought = record {
   failed_first = failed;
 }
   where
-    failed : Among Failed (End ∷ []) → Working ≡ HasFailed
+    failed : IsSentinelIn Failed (End ∷ []) → Working ≡ HasFailed
     failed (inl e) = absurd (cc (e))
     failed (inr a) = absurd a
 
-none_overtaken : HasBroughtBack (Bytes (8 ∷ []) ∷ []) (7 ∷ 8 ∷ []) false Working → ⊥
+none_overtaken : HasReturned (Bytes (8 ∷ []) ∷ []) (7 ∷ 8 ∷ []) false Working → ⊥
 none_overtaken h = cc (h.in_order)
 
-no_end_with_a_rest : HasBroughtBack (Bytes (7 ∷ []) ∷ Mark End ∷ []) (7 ∷ 8 ∷ []) true Working → ⊥
+no_end_with_a_rest : HasReturned (Bytes (7 ∷ []) ∷ Sentinel End ∷ []) (7 ∷ 8 ∷ []) true Working → ⊥
 no_end_with_a_rest h = let e = h.whole (inl refl) in cc (e)
 
 -- ---- what a link pushed into a queue of capacity 1, and what it popped from the queue back
 
 abbrev bytes_and_end : List (Piece News)
-bytes_and_end = Bytes (7 ∷ 8 ∷ []) ∷ Mark End ∷ []
+bytes_and_end = Bytes (7 ∷ 8 ∷ []) ∷ Sentinel End ∷ []
 
 abbrev queues : ℕ → Bool → Type 0
-queues free finished = QueuesUp 1 3 free (Bytes (1 ∷ []) ∷ Mark Finish ∷ []) finished
+queues free finished = IsQueueing 1 3 free (Bytes (1 ∷ []) ∷ Sentinel Finish ∷ []) finished
 
 abbrev hears : List (Piece News) → List ℕ → Bool → ℕ → Type 0
-hears taken given ended faults = HearsBack taken given ended Working faults
+hears taken given ended failures = IsReceivingBack taken given ended Working failures
 
 one_place_is_left : queues 1 true
 one_place_is_left = record {
@@ -200,7 +200,7 @@ no_fault_of_its_own : hears [] [] false 1 → ⊥
 no_fault_of_its_own h = let e = h.counts (omega arith) in cc (e)
 
 -- a closed link pushed the closing sentinel last, and knows of a failure only by its sentinel
-all_went : HasQueuedUp orders bytes_and_end (7 ∷ 8 ∷ []) true false
+all_went : HasQueued orders bytes_and_end (7 ∷ 8 ∷ []) true false
 all_went = record {
   closed_last = refl;
   ends = λ _. inl refl;
@@ -208,12 +208,12 @@ all_went = record {
   fails = λ e. absurd (true≢false (sym e));
 }
 
-never_closed : HasQueuedUp (Bytes (1 ∷ []) ∷ []) [] [] false false → ⊥
+never_closed : HasQueued (Bytes (1 ∷ []) ∷ []) [] [] false false → ⊥
 never_closed h = true≢false (sym h.closed_last)
 
-no_failure_without_the_mark : HasQueuedUp orders bytes_and_end (7 ∷ 8 ∷ []) true true → ⊥
+no_failure_without_the_mark : HasQueued orders bytes_and_end (7 ∷ 8 ∷ []) true true → ⊥
 no_failure_without_the_mark h = let a = h.fails refl in none a
   where
-    none : Among Failed (End ∷ []) → ⊥
+    none : IsSentinelIn Failed (End ∷ []) → ⊥
     none (inl e) = cc (e)
     none (inr a) = absurd a

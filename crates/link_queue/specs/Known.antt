@@ -2,11 +2,11 @@
 use Rattle.std.specs.Prelude.{◌≡◌, ℕ, List, ◌++◌, Option, Some, drop, take, length}
 
 -- if the earlier bytes are known, the later ones are those followed by `bytes`
-abbrev pub TellsMore : Option (List ℕ) → Option (List ℕ) → List ℕ → Type 0
-TellsMore old new bytes = (known : List ℕ) → old ≡ Some known → new ≡ Some (known ++ bytes)
+abbrev pub HasGrownBy : Option (List ℕ) → Option (List ℕ) → List ℕ → Type 0
+HasGrownBy old new bytes = (known : List ℕ) → old ≡ Some known → new ≡ Some (known ++ bytes)
 
 -- a link as its writer got it, and as it is now
-pub record Later (L : Type 0) : Type 0 where
+pub record LinkProgress (L : Type 0) : Type 0 where
   pub start : L
   pub now : L
 
@@ -15,5 +15,5 @@ abbrev pub frames_since : List (List ℕ) → List (List ℕ) → List (List ℕ
 frames_since old new = drop (length old) new
 
 -- `front` is a prefix of the list
-abbrev pub BeginsWith : {A : Type 0} → List A → List A → Type 0
-BeginsWith xs front = take (length front) xs ≡ front
+abbrev pub IsPrefix : {A : Type 0} → List A → List A → Type 0
+IsPrefix xs front = take (length front) xs ≡ front

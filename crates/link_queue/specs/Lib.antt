@@ -1,5 +1,5 @@
 pub mod Inners
 pub mod Known
-pub mod Marks
+pub mod Sentinels
 pub mod Queueing
 pub mod Writers

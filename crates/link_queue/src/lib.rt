@@ -11,19 +11,19 @@
 //! writer was out of memory. The bytes that the link delivered are a prefix of those that the inner link received.
 #![tactic(auto)]
 
+mod earlier;
 mod inner;
-mod kept;
 mod limits;
-mod marks;
 mod opening;
+mod orders;
 mod queue_link;
-mod was;
+mod tracked;
 mod writer;
 mod writer_end;
 
 pub use limits::MAX_CAPACITY;
-pub use marks::Health;
 pub use opening::open;
-pub use queue_link::{Passed, QueueLink};
+pub use orders::Health;
+pub use queue_link::{ClosedQueueLink, QueueLink};
 pub use writer::QueueWriter;
 pub use writer_end::WriterEnd;

@@ -4,8 +4,8 @@ ghost use Rattle.std.specs.Prelude.{◌≡◌, ◌≤◌, [], false, IfOk};
 ghost use Rattle.link_queue.specs.declared.limits.TheConstants.{MAX_CAPACITY};
 ghost use Rattle.link_queue.specs.Writers.{writer_start, writer_forward, writer_backward};
 
-use crate::marks::Health;
-use crate::queue_link::MARK_PLACES;
+use crate::orders::Health;
+use crate::queue_link::SENTINEL_SLOTS;
 use crate::{QueueLink, QueueWriter};
 use mrpc_base::Link;
 use mrpc_table::Memory;
@@ -29,13 +29,13 @@ pub fn open<'r, R: Wait, L: Link + Drop>(
     ensures told { IfOk result (λ ends. ends.0.told ≡ []) }
     ensures most { IfOk result (λ ends. ends.0.most ≡ cap) }
     ensures health { IfOk result (λ ends. ends.0.health ≡ Health.Working) }
-    ensures faults { IfOk result (λ ends. ends.0.faults ≡ 0) }
+    ensures failures { IfOk result (λ ends. ends.0.failures ≡ 0) }
     ensures start { IfOk result (λ ends. writer_start ends.1 ≡ link) }
     ensures forward { IfOk result (λ ends. ends.0.forward ≡ writer_forward ends.1) }
     ensures backward { IfOk result (λ ends. ends.0.backward ≡ writer_backward ends.1) }
 {
     let most = cap as usize;
-    let (out, orders) = spsc_queue::open(alloc, most + MARK_PLACES)?;
+    let (out, orders) = spsc_queue::open(alloc, most + SENTINEL_SLOTS)?;
     let (back, incoming) = spsc_queue::open(alloc, most)?;
     let queue_link = QueueLink::new(rt, alloc, most, out, incoming);
     Ok((queue_link, QueueWriter::new(rt, alloc, link, orders, back)))

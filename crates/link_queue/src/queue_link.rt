@@ -2,22 +2,22 @@
 
 ghost use Rattle.std.specs.Prelude.{◌≡◌, ◌≢◌, ◌<◌, ◌≤◌, ◌+◌, ◌↔◌, [], ◌∷◌, ◌++◌, IsTrue, length, take, true, false};
 ghost use mathlib.Core.List.{IsPrefix};
-ghost use Rattle.mrpc_base.specs.Faults.{HasCause, raised};
-ghost use Rattle.mrpc_base.specs.Linking.{OnCame, OnNoneCame};
-ghost use Rattle.spsc_queue.specs.Ends.{put_of, taken_of, told_of, capacity_of, free_of, producer_queue, consumer_queue};
+ghost use Rattle.mrpc_base.specs.Failures.{HasCause, raised};
+ghost use Rattle.mrpc_base.specs.Links.{OnCame, OnNoneCame};
+ghost use Rattle.spsc_queue.specs.Ends.{pushed_of, popped_of, known_pushed_of, capacity_of, free_of, producer_queue, consumer_queue};
 
-use crate::marks::{Health, News, Order};
+use crate::orders::{Health, News, Order};
 use mrpc_base::{Came, Handed, Link};
 use mrpc_table::Bytes;
-use spsc_queue::{Consumer, Found, Piece, PieceReader, Producer};
+use spsc_queue::{Consumer, Piece, PieceReader, Producer, ReadResult};
 use std::alloc::Global;
 use std::marker::Model;
 use std::sync::Wait;
 
 // The slots that a queue has besides those for frames: for the sentinels of the end and of closing.
-pub(crate) const MARK_PLACES: usize = 2;
+pub(crate) const SENTINEL_SLOTS: usize = 2;
 
-/// A link whose frames a [`QueueWriter`](crate::QueueWriter) forwards. Contracts see it as a `Queueing`. A frame
+/// A link whose frames a [`QueueWriter`](crate::QueueWriter) forwards. Contracts see it as a `QueueLinkState`. A frame
 /// counts as sent once it is in the queue.
 pub struct QueueLink<'r, R: Wait> {
     rt: &'r R,
@@ -28,7 +28,7 @@ pub struct QueueLink<'r, R: Wait> {
     incoming: PieceReader<News>,
     // What it knows of the inner link.
     health: Health,
-    faults: u64,
+    failures: u64,
     finished: bool,
     ended: bool,
 }
@@ -41,29 +41,29 @@ impl<'r, R: Wait> Drop for QueueLink<'r, R> {
 }
 
 impl<'r, R: Wait> Model for QueueLink<'r, R> {
-    ghost use Rattle.spsc_queue.specs.Ends.{put_of, capacity_of, free_of, producer_queue};
-    ghost use Rattle.spsc_queue.specs.Pieces.{bytes_of, frames_of};
-    ghost use Rattle.spsc_queue.specs.Readers.{given_by, taken_by, told_by, reader_queue};
-    ghost use Rattle.link_queue.specs.Marks.{QueuesUp, HearsBack};
-    ghost use Rattle.link_queue.specs.Queueing.{Queueing};
+    ghost use Rattle.spsc_queue.specs.Ends.{pushed_of, capacity_of, free_of, producer_queue};
+    ghost use Rattle.spsc_queue.specs.Pieces.{bytes_of_pieces, frames_of_pieces};
+    ghost use Rattle.spsc_queue.specs.Readers.{delivered_by, popped_by, known_pushed_by, reader_queue};
+    ghost use Rattle.link_queue.specs.Sentinels.{IsQueueing, IsReceivingBack};
+    ghost use Rattle.link_queue.specs.Queueing.{QueueLinkState};
 
-    ghost Value = { Queueing };
+    ghost Value = { QueueLinkState };
 
     ghost view = { λ l. record {
-      handed = frames_of (put_of l.out);
+      handed = frames_of_pieces (pushed_of l.out);
       finished = l.finished;
-      given = given_by l.incoming;
+      given = delivered_by l.incoming;
       ended = l.ended;
-      told = bytes_of (told_by l.incoming);
+      told = bytes_of_pieces (known_pushed_by l.incoming);
       most = l.most;
       health = l.health;
-      faults = l.faults;
+      failures = l.failures;
       forward = producer_queue l.out;
       backward = reader_queue l.incoming;
     } };
 
-    ghost invariant = { λ l. QueuesUp l.most (capacity_of l.out) (free_of l.out) (put_of l.out) l.finished
-        × HearsBack (taken_by l.incoming) (given_by l.incoming) l.ended l.health l.faults };
+    ghost invariant = { λ l. IsQueueing l.most (capacity_of l.out) (free_of l.out) (pushed_of l.out) l.finished
+        × IsReceivingBack (popped_by l.incoming) (delivered_by l.incoming) l.ended l.health l.failures };
 }
 
 impl<'r, R: Wait> QueueLink<'r, R> {
@@ -76,9 +76,9 @@ impl<'r, R: Wait> QueueLink<'r, R> {
     ) -> QueueLink<'r, R>
         requires places { capacity_of out ≡ most + 2 }
         requires free { 2 ≤ free_of out }
-        requires put { put_of out ≡ [] }
-        requires taken { taken_of incoming ≡ [] }
-        requires told { told_of incoming ≡ [] }
+        requires put { pushed_of out ≡ [] }
+        requires taken { popped_of incoming ≡ [] }
+        requires told { known_pushed_of incoming ≡ [] }
         ensures handed { result.handed ≡ [] }
         ensures finished { result.finished ≡ false }
         ensures given { result.given ≡ [] }
@@ -86,7 +86,7 @@ impl<'r, R: Wait> QueueLink<'r, R> {
         ensures told_nothing { result.told ≡ [] }
         ensures most { result.most ≡ most }
         ensures health { result.health ≡ Health.Working }
-        ensures faults { result.faults ≡ 0 }
+        ensures failures { result.failures ≡ 0 }
         ensures forward { result.forward ≡ producer_queue out }
         ensures backward { result.backward ≡ consumer_queue incoming }
     {
@@ -97,20 +97,20 @@ impl<'r, R: Wait> QueueLink<'r, R> {
             out,
             incoming: PieceReader::new(alloc, incoming),
             health: Health::Working,
-            faults: 0,
+            failures: 0,
             finished: false,
             ended: false,
         }
     }
 
     /// Closes the link. The closing sentinel has a slot of its own, so this never waits for room.
-    pub fn close(self) -> Passed
+    pub fn close(self) -> ClosedQueueLink
         ensures handed { result.handed ≡ self.entry.handed }
         ensures given { result.given ≡ self.entry.given }
         ensures ended { result.ended ≡ self.entry.ended }
         ensures failed { (result.failed ≡ true) ↔ (self.entry.health ≡ Health.Failed) }
         // If the link counted a failure, it knows that the inner link failed.
-        ensures counted { 0 < self.entry.faults → result.failed ≡ true }
+        ensures counted { 0 < self.entry.failures → result.failed ≡ true }
         ensures forward { result.forward ≡ self.entry.forward }
         ensures backward { result.backward ≡ self.entry.backward }
     {
@@ -121,12 +121,12 @@ impl<'r, R: Wait> QueueLink<'r, R> {
             mut out,
             incoming,
             health,
-            faults: _,
+            failures: _,
             finished: _,
             ended,
         } = self;
-        out.put_reserved(rt, Piece::Mark(Order::Close));
-        Passed {
+        out.push_reserved(rt, Piece::Sentinel(Order::Close));
+        ClosedQueueLink {
             out,
             incoming,
             ended,
@@ -135,17 +135,17 @@ impl<'r, R: Wait> QueueLink<'r, R> {
     }
 
     // Counts a failed send or receive.
-    fn fault(&mut self)
+    fn count_failure(&mut self)
         requires { self.old.health ≡ Health.Failed }
-        ensures faults { self.new ≡ record self.old { faults = raised self.old.faults } }
-        ensures never_falls { self.old.faults ≤ self.new.faults }
+        ensures failures { self.new ≡ record self.old { failures = raised self.old.failures } }
+        ensures never_falls { self.old.failures ≤ self.new.failures }
     {
-        self.faults = self.faults.saturating_add(1);
+        self.failures = self.failures.saturating_add(1);
     }
 
     // Pushes a copy of the frame; waits while the queue is full.
     #[tactic(auto, using(crate::proofs::Pieces::frames_snoc_bytes, crate::proofs::Pieces::open_snoc_bytes, crate::proofs::Pieces::finished_snoc_bytes))]
-    fn put(&mut self, frame: &[u8]) -> Handed
+    fn push_frame(&mut self, frame: &[u8]) -> Handed
         ensures done { result ≡ Handed.Done
             → self.new ≡ record self.old { handed = self.old.handed ++ frame.now ∷ [] } }
         ensures other { result ≢ Handed.Done → (result ≡ Handed.Memory) × (self.new ≡ self.old) }
@@ -154,7 +154,7 @@ impl<'r, R: Wait> QueueLink<'r, R> {
             return Handed::Memory;
         };
         self.out
-            .put_leaving(self.rt, MARK_PLACES, Piece::Bytes(copy));
+            .push_leaving(self.rt, SENTINEL_SLOTS, Piece::Bytes(copy));
         Handed::Done
     }
 
@@ -178,17 +178,17 @@ impl<'r, R: Wait> QueueLink<'r, R> {
         } }
     {
         match self.incoming.read(self.rt, buf) {
-            Found::Bytes(count) => Came::Bytes(count),
-            Found::Nothing => Came::Idle,
-            Found::Mark(News::End) => {
+            ReadResult::Bytes(count) => Came::Bytes(count),
+            ReadResult::Nothing => Came::Idle,
+            ReadResult::Sentinel(News::End) => {
                 self.ended = true;
                 Came::End
             }
-            Found::Mark(News::Failed) => {
+            ReadResult::Sentinel(News::Failed) => {
                 self.health = Health::Failed;
                 Came::Failed
             }
-            Found::Mark(News::Memory) => {
+            ReadResult::Sentinel(News::Memory) => {
                 self.health = Health::Memory;
                 Came::Memory
             }
@@ -211,7 +211,7 @@ impl<'r, R: Wait> Link for QueueLink<'r, R> {
 
     ghost peer_finished = { λ old new. new.ended ≡ true };
 
-    ghost faults = { λ l. l.faults };
+    ghost failures = { λ l. l.failures };
 
     // The two queues are the same, with the same capacity for frames.
     ghost since = { λ old new. (new.forward ≡ old.forward) × (new.backward ≡ old.backward) × (new.most ≡ old.most) };
@@ -229,13 +229,13 @@ impl<'r, R: Wait> Link for QueueLink<'r, R> {
         ensures lacks { self.old.health ≡ Health.Memory → result ≡ Handed.Memory }
         ensures appended { result ≡ Handed.Done → self.new.handed ≡ self.old.handed ++ frame.now ∷ [] }
         ensures kept { result ≢ Handed.Done → self.new.handed ≡ self.old.handed }
-        ensures cause { HasCause (result ≡ Handed.Failed) self.old.faults self.new.faults }
-        ensures same { self.new ≡ record self.old { handed = self.new.handed; faults = self.new.faults } }
+        ensures cause { HasCause (result ≡ Handed.Failed) self.old.failures self.new.failures }
+        ensures same { self.new ≡ record self.old { handed = self.new.handed; failures = self.new.failures } }
     {
         match self.health {
-            Health::Working => self.put(frame),
+            Health::Working => self.push_frame(frame),
             Health::Failed => {
-                self.fault();
+                self.count_failure();
                 Handed::Failed
             }
             Health::Memory => Handed::Memory,
@@ -246,7 +246,7 @@ impl<'r, R: Wait> Link for QueueLink<'r, R> {
     fn has_room(&mut self, frames: usize) -> bool
         ensures same { self.new ≡ self.old }
     {
-        let places = frames.min(self.most).saturating_add(MARK_PLACES);
+        let places = frames.min(self.most).saturating_add(SENTINEL_SLOTS);
         self.out.has_free(self.rt, places)
     }
 
@@ -263,17 +263,17 @@ impl<'r, R: Wait> Link for QueueLink<'r, R> {
         ensures same_ended { result ≢ Came.End → self.new.ended ≡ self.old.ended }
         ensures idle { result ≡ Came.Idle → IsPrefix self.old.told self.new.given }
         ensures end { result ≡ Came.End → self.new.ended ≡ true }
-        ensures cause { HasCause (result ≡ Came.Failed) self.old.faults self.new.faults }
+        ensures cause { HasCause (result ≡ Came.Failed) self.old.failures self.new.failures }
         ensures same { self.new ≡ record self.old {
           given = self.new.given;
           ended = self.new.ended;
           health = self.new.health;
-          faults = self.new.faults;
+          failures = self.new.failures;
         } }
     {
         match self.health {
             Health::Failed => {
-                self.fault();
+                self.count_failure();
                 return Came::Failed;
             }
             Health::Memory => return Came::Memory,
@@ -284,7 +284,7 @@ impl<'r, R: Wait> Link for QueueLink<'r, R> {
         }
         let came = self.read(buf);
         if came == Came::Failed {
-            self.fault();
+            self.count_failure();
         }
         came
     }
@@ -294,38 +294,40 @@ impl<'r, R: Wait> Link for QueueLink<'r, R> {
         ensures { self.new ≡ record self.old { finished = true } }
     {
         if !self.finished {
-            self.out.put_reserved(self.rt, Piece::Mark(Order::Finish));
+            self.out
+                .push_reserved(self.rt, Piece::Sentinel(Order::Finish));
             self.finished = true;
         }
     }
 }
 
-/// A closed link, for [`WriterEnd::meet`](crate::WriterEnd::meet). Contracts see it as a `PassedOn`.
+/// A closed link, for [`WriterEnd::meet`](crate::WriterEnd::meet). Contracts see it as a `ClosedLinkState`.
 #[derive(Drop)]
-pub struct Passed {
+pub struct ClosedQueueLink {
     pub(crate) out: Producer<Piece<Order>>,
     pub(crate) incoming: PieceReader<News>,
     pub(crate) ended: bool,
     pub(crate) failed: bool,
 }
 
-impl Model for Passed {
-    ghost use Rattle.spsc_queue.specs.Ends.{put_of, producer_queue};
-    ghost use Rattle.spsc_queue.specs.Readers.{given_by, taken_by, reader_queue};
-    ghost use Rattle.spsc_queue.specs.Pieces.{frames_of};
-    ghost use Rattle.link_queue.specs.Marks.{HasQueuedUp};
-    ghost use Rattle.link_queue.specs.Queueing.{PassedOn};
+impl Model for ClosedQueueLink {
+    ghost use Rattle.spsc_queue.specs.Ends.{pushed_of, producer_queue};
+    ghost use Rattle.spsc_queue.specs.Readers.{delivered_by, popped_by, reader_queue};
+    ghost use Rattle.spsc_queue.specs.Pieces.{frames_of_pieces};
+    ghost use Rattle.link_queue.specs.Sentinels.{HasQueued};
+    ghost use Rattle.link_queue.specs.Queueing.{ClosedLinkState};
 
-    ghost Value = { PassedOn };
+    ghost Value = { ClosedLinkState };
 
     ghost view = { λ p. record {
-      handed = frames_of (put_of p.out);
-      given = given_by p.incoming;
+      handed = frames_of_pieces (pushed_of p.out);
+      given = delivered_by p.incoming;
       ended = p.ended;
       failed = p.failed;
       forward = producer_queue p.out;
       backward = reader_queue p.incoming;
     } };
 
-    ghost invariant = { λ p. HasQueuedUp (put_of p.out) (taken_by p.incoming) (given_by p.incoming) p.ended p.failed };
+    ghost invariant = { λ p. HasQueued (pushed_of p.out) (popped_by p.incoming) (delivered_by p.incoming) p.ended
+        p.failed };
 }

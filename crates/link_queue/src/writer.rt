@@ -1,32 +1,32 @@
 //! The writer of a queue, which runs in a thread of its own.
 
 ghost use Rattle.std.specs.Prelude.{◌≡◌, ◌<◌, ◌≤◌, IfOk, length, take, true, false};
-ghost use Rattle.spsc_queue.specs.Ends.{put_of, taken_of};
-ghost use Rattle.link_queue.specs.Inners.{passed_on};
-ghost use Rattle.link_queue.specs.Marks.{PassesOn, BringsBack};
+ghost use Rattle.spsc_queue.specs.Ends.{pushed_of, popped_of};
+ghost use Rattle.link_queue.specs.Inners.{forwarded};
+ghost use Rattle.link_queue.specs.Sentinels.{IsForwarding, IsReturning};
 
 use crate::WriterEnd;
-use crate::inner::Inner;
-use crate::marks::{Health, News, Order};
+use crate::inner::InnerLink;
+use crate::orders::{Health, News, Order};
 use mrpc_base::Link;
 use mrpc_table::Bytes;
-use polling::Pauses;
+use polling::Backoff;
 use spsc_queue::{Consumer, Piece, Producer};
 use std::alloc::{AllocError, Global};
 use std::mem;
 use std::sync::Wait;
 
 // The most bytes that one receive asks for.
-const MOST_BYTES: usize = 4096;
+const MAX_BYTES: usize = 4096;
 
 // The most orders that are executed in a row before the next receive.
-const MOST_ORDERS: usize = 64;
+const MAX_ORDERS: usize = 64;
 
 /// Forwards the frames of a queue to the inner link, in a thread of its own.
 pub struct QueueWriter<'r, R, L: Link> {
     rt: &'r R,
     alloc: Global,
-    pub(crate) inner: Inner<L>,
+    pub(crate) inner: InnerLink<L>,
     pub(crate) orders: Consumer<Piece<Order>>,
     pub(crate) out: Producer<Piece<News>>,
     // A piece that waits for room in the queue back.
@@ -36,8 +36,8 @@ pub struct QueueWriter<'r, R, L: Link> {
     // Whether it reported to the link that the inner link failed or the writer was out of memory.
     told: bool,
     closed: bool,
-    ghost passes: { PassesOn (taken_of orders) (passed_on inner) closed inner.health },
-    ghost brings: { BringsBack (put_of out) held inner.came.bytes inner.ended inner.health },
+    ghost passes: { IsForwarding (popped_of orders) (forwarded inner) closed inner.health },
+    ghost brings: { IsReturning (pushed_of out) held inner.came.bytes inner.ended inner.health },
 }
 
 // By hand, so that each drop is one call, and not a drop of every field.
@@ -59,9 +59,9 @@ impl<'r, R, L: Link + Drop> Drop for QueueWriter<'r, R, L> {
 
 impl<'r, R: Wait, L: Link> QueueWriter<'r, R, L> {
     ghost use Rattle.std.specs.Prelude.{[], None};
-    ghost use Rattle.link_queue.specs.Marks.{IsNewsOf};
+    ghost use Rattle.link_queue.specs.Sentinels.{IsNewsOf};
     ghost use Rattle.spsc_queue.specs.Ends.{consumer_queue, producer_queue};
-    ghost use Rattle.link_queue.specs.Writers.{writer_start, writer_forward, writer_backward, start_of, end_forward, end_backward};
+    ghost use Rattle.link_queue.specs.Writers.{writer_start, writer_forward, writer_backward, inner_start_of, end_forward, end_backward};
 
     pub(crate) fn new(
         rt: &'r R,
@@ -70,8 +70,8 @@ impl<'r, R: Wait, L: Link> QueueWriter<'r, R, L> {
         orders: Consumer<Piece<Order>>,
         out: Producer<Piece<News>>,
     ) -> QueueWriter<'r, R, L>
-        requires taken { taken_of orders ≡ [] }
-        requires put { put_of out ≡ [] }
+        requires taken { popped_of orders ≡ [] }
+        requires put { pushed_of out ≡ [] }
         ensures start { writer_start result ≡ link }
         ensures forward { writer_forward result ≡ consumer_queue orders }
         ensures backward { writer_backward result ≡ producer_queue out }
@@ -79,7 +79,7 @@ impl<'r, R: Wait, L: Link> QueueWriter<'r, R, L> {
         QueueWriter {
             rt,
             alloc,
-            inner: Inner::new(link),
+            inner: InnerLink::new(link),
             orders,
             out,
             held: None,
@@ -92,13 +92,13 @@ impl<'r, R: Wait, L: Link> QueueWriter<'r, R, L> {
     /// Forwards the frames of the queue, in order, until its link is closed, and returns what the inner link receives.
     /// After the inner link failed or the writer was out of memory, it pops further frames without forwarding them.
     pub fn run(self) -> WriterEnd<L>
-        ensures start { start_of result ≡ writer_start self.entry }
+        ensures start { inner_start_of result ≡ writer_start self.entry }
         ensures forward { end_forward result ≡ writer_forward self.entry }
         ensures backward { end_backward result ≡ writer_backward self.entry }
     {
         let rt = self.rt;
         let mut writer = self;
-        let mut pauses = Pauses::new();
+        let mut pauses = Backoff::new();
         for _ in rt.forever() {
             if writer.closed {
                 return writer.end();
@@ -106,7 +106,7 @@ impl<'r, R: Wait, L: Link> QueueWriter<'r, R, L> {
             if writer.turn() {
                 pauses.reset();
             } else {
-                pauses.pause(rt);
+                pauses.wait(rt);
             }
         }
         unreachable!()
@@ -119,24 +119,24 @@ impl<'r, R: Wait, L: Link> QueueWriter<'r, R, L> {
         ensures forward { writer_forward self.new ≡ writer_forward self.old }
         ensures backward { writer_backward self.new ≡ writer_backward self.old }
     {
-        let followed = self.follow_some();
+        let followed = self.execute_orders();
         if self.closed {
             return followed;
         }
-        self.bring();
-        self.tell();
+        self.flush_held();
+        self.report_health();
         self.receive() || followed
     }
 
     // Executes queued orders, up to a maximum in a row, and returns whether there was one.
-    fn follow_some(&mut self) -> bool
+    fn execute_orders(&mut self) -> bool
         requires { self.old.closed ≡ false }
         ensures start { writer_start self.new ≡ writer_start self.old }
         ensures forward { writer_forward self.new ≡ writer_forward self.old }
         ensures backward { writer_backward self.new ≡ writer_backward self.old }
     {
-        for count in 0..MOST_ORDERS {
-            if self.closed || !self.follow() {
+        for count in 0..MAX_ORDERS {
+            if self.closed || !self.execute_order() {
                 return count > 0;
             }
         }
@@ -144,21 +144,21 @@ impl<'r, R: Wait, L: Link> QueueWriter<'r, R, L> {
     }
 
     // Executes the next order, and returns whether there was one.
-    fn follow(&mut self) -> bool
+    fn execute_order(&mut self) -> bool
         requires { self.old.closed ≡ false }
         ensures start { writer_start self.new ≡ writer_start self.old }
         ensures forward { writer_forward self.new ≡ writer_forward self.old }
         ensures backward { writer_backward self.new ≡ writer_backward self.old }
     {
-        match self.orders.take(self.rt) {
+        match self.orders.pop(self.rt) {
             None => return false,
             Some(Piece::Bytes(frame)) => {
                 if self.inner.health == Health::Working {
                     self.inner.send(frame.as_slice());
                 }
             }
-            Some(Piece::Mark(Order::Finish)) => self.inner.finish(),
-            Some(Piece::Mark(Order::Close)) => {
+            Some(Piece::Sentinel(Order::Finish)) => self.inner.finish(),
+            Some(Piece::Sentinel(Order::Close)) => {
                 self.inner.finish();
                 self.closed = true;
             }
@@ -167,14 +167,14 @@ impl<'r, R: Wait, L: Link> QueueWriter<'r, R, L> {
     }
 
     // Pushes the piece that it holds into the queue back, if that has room.
-    fn bring(&mut self)
+    fn flush_held(&mut self)
         ensures closed { self.new.closed ≡ self.old.closed }
         ensures start { writer_start self.new ≡ writer_start self.old }
         ensures forward { writer_forward self.new ≡ writer_forward self.old }
         ensures backward { writer_backward self.new ≡ writer_backward self.old }
     {
         if let Some(piece) = self.held.take() {
-            match self.out.put(self.rt, piece) {
+            match self.out.try_push(self.rt, piece) {
                 Ok(()) => {}
                 Err(piece) => self.held = Some(piece),
             }
@@ -182,7 +182,7 @@ impl<'r, R: Wait, L: Link> QueueWriter<'r, R, L> {
     }
 
     // Reports to the link, once, that the inner link failed or the writer was out of memory.
-    fn tell(&mut self)
+    fn report_health(&mut self)
         ensures closed { self.new.closed ≡ self.old.closed }
         ensures start { writer_start self.new ≡ writer_start self.old }
         ensures forward { writer_forward self.new ≡ writer_forward self.old }
@@ -193,13 +193,13 @@ impl<'r, R: Wait, L: Link> QueueWriter<'r, R, L> {
         }
         match self.inner.health {
             Health::Working => {}
-            Health::Failed => self.put_news(News::Failed),
-            Health::Memory => self.put_news(News::Memory),
+            Health::Failed => self.push_news(News::Failed),
+            Health::Memory => self.push_news(News::Memory),
         }
     }
 
     // Pushes the news into the queue back, if that has room.
-    fn put_news(&mut self, news: News)
+    fn push_news(&mut self, news: News)
         requires holds_nothing { self.old.held ≡ None }
         requires so_it_is { IsNewsOf self.old.inner.health news }
         ensures closed { self.new.closed ≡ self.old.closed }
@@ -207,7 +207,7 @@ impl<'r, R: Wait, L: Link> QueueWriter<'r, R, L> {
         ensures forward { writer_forward self.new ≡ writer_forward self.old }
         ensures backward { writer_backward self.new ≡ writer_backward self.old }
     {
-        match self.out.put(self.rt, Piece::Mark(news)) {
+        match self.out.try_push(self.rt, Piece::Sentinel(news)) {
             Ok(()) => self.told = true,
             Err(_) => {}
         }
@@ -250,7 +250,7 @@ impl<'r, R: Wait, L: Link> QueueWriter<'r, R, L> {
         } else {
             self.buffer = buffer;
             if self.inner.ended {
-                self.held = Some(Piece::Mark(News::End));
+                self.held = Some(Piece::Sentinel(News::End));
             }
         }
     }
@@ -258,7 +258,7 @@ impl<'r, R: Wait, L: Link> QueueWriter<'r, R, L> {
     // The parts of the writer, after the link was closed.
     fn end(self) -> WriterEnd<L>
         requires { self.closed ≡ true }
-        ensures start { start_of result ≡ writer_start self.entry }
+        ensures start { inner_start_of result ≡ writer_start self.entry }
         ensures forward { end_forward result ≡ writer_forward self.entry }
         ensures backward { end_backward result ≡ writer_backward self.entry }
     {
@@ -297,7 +297,7 @@ fn with_room(alloc: Global, kept: Vec<u8>) -> Result<Vec<u8>, AllocError>
     ensures { IfOk result (λ buffer. 0 < length buffer.items) }
 {
     if kept.is_empty() {
-        vec![in alloc; 0; MOST_BYTES]
+        vec![in alloc; 0; MAX_BYTES]
     } else {
         Ok(kept)
     }

@@ -2,10 +2,10 @@
 use Rattle.std.proofs.Common.{◌≡◌, ℕ, Bool, true, false, true≢false, List, [], ◌∷◌, refl, sym, ap}
 use Rattle.atomic_table.specs.Seated.{TableId}
 use Rattle.spsc_queue.specs.declared.piece.Piece.{Piece}
-use Rattle.spsc_queue.specs.declared.piece.Piece.TheVariants.{Bytes, Mark}
-use Rattle.mem_fabric.specs.Fabric.{numbers_of}
-use Rattle.spsc_queue.specs.Pieces.{frames_of}
-use Rattle.mem_fabric.specs.Pair.{PairEnd, ArePair, IsHandedOn, told_of_all, IsOutgoing, HasTakenAll}
+use Rattle.spsc_queue.specs.declared.piece.Piece.TheVariants.{Bytes, Sentinel}
+use Rattle.mem_fabric.specs.Fabric.{failing_calls_of}
+use Rattle.spsc_queue.specs.Pieces.{frames_of_pieces}
+use Rattle.mem_fabric.specs.Pair.{PairEnd, ArePair, IsDeliveredInOrder, knowing_all_sent, IsOutgoing, HasDeliveredAll}
 
 -- a queue, by its number
 abbrev queue : ℕ → TableId
@@ -25,7 +25,7 @@ from finished = record {
   failing_receives = [];
   sends = 2;
   receives = 0;
-  faults = 0;
+  failures = 0;
   outward = queue 1;
   inward = queue 2;
 }
@@ -42,14 +42,14 @@ to given ended = record {
   failing_receives = [];
   sends = 0;
   receives = 2;
-  faults = 0;
+  failures = 0;
   outward = queue 2;
   inward = queue 1;
 }
 
 -- ---- what one end received and the other sent
 
-nothing_yet : IsHandedOn (from false) (to [] false)
+nothing_yet : IsDeliveredInOrder (from false) (to [] false)
 nothing_yet = record {
   in_order = (1 ∷ 2 ∷ 3 ∷ [], refl);
   whole = λ e. absurd (true≢false (sym e));
@@ -57,34 +57,34 @@ nothing_yet = record {
 }
 
 -- within a frame, and before the end of the stream
-cut_anywhere : IsHandedOn (from true) (to (1 ∷ []) false)
+cut_anywhere : IsDeliveredInOrder (from true) (to (1 ∷ []) false)
 cut_anywhere = record {
   in_order = (2 ∷ 3 ∷ [], refl);
   whole = λ e. absurd (true≢false (sym e));
   finished = λ e. absurd (true≢false (sym e));
 }
 
-all_after_the_end : IsHandedOn (from true) (to (1 ∷ 2 ∷ 3 ∷ []) true)
+all_after_the_end : IsDeliveredInOrder (from true) (to (1 ∷ 2 ∷ 3 ∷ []) true)
 all_after_the_end = record { in_order = ([], refl); whole = λ _. refl; finished = λ _. refl }
 
 -- no byte overtakes another, is duplicated, is lost, or appears from nowhere
-none_overtakes : IsHandedOn (from true) (to (3 ∷ []) false) → ⊥
+none_overtakes : IsDeliveredInOrder (from true) (to (3 ∷ []) false) → ⊥
 none_overtakes h = let p = h.in_order in cc (p.1)
 
-none_twice : IsHandedOn (from true) (to (1 ∷ 2 ∷ 1 ∷ []) false) → ⊥
+none_twice : IsDeliveredInOrder (from true) (to (1 ∷ 2 ∷ 1 ∷ []) false) → ⊥
 none_twice h = let p = h.in_order in cc (p.1)
 
-none_lost : IsHandedOn (from true) (to (1 ∷ 3 ∷ []) false) → ⊥
+none_lost : IsDeliveredInOrder (from true) (to (1 ∷ 3 ∷ []) false) → ⊥
 none_lost h = let p = h.in_order in cc (p.1)
 
-none_from_nowhere : IsHandedOn (from true) (to (1 ∷ 2 ∷ 3 ∷ 4 ∷ []) false) → ⊥
+none_from_nowhere : IsDeliveredInOrder (from true) (to (1 ∷ 2 ∷ 3 ∷ 4 ∷ []) false) → ⊥
 none_from_nowhere h = let p = h.in_order in cc (p.1)
 
 -- the end of the stream comes after the last byte, and only from an end that has finished
-no_end_before_the_last : IsHandedOn (from true) (to (1 ∷ 2 ∷ []) true) → ⊥
+no_end_before_the_last : IsDeliveredInOrder (from true) (to (1 ∷ 2 ∷ []) true) → ⊥
 no_end_before_the_last h = let e = h.whole refl in cc (e)
 
-no_end_before_finish : IsHandedOn (from false) (to (1 ∷ 2 ∷ 3 ∷ []) true) → ⊥
+no_end_before_finish : IsDeliveredInOrder (from false) (to (1 ∷ 2 ∷ 3 ∷ []) true) → ⊥
 no_end_before_finish h = true≢false (sym (h.finished refl))
 
 -- ---- pairs
@@ -95,7 +95,7 @@ a_pair = (refl, refl)
 no_pair : ArePair (from true) (from true) → ⊥
 no_pair p = let e : 1 ≡ 2 = ap (λ (q : TableId). q.words) p.0 in cc (e)
 
-told : told_of_all (from true) (to (1 ∷ []) false) ≡ record (to (1 ∷ []) false) { told = 1 ∷ 2 ∷ 3 ∷ [] }
+told : knowing_all_sent (from true) (to (1 ∷ []) false) ≡ record (to (1 ∷ []) false) { told = 1 ∷ 2 ∷ 3 ∷ [] }
 told = refl
 
 -- ---- what an end pushes, and what the other popped of it
@@ -104,9 +104,9 @@ abbrev pieces : List (Piece ℕ)
 pieces = Bytes (1 ∷ 2 ∷ []) ∷ Bytes (3 ∷ []) ∷ []
 
 abbrev ended : List (Piece ℕ)
-ended = Bytes (1 ∷ 2 ∷ []) ∷ Bytes (3 ∷ []) ∷ Mark 0 ∷ []
+ended = Bytes (1 ∷ 2 ∷ []) ∷ Bytes (3 ∷ []) ∷ Sentinel 0 ∷ []
 
-both_frames : frames_of ended ≡ frames
+both_frames : frames_of_pieces ended ≡ frames
 both_frames = refl
 
 goes_on : IsOutgoing false pieces
@@ -122,19 +122,19 @@ no_finish_without_the_mark e = true≢false e
 no_mark_without_finish : IsOutgoing false ended → ⊥
 no_mark_without_finish h = true≢false (sym h.0)
 
-nothing_behind_the_mark : IsOutgoing {M = ℕ} true (Mark 0 ∷ Bytes (3 ∷ []) ∷ []) → ⊥
+nothing_behind_the_mark : IsOutgoing {M = ℕ} true (Sentinel 0 ∷ Bytes (3 ∷ []) ∷ []) → ⊥
 nothing_behind_the_mark h = let e = h.1 in cc (e)
 
-took_all : HasTakenAll ended pieces (1 ∷ 2 ∷ 3 ∷ [])
+took_all : HasDeliveredAll ended pieces (1 ∷ 2 ∷ 3 ∷ [])
 took_all = record { marked = λ e. cc (e); gave = refl; knows = ([], refl) }
 
-no_all_without_the_mark : HasTakenAll pieces [] (1 ∷ 2 ∷ 3 ∷ []) → ⊥
+no_all_without_the_mark : HasDeliveredAll pieces [] (1 ∷ 2 ∷ 3 ∷ []) → ⊥
 no_all_without_the_mark h = h.marked refl
 
 -- ---- the calls that are listed for a connection
 
-listed_for_the_second : numbers_of 2 ((1, 4) ∷ (2, 1) ∷ (2, 3) ∷ []) ≡ 1 ∷ 3 ∷ []
+listed_for_the_second : failing_calls_of 2 ((1, 4) ∷ (2, 1) ∷ (2, 3) ∷ []) ≡ 1 ∷ 3 ∷ []
 listed_for_the_second = refl
 
-none_listed : numbers_of 3 ((1, 4) ∷ (2, 1) ∷ (2, 3) ∷ []) ≡ []
+none_listed : failing_calls_of 3 ((1, 4) ∷ (2, 1) ∷ (2, 3) ∷ []) ≡ []
 none_listed = refl

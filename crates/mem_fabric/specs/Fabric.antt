@@ -2,7 +2,7 @@
 use Rattle.std.specs.Prelude.{◌≡◌, ℕ, false, ◌==◌, List, [], filter, map, IsPermutation}
 use Rattle.mem_fabric.specs.Pair.{PairEnd}
 
-pub record FabricState : Type 0 where
+pub record MemFabricState : Type 0 where
   -- the links that it keeps, each with its connection, and how many ends that it opened are in use
   pub back : List (ℕ × PairEnd)
   pub away : ℕ
@@ -12,11 +12,11 @@ pub record FabricState : Type 0 where
   pub failing_receives : List (ℕ × ℕ)
   -- how many openings were made and failed; each saturates at 2^64 - 1
   pub openings : ℕ
-  pub faults : ℕ
+  pub failures : ℕ
 
 -- the numbers that are listed for a connection
-abbrev pub numbers_of : ℕ → List (ℕ × ℕ) → List ℕ
-numbers_of conn listed = map (λ entry. entry.1) (filter (λ entry. entry.0 == conn) listed)
+abbrev pub failing_calls_of : ℕ → List (ℕ × ℕ) → List ℕ
+failing_calls_of conn listed = map (λ entry. entry.1) (filter (λ entry. entry.0 == conn) listed)
 
 -- an unused end whose sends and receives of these numbers shall fail
 pub record IsNewEnd (failing_sends failing_receives : List ℕ) (end : PairEnd) : Type 0 where

@@ -1,4 +1,4 @@
 pub mod Fabric
-pub mod Listed
+pub mod Injected
 pub mod Opening
 pub mod Pair

@@ -3,7 +3,7 @@ use Rattle.std.specs.Prelude.{◌≡◌, ℕ, false, List, []}
 use Rattle.atomic_table.specs.Seated.{TableId}
 use Rattle.mem_fabric.specs.Fabric.{IsNewEnd}
 use Rattle.mem_fabric.specs.Pair.{PairEnd}
-use Rattle.mem_fabric.specs.declared.listed.EndCalls.{EndCalls}
+use Rattle.mem_fabric.specs.declared.injected.EndCalls.{EndCalls}
 
 -- an end with these calls and queues that sent and received nothing
 abbrev pub fresh_end : EndCalls → TableId → TableId → PairEnd
@@ -17,7 +17,7 @@ fresh_end calls outward inward = record {
   failing_receives = calls.receives.failing;
   sends = calls.sends.calls;
   receives = calls.receives.calls;
-  faults = calls.faults;
+  failures = calls.failures;
   outward = outward;
   inward = inward;
 }
@@ -26,5 +26,5 @@ fresh_end calls outward inward = record {
 pub record IsFresh (failing_sends failing_receives : List ℕ) (end : PairEnd) : Type 0 where
   pub handed : end.handed ≡ []
   pub ended : end.ended ≡ false
-  pub faults : end.faults ≡ 0
+  pub failures : end.failures ≡ 0
   pub new : IsNewEnd failing_sends failing_receives end

@@ -4,8 +4,8 @@ use Rattle.std.specs.List.{concat}
 use mathlib.Core.List.{IsPrefix}
 use Rattle.atomic_table.specs.Seated.{TableId}
 use Rattle.spsc_queue.specs.declared.piece.Piece.{Piece}
-use Rattle.spsc_queue.specs.declared.piece.Piece.TheVariants.{Bytes, Mark}
-use Rattle.spsc_queue.specs.Pieces.{bytes_of, marks_of}
+use Rattle.spsc_queue.specs.declared.piece.Piece.TheVariants.{Bytes, Sentinel}
+use Rattle.spsc_queue.specs.Pieces.{bytes_of_pieces, sentinels_of}
 
 -- one end of a pair
 pub record PairEnd : Type 0 where
@@ -23,7 +23,7 @@ pub record PairEnd : Type 0 where
   -- how many sends and receives were made, and how many of both failed; each saturates at 2^64 - 1
   pub sends : ℕ
   pub receives : ℕ
-  pub faults : ℕ
+  pub failures : ℕ
   -- the queue that it pushes into, and the one that it pops from
   pub outward : TableId
   pub inward : TableId
@@ -34,23 +34,23 @@ ArePair a b = (a.outward ≡ b.inward) × (b.outward ≡ a.inward)
 
 -- what one end received is a prefix of what the other sent, and all of it after the end of the stream, which
 -- comes only if the other has finished
-pub record IsHandedOn (from to : PairEnd) : Type 0 where
+pub record IsDeliveredInOrder (from to : PairEnd) : Type 0 where
   pub in_order : IsPrefix to.given (concat from.handed)
   pub whole : to.ended ≡ true → to.given ≡ concat from.handed
   pub finished : to.ended ≡ true → from.finished ≡ true
 
 -- an end that knows of every frame that the other sent
-abbrev pub told_of_all : PairEnd → PairEnd → PairEnd
-told_of_all other end = record end { told = concat other.handed }
+abbrev pub knowing_all_sent : PairEnd → PairEnd → PairEnd
+knowing_all_sent other end = record end { told = concat other.handed }
 
 -- what an end pushes: frames, followed by the end sentinel exactly if it has finished
 abbrev pub IsOutgoing : {M : Type 0} → Bool → List (Piece M) → Type 0
 IsOutgoing finished [] = finished ≡ false
 IsOutgoing finished (Bytes frame ∷ pieces) = IsOutgoing finished pieces
-IsOutgoing finished (Mark mark ∷ pieces) = (finished ≡ true) × (pieces ≡ [])
+IsOutgoing finished (Sentinel mark ∷ pieces) = (finished ≡ true) × (pieces ≡ [])
 
 -- up to an end sentinel, every byte that was popped was received, and every byte known to be sent was popped
-pub record HasTakenAll {M : Type 0} (taken told : List (Piece M)) (given : List ℕ) : Type 0 where
-  pub marked : marks_of taken ≢ []
-  pub gave : given ≡ bytes_of taken
-  pub knows : IsPrefix (bytes_of told) given
+pub record HasDeliveredAll {M : Type 0} (taken told : List (Piece M)) (given : List ℕ) : Type 0 where
+  pub marked : sentinels_of taken ≢ []
+  pub gave : given ≡ bytes_of_pieces taken
+  pub knows : IsPrefix (bytes_of_pieces told) given

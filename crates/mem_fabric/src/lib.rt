@@ -9,9 +9,9 @@
 //! The memory for both directions is allocated when a pair is opened.
 #![tactic(auto)]
 
-mod listed;
+mod injected;
 mod mem_fabric;
 mod pair_link;
 
-pub use mem_fabric::{ListedFaults, MemFabric};
+pub use mem_fabric::{InjectedFailures, MemFabric};
 pub use pair_link::{PairLink, meet};

@@ -1,12 +1,12 @@
 //! An in-memory fabric.
 
 ghost use Rattle.std.specs.Prelude.{◌≡◌, ◌<◌, ◌+◌, ◌≤◌, ◌↔◌, [], ◌∷◌, false, Contains, IfOk, IsErrOf, IsPermutation, OnErr, length, slice_get};
-ghost use Rattle.mrpc_base.specs.Faults.{HasCause, raised};
-ghost use Rattle.mem_fabric.specs.Fabric.{IsNewEnd, numbers_of};
+ghost use Rattle.mrpc_base.specs.Failures.{HasCause, raised};
+ghost use Rattle.mem_fabric.specs.Fabric.{IsNewEnd, failing_calls_of};
 ghost use Rattle.mem_fabric.specs.Pair.{ArePair};
 
 use crate::PairLink;
-use crate::listed::{ListedCalls, ListedConns, raise};
+use crate::injected::{InjectedCalls, InjectedConns, raise};
 use crate::pair_link::new_pair;
 use mrpc_base::{Fabric, OpenFault};
 use std::alloc::{AllocError, Global};
@@ -16,7 +16,7 @@ use std::sync::Wait;
 /// Injected failures: the calls of an in-memory fabric and its links that shall fail, each counted from 1, in any
 /// order.
 #[derive(Drop)]
-pub struct ListedFaults {
+pub struct InjectedFailures {
     /// Openings, by number.
     pub openings: Vec<u64>,
     /// Sends, by connection and number.
@@ -25,7 +25,7 @@ pub struct ListedFaults {
     pub receives: Vec<(u32, u64)>,
 }
 
-/// An in-memory fabric. Contracts see it as a `FabricState`: the links that it keeps, how many of its links are
+/// An in-memory fabric. Contracts see it as a `MemFabricState`: the links that it keeps, how many of its links are
 /// in use, the calls that shall fail, and how many openings were made and failed.
 pub struct MemFabric<'r, R> {
     rt: &'r R,
@@ -33,9 +33,9 @@ pub struct MemFabric<'r, R> {
     // With capacity for the links in use, too.
     back: Vec<(u32, PairLink<'r, R>)>,
     away: usize,
-    openings: ListedCalls,
-    listed: ListedConns,
-    faults: u64,
+    openings: InjectedCalls,
+    listed: InjectedConns,
+    failures: u64,
 }
 
 // By hand, so that each drop is one call, and not a drop of every field.
@@ -48,16 +48,16 @@ impl<'r, R> Drop for MemFabric<'r, R> {
             away: _,
             openings: _openings,
             listed: _listed,
-            faults: _,
+            failures: _,
         } = self;
     }
 }
 
 impl<'r, R> Model for MemFabric<'r, R> {
     ghost use Rattle.std.specs.Prelude.{◌+◌, ◌≤◌, vec_len, vec_capacity};
-    ghost use Rattle.mem_fabric.specs.Fabric.{FabricState};
+    ghost use Rattle.mem_fabric.specs.Fabric.{MemFabricState};
 
-    ghost Value = { FabricState };
+    ghost Value = { MemFabricState };
 
     ghost view = { λ f. record {
       back = f.back.items;
@@ -66,7 +66,7 @@ impl<'r, R> Model for MemFabric<'r, R> {
       failing_sends = f.listed.sends.items;
       failing_receives = f.listed.receives.items;
       openings = f.openings.calls;
-      faults = f.faults;
+      failures = f.failures;
     } };
 
     ghost invariant = { λ f. vec_len f.back + f.away ≤ vec_capacity f.back };
@@ -74,26 +74,26 @@ impl<'r, R> Model for MemFabric<'r, R> {
 
 impl<'r, R: Wait> MemFabric<'r, R> {
     /// A fabric that has opened nothing.
-    pub fn new(rt: &'r R, alloc: Global, faults: ListedFaults) -> MemFabric<'r, R>
+    pub fn new(rt: &'r R, alloc: Global, failures: InjectedFailures) -> MemFabric<'r, R>
         ensures back { result.back ≡ [] }
         ensures away { result.away ≡ 0 }
-        ensures failing_openings { IsPermutation faults.openings.items result.failing_openings }
-        ensures failing_sends { result.failing_sends ≡ faults.sends.items }
-        ensures failing_receives { result.failing_receives ≡ faults.receives.items }
+        ensures failing_openings { IsPermutation failures.openings.items result.failing_openings }
+        ensures failing_sends { result.failing_sends ≡ failures.sends.items }
+        ensures failing_receives { result.failing_receives ≡ failures.receives.items }
         ensures openings { result.openings ≡ 0 }
-        ensures faults { result.faults ≡ 0 }
+        ensures failures { result.failures ≡ 0 }
     {
         MemFabric {
             rt,
             alloc,
             back: Vec::new(alloc),
             away: 0,
-            openings: ListedCalls::new(faults.openings),
-            listed: ListedConns {
-                sends: faults.sends,
-                receives: faults.receives,
+            openings: InjectedCalls::new(failures.openings),
+            listed: InjectedConns {
+                sends: failures.sends,
+                receives: failures.receives,
             },
-            faults: 0,
+            failures: 0,
         }
     }
 
@@ -105,15 +105,15 @@ impl<'r, R: Wait> MemFabric<'r, R> {
     }
 
     /// How many openings failed; saturates at 2^64 - 1.
-    pub fn faults(&self) -> u64
-        ensures { result ≡ self.now.faults }
+    pub fn failures(&self) -> u64
+        ensures { result ≡ self.now.failures }
     {
-        self.faults
+        self.failures
     }
 
     /// Returns a link that it keeps to use again, with its connection. Two ends of one pair that were returned like
     /// this can be reconciled by [`meet`](crate::meet).
-    pub fn take_back(&mut self, at: usize) -> (u32, PairLink<'r, R>)
+    pub fn take_kept(&mut self, at: usize) -> (u32, PairLink<'r, R>)
         requires { at < length self.old.back }
         ensures link { slice_get self.old.back at ≡ Some result }
         ensures back { IsPermutation self.old.back (result ∷ self.new.back) }
@@ -132,7 +132,7 @@ impl<'r, R: Wait + Sync> Fabric for MemFabric<'r, R> {
 
     ghost away = { λ f. f.away };
 
-    ghost faults = { λ f. f.faults };
+    ghost failures = { λ f. f.failures };
 
     // Each end pushes into the queue that the other pops from.
     ghost pair = { ArePair };
@@ -149,24 +149,24 @@ impl<'r, R: Wait + Sync> Fabric for MemFabric<'r, R> {
         ensures handed { IfOk result (λ ends. (ends.0.handed ≡ []) × (ends.1.handed ≡ [])) }
         ensures given { IfOk result (λ ends. (ends.0.given ≡ []) × (ends.1.given ≡ [])) }
         ensures not_ended { IfOk result (λ ends. (ends.0.ended ≡ false) × (ends.1.ended ≡ false)) }
-        ensures no_faults { IfOk result (λ ends. (ends.0.faults ≡ 0) × (ends.1.faults ≡ 0)) }
+        ensures no_faults { IfOk result (λ ends. (ends.0.failures ≡ 0) × (ends.1.failures ≡ 0)) }
         ensures first { IfOk result (λ ends.
-            IsNewEnd (numbers_of a self.old.failing_sends) (numbers_of a self.old.failing_receives) ends.0) }
+            IsNewEnd (failing_calls_of a self.old.failing_sends) (failing_calls_of a self.old.failing_receives) ends.0) }
         ensures second { IfOk result (λ ends.
-            IsNewEnd (numbers_of b self.old.failing_sends) (numbers_of b self.old.failing_receives) ends.1) }
+            IsNewEnd (failing_calls_of b self.old.failing_sends) (failing_calls_of b self.old.failing_receives) ends.1) }
 
         ensures away { IfOk result (λ ends. self.new.away ≡ self.old.away + 2) }
         ensures same_away { OnErr result (self.new.away ≡ self.old.away) }
         ensures openings { self.new.openings ≡ raised self.old.openings }
-        ensures cause { HasCause (IsErrOf result OpenFault.Failed) self.old.faults self.new.faults }
+        ensures cause { HasCause (IsErrOf result OpenFault.Failed) self.old.failures self.new.failures }
         ensures same { self.new ≡ record self.old {
           away = self.new.away;
           openings = self.new.openings;
-          faults = self.new.faults;
+          failures = self.new.failures;
         } }
     {
         if self.openings.next() {
-            self.faults = raise(self.faults);
+            self.failures = raise(self.failures);
             return Err(OpenFault::Failed);
         }
         if self.back.reserve(self.away + 2).is_err() {

@@ -2,30 +2,30 @@
 
 ghost use Rattle.std.specs.Prelude.{◌≡◌, ◌≢◌, ◌<◌, ◌≤◌, ◌↔◌, ◌⊎◌, [], ◌∷◌, ◌++◌, Contains, IfOk, IsTrue, length, take, true, false};
 ghost use mathlib.Core.List.{IsPrefix};
-ghost use Rattle.spsc_queue.specs.Ends.{put_of, taken_of, told_of, free_of, producer_queue, consumer_queue};
-ghost use Rattle.mrpc_base.specs.Faults.{HasCause, raised};
-ghost use Rattle.mrpc_base.specs.Linking.{OnCame, OnNoneCame};
-ghost use Rattle.mem_fabric.specs.Fabric.{numbers_of};
+ghost use Rattle.spsc_queue.specs.Ends.{pushed_of, popped_of, known_pushed_of, free_of, producer_queue, consumer_queue};
+ghost use Rattle.mrpc_base.specs.Failures.{HasCause, raised};
+ghost use Rattle.mrpc_base.specs.Links.{OnCame, OnNoneCame};
+ghost use Rattle.mem_fabric.specs.Fabric.{failing_calls_of};
 ghost use Rattle.mem_fabric.specs.Opening.{IsFresh, fresh_end};
-ghost use Rattle.mem_fabric.specs.Pair.{ArePair, IsHandedOn, told_of_all};
+ghost use Rattle.mem_fabric.specs.Pair.{ArePair, IsDeliveredInOrder, knowing_all_sent};
 
-use crate::listed::{EndCalls, ListedConns};
+use crate::injected::{EndCalls, InjectedConns};
 use mrpc_base::{Came, Handed, Link};
 use mrpc_table::Bytes;
-use spsc_queue::{Consumer, Found, Piece, PieceReader, Producer};
+use spsc_queue::{Consumer, Piece, PieceReader, Producer, ReadResult};
 use std::alloc::{AllocError, Global};
 use std::marker::Model;
 use std::sync::Wait;
 
 // The most pieces that are queued in one direction.
-const MOST_PIECES: usize = 65535;
+const MAX_PIECES: usize = 65535;
 
 // The slots that a queue has in addition, for the end sentinel.
 const END_PLACES: usize = 1;
 
 // The sentinel after the last piece.
 #[derive(Drop)]
-pub(crate) struct EndMark;
+pub(crate) struct EndSentinel;
 
 /// One end of an in-memory link. Contracts see it as a `PairEnd`: the frames that it sent, the bytes that it received,
 /// and whether either side has finished. It also has the numbers of the sends and receives that shall fail, how many
@@ -33,8 +33,8 @@ pub(crate) struct EndMark;
 pub struct PairLink<'r, R> {
     rt: &'r R,
     alloc: Global,
-    out: Producer<Piece<EndMark>>,
-    incoming: PieceReader<EndMark>,
+    out: Producer<Piece<EndSentinel>>,
+    incoming: PieceReader<EndSentinel>,
     calls: EndCalls,
     finished: bool,
     ended: bool,
@@ -57,31 +57,32 @@ impl<'r, R> Drop for PairLink<'r, R> {
 
 impl<'r, R> Model for PairLink<'r, R> {
     ghost use Rattle.std.specs.Prelude.{◌≡◌, ◌<◌, Bool, true, false};
-    ghost use Rattle.spsc_queue.specs.Ends.{put_of, free_of, producer_queue};
-    ghost use Rattle.spsc_queue.specs.Pieces.{bytes_of, frames_of};
-    ghost use Rattle.spsc_queue.specs.Readers.{given_by, taken_by, told_by, reader_queue};
-    ghost use Rattle.mem_fabric.specs.Pair.{PairEnd, IsOutgoing, HasTakenAll};
+    ghost use Rattle.spsc_queue.specs.Ends.{pushed_of, free_of, producer_queue};
+    ghost use Rattle.spsc_queue.specs.Pieces.{bytes_of_pieces, frames_of_pieces};
+    ghost use Rattle.spsc_queue.specs.Readers.{delivered_by, popped_by, known_pushed_by, reader_queue};
+    ghost use Rattle.mem_fabric.specs.Pair.{PairEnd, IsOutgoing, HasDeliveredAll};
 
     ghost Value = { PairEnd };
 
     ghost view = { λ l. record {
-      handed = frames_of (put_of l.out);
+      handed = frames_of_pieces (pushed_of l.out);
       finished = l.finished;
-      given = given_by l.incoming;
+      given = delivered_by l.incoming;
       ended = l.ended;
-      told = bytes_of (told_by l.incoming);
+      told = bytes_of_pieces (known_pushed_by l.incoming);
       failing_sends = l.calls.sends.failing;
       failing_receives = l.calls.receives.failing;
       sends = l.calls.sends.calls;
       receives = l.calls.receives.calls;
-      faults = l.calls.faults;
+      failures = l.calls.failures;
       outward = producer_queue l.out;
       inward = reader_queue l.incoming;
     } };
 
-    ghost invariant = { λ l. IsOutgoing l.finished (put_of l.out)
-        × ((f : Bool) × IsOutgoing f (told_by l.incoming))
-        × (l.ended ≡ true → HasTakenAll (taken_by l.incoming) (told_by l.incoming) (given_by l.incoming))
+    ghost invariant = { λ l. IsOutgoing l.finished (pushed_of l.out)
+        × ((f : Bool) × IsOutgoing f (known_pushed_by l.incoming))
+        × (l.ended ≡ true → HasDeliveredAll (popped_by l.incoming) (known_pushed_by l.incoming)
+        (delivered_by l.incoming))
         × (l.finished ≡ false → 0 < free_of l.out) };
 }
 
@@ -90,14 +91,14 @@ impl<'r, R: Wait> PairLink<'r, R> {
     fn new(
         rt: &'r R,
         alloc: Global,
-        out: Producer<Piece<EndMark>>,
-        incoming: Consumer<Piece<EndMark>>,
+        out: Producer<Piece<EndSentinel>>,
+        incoming: Consumer<Piece<EndSentinel>>,
         calls: EndCalls,
     ) -> PairLink<'r, R>
-        requires put { put_of out ≡ [] }
+        requires put { pushed_of out ≡ [] }
         requires free { 0 < free_of out }
-        requires taken { taken_of incoming ≡ [] }
-        requires told { told_of incoming ≡ [] }
+        requires taken { popped_of incoming ≡ [] }
+        requires told { known_pushed_of incoming ≡ [] }
         ensures { result ≡ fresh_end calls (producer_queue out) (consumer_queue incoming) }
     {
         PairLink {
@@ -112,10 +113,10 @@ impl<'r, R: Wait> PairLink<'r, R> {
     }
 
     /// How many sends and receives failed; saturates at 2^64 - 1.
-    pub fn faults(&self) -> u64
-        ensures { result ≡ self.now.faults }
+    pub fn failures(&self) -> u64
+        ensures { result ≡ self.now.failures }
     {
-        self.calls.faults
+        self.calls.failures
     }
 
     // Receives the next bytes, or the end of the stream.
@@ -132,9 +133,9 @@ impl<'r, R: Wait> PairLink<'r, R> {
         ensures same { self.new ≡ record self.old { given = self.new.given; ended = self.new.ended } }
     {
         match self.incoming.read(self.rt, buf) {
-            Found::Bytes(count) => Came::Bytes(count),
-            Found::Nothing => Came::Idle,
-            Found::Mark(EndMark) => {
+            ReadResult::Bytes(count) => Came::Bytes(count),
+            ReadResult::Nothing => Came::Idle,
+            ReadResult::Sentinel(EndSentinel) => {
                 self.ended = true;
                 Came::End
             }
@@ -157,7 +158,7 @@ impl<'r, R: Wait> Link for PairLink<'r, R> {
 
     ghost peer_finished = { λ old new. IsPrefix old.told new.given };
 
-    ghost faults = { λ l. l.faults };
+    ghost failures = { λ l. l.failures };
 
     // The queues are the same two, and so are the calls that shall fail.
     ghost since = { λ old new. (new.outward ≡ old.outward) × (new.inward ≡ old.inward)
@@ -180,12 +181,12 @@ impl<'r, R: Wait> Link for PairLink<'r, R> {
 
         // What is counted, and what is unchanged.
         ensures sends { self.new.sends ≡ raised self.old.sends }
-        ensures faults { result ≡ Handed.Failed → self.new.faults ≡ raised self.old.faults }
-        ensures cause { HasCause (result ≡ Handed.Failed) self.old.faults self.new.faults }
+        ensures failures { result ≡ Handed.Failed → self.new.failures ≡ raised self.old.failures }
+        ensures cause { HasCause (result ≡ Handed.Failed) self.old.failures self.new.failures }
         ensures same { self.new ≡ record self.old {
           handed = self.new.handed;
           sends = self.new.sends;
-          faults = self.new.faults;
+          failures = self.new.failures;
         } }
     {
         if self.calls.send_fails(self.finished) {
@@ -194,9 +195,9 @@ impl<'r, R: Wait> Link for PairLink<'r, R> {
         let Ok(copy) = Bytes::from_slice(self.alloc, frame) else {
             return Handed::Memory;
         };
-        // Waits while the queue holds `MOST_PIECES` pieces.
+        // Waits while the queue holds `MAX_PIECES` pieces.
         self.out
-            .put_leaving(self.rt, END_PLACES, Piece::Bytes(copy));
+            .push_leaving(self.rt, END_PLACES, Piece::Bytes(copy));
         Handed::Done
     }
 
@@ -219,12 +220,12 @@ impl<'r, R: Wait> Link for PairLink<'r, R> {
 
         // What is counted, and what is unchanged.
         ensures receives { self.new.receives ≡ raised self.old.receives }
-        ensures faults { result ≡ Came.Failed → self.new.faults ≡ raised self.old.faults }
-        ensures cause { HasCause (result ≡ Came.Failed) self.old.faults self.new.faults }
+        ensures failures { result ≡ Came.Failed → self.new.failures ≡ raised self.old.failures }
+        ensures cause { HasCause (result ≡ Came.Failed) self.old.failures self.new.failures }
         ensures same { self.new ≡ record self.old {
           given = self.new.given;
           receives = self.new.receives;
-          faults = self.new.faults;
+          failures = self.new.failures;
           ended = self.new.ended;
         } }
     {
@@ -242,7 +243,8 @@ impl<'r, R: Wait> Link for PairLink<'r, R> {
         ensures { self.new ≡ record self.old { finished = true } }
     {
         if !self.finished {
-            self.out.put_reserved(self.rt, Piece::Mark(EndMark));
+            self.out
+                .push_reserved(self.rt, Piece::Sentinel(EndSentinel));
             self.finished = true;
         }
     }
@@ -252,15 +254,15 @@ impl<'r, R: Wait> Link for PairLink<'r, R> {
 pub(crate) fn new_pair<'r, R: Wait>(
     rt: &'r R,
     alloc: Global,
-    listed: &ListedConns,
+    listed: &InjectedConns,
     a: u32,
     b: u32,
 ) -> Result<(PairLink<'r, R>, PairLink<'r, R>), AllocError>
     ensures pair { IfOk result (λ ends. ArePair ends.0 ends.1) }
     ensures first { IfOk result (λ ends.
-        IsFresh (numbers_of a listed.now.sends.items) (numbers_of a listed.now.receives.items) ends.0) }
+        IsFresh (failing_calls_of a listed.now.sends.items) (failing_calls_of a listed.now.receives.items) ends.0) }
     ensures second { IfOk result (λ ends.
-        IsFresh (numbers_of b listed.now.sends.items) (numbers_of b listed.now.receives.items) ends.1) }
+        IsFresh (failing_calls_of b listed.now.sends.items) (failing_calls_of b listed.now.receives.items) ends.1) }
 {
     let first = listed.calls_of(alloc, a)?;
     let second = listed.calls_of(alloc, b)?;
@@ -278,8 +280,8 @@ fn new_ends<'r, R: Wait>(
     ensures first { IfOk result (λ ends. ends.0 ≡ fresh_end first ends.0.outward ends.0.inward) }
     ensures second { IfOk result (λ ends. ends.1 ≡ fresh_end second ends.1.outward ends.1.inward) }
 {
-    let (from_first, to_second) = spsc_queue::open(alloc, MOST_PIECES + END_PLACES)?;
-    let (from_second, to_first) = spsc_queue::open(alloc, MOST_PIECES + END_PLACES)?;
+    let (from_first, to_second) = spsc_queue::open(alloc, MAX_PIECES + END_PLACES)?;
+    let (from_second, to_first) = spsc_queue::open(alloc, MAX_PIECES + END_PLACES)?;
     Ok((
         PairLink::new(rt, alloc, from_first, to_first, first),
         PairLink::new(rt, alloc, from_second, to_second, second),
@@ -290,10 +292,10 @@ fn new_ends<'r, R: Wait>(
 /// after the end of the stream. From now on each end knows of every frame that the other sent.
 pub fn meet<R>(first: &mut PairLink<R>, second: &mut PairLink<R>)
     requires { ArePair first.old second.old }
-    ensures to_second { IsHandedOn first.new second.new }
-    ensures to_first { IsHandedOn second.new first.new }
-    ensures first { first.new ≡ told_of_all second.old first.old }
-    ensures second { second.new ≡ told_of_all first.old second.old }
+    ensures to_second { IsDeliveredInOrder first.new second.new }
+    ensures to_first { IsDeliveredInOrder second.new first.new }
+    ensures first { first.new ≡ knowing_all_sent second.old first.old }
+    ensures second { second.new ≡ knowing_all_sent first.old second.old }
 {
     first.incoming.meet(&mut second.out);
     second.incoming.meet(&mut first.out);

@@ -5,13 +5,13 @@ use Rattle.std.proofs.lemmas.List.Sorted.{IsPermutation-append, IsPermutation-ap
 use Rattle.std.proofs.lemmas.Bool.{true≢false}
 use Rattle.receive_heap.specs.Layout.{IsWithout}
 use Rattle.receive_heap.specs.declared.extents.Block.{Block}
-use Rattle.message_delivery.specs.Telling.{AreJudged, IsCounting, IsReclaiming, LosesEach}
+use Rattle.message_delivery.specs.Noticing.{AreJudged, IsCounting, IsReclaiming, IsWithoutEach}
 use Rattle.message_delivery.specs.declared.reclaims.Reclaims.{Reclaims}
 
 -- the invariant of a loop over the numbers
 abbrev pub HasJudged : Reclaims → Reclaims → List Block → List Block → Type 0
 HasJudged old new held left = (numbers back : List ℕ) → IsReclaiming numbers back old → (more : List ℕ)
-    × (gained : List ℕ) × IsReclaiming (numbers ++ more) (back ++ gained) new × LosesEach gained held left
+    × (gained : List ℕ) × IsReclaiming (numbers ++ more) (back ++ gained) new × IsWithoutEach gained held left
 
 -- and its invariant for each number
 abbrev pub HasJudgedEach : Reclaims → Reclaims → List Block → List Block → Type 0
@@ -85,8 +85,8 @@ pub each-same : (old mid new : Reclaims) (held left : List Block) → HasJudgedE
 each-same old mid new held left judged counts same numbers h =
     let j = judged numbers h in (j.0, j.1, j.2, counts (numbers ++ j.0) j.3, same ∙ j.4, j.5)
 
-loses-more : (gained : List ℕ) (number : ℕ) (old between new : List Block) → LosesEach gained old between
-    → IsWithout number between new → LosesEach (gained ++ number ∷ []) old new
+loses-more : (gained : List ℕ) (number : ℕ) (old between new : List Block) → IsWithoutEach gained old between
+    → IsWithout number between new → IsWithoutEach (gained ++ number ∷ []) old new
 loses-more [] number old between new same without =
     (new, subst (λ b. IsWithout number b new) same without, refl)
 loses-more (first ∷ gained) number old between new each without =

@@ -11,8 +11,8 @@ use Rattle.std.proofs.lemmas.Slice.Zip.{AllZip-long}
 use Rattle.shared_heap.specs.Fresh.{HeapId}
 use Rattle.descriptor_ring.specs.Rings.{Sending}
 use Rattle.descriptor_ring.specs.declared.descriptor.Descriptor.{Descriptor}
-use Rattle.message_delivery.specs.Telling.{IsMessage, IsTelling, TellsOf, notices_of, numbers_of, sent_on}
-use Rattle.message_delivery.specs.declared.arrivals.Delivered.{Delivered}
+use Rattle.message_delivery.specs.Noticing.{IsRequestOrReply, AreNoticesOf, IsNoticeOf, notices_of, sent_numbers, sent_on}
+use Rattle.message_delivery.specs.declared.arrivals.PlacedMessage.{PlacedMessage}
 use Rattle.message_delivery.specs.declared.notices.Notices.{Notices}
 
 -- two lists each grow by one
@@ -24,39 +24,39 @@ zip-snoc R (a ∷ xs) [] x y zip last = absurd zip
 zip-snoc R (a ∷ xs) (b ∷ ys) x y zip last = (zip.0, zip-snoc R xs ys x y zip.1 last)
 
 -- a message is appended to the pending ones
-pub added : (heap : HeapId) (placed : List Delivered) (n m : Notices) (message : Delivered) → IsTelling heap placed n
-    → IsMessage message → length placed + 1 < 4294967294 → m.waiting.items ≡ n.waiting.items ++ message ∷ []
-    → m.owed ≡ n.owed → notices_of m ≡ notices_of n → numbers_of m ≡ numbers_of n → m.given ≡ n.given
-    → m.notices ≡ n.notices → IsTelling heap (placed ++ message ∷ []) m
+pub added : (heap : HeapId) (placed : List PlacedMessage) (n m : Notices) (message : PlacedMessage) → AreNoticesOf heap placed n
+    → IsRequestOrReply message → length placed + 1 < 4294967294 → m.waiting.items ≡ n.waiting.items ++ message ∷ []
+    → m.owed ≡ n.owed → notices_of m ≡ notices_of n → sent_numbers m ≡ sent_numbers n → m.given ≡ n.given
+    → m.notices ≡ n.notices → AreNoticesOf heap (placed ++ message ∷ []) m
 added heap placed n m message h is few waiting owed notices numbers given ring = record {
   past = h.past;
   all = ap (λ xs. xs ++ message ∷ []) h.all ∙ append_assoc h.past n.waiting.items (message ∷ []) ∙ ap
       (λ xs. h.past ++ xs) (sym waiting);
-  told = subst (AllZip TellsOf h.past) (sym notices) h.told;
+  told = subst (AllZip IsNoticeOf h.past) (sym notices) h.told;
   numbers = h.numbers ∙ ap (λ xs. xs ++ option_to_list n.owed) (sym numbers) ∙ ap
-      (λ o. numbers_of m ++ option_to_list o) (sym owed);
+      (λ o. sent_numbers m ++ option_to_list o) (sym owed);
   given = given ∙ h.given ∙ ap (λ (xs : List ℕ). length xs) (sym numbers);
-  messages = All-append IsMessage placed (message ∷ []) h.messages (All-cons IsMessage message [] is (All-nil IsMessage));
+  messages = All-append IsRequestOrReply placed (message ∷ []) h.messages (All-cons IsRequestOrReply message [] is (All-nil IsRequestOrReply));
   few = let long : length (placed ++ message ∷ []) ≡ length placed + 1 = length-append placed (message ∷ []) in
       omega (arith, long, few);
   of_heap = subst (λ o. IfSome o (λ (r : Sending). r.heap ≡ heap)) (sym ring) h.of_heap;
 }
 
 -- the notice of the first pending message was sent, and its block number is owed
-pub gave : (heap : HeapId) (placed : List Delivered) (n m : Notices) (message : Delivered) (d : Descriptor)
-    → IsTelling heap placed n → n.waiting.items ≡ message ∷ m.waiting.items → n.owed ≡ None
-    → m.owed ≡ Some message.block → notices_of m ≡ notices_of n ++ d ∷ [] → TellsOf message d
-    → numbers_of m ≡ numbers_of n → m.given ≡ n.given → IfSome m.notices (λ r. r.heap ≡ heap) → IsTelling heap placed m
+pub gave : (heap : HeapId) (placed : List PlacedMessage) (n m : Notices) (message : PlacedMessage) (d : Descriptor)
+    → AreNoticesOf heap placed n → n.waiting.items ≡ message ∷ m.waiting.items → n.owed ≡ None
+    → m.owed ≡ Some message.block → notices_of m ≡ notices_of n ++ d ∷ [] → IsNoticeOf message d
+    → sent_numbers m ≡ sent_numbers n → m.given ≡ n.given → IfSome m.notices (λ r. r.heap ≡ heap) → AreNoticesOf heap placed m
 gave heap placed n m message d h waiting none owed notices tells numbers given of_heap =
-    let was : map (λ (x : Delivered). x.block) h.past ≡ numbers_of n =
-    h.numbers ∙ ap (λ o. numbers_of n ++ option_to_list o) none ∙ append-nil (numbers_of n) in
+    let was : map (λ (x : PlacedMessage). x.block) h.past ≡ sent_numbers n =
+    h.numbers ∙ ap (λ o. sent_numbers n ++ option_to_list o) none ∙ append-nil (sent_numbers n) in
     record {
       past = h.past ++ message ∷ [];
       all = h.all ∙ ap (λ xs. h.past ++ xs) waiting ∙ sym (append_assoc h.past (message ∷ []) m.waiting.items);
-      told = subst (AllZip TellsOf (h.past ++ message ∷ [])) (sym notices)
-          (zip-snoc TellsOf h.past (notices_of n) message d h.told tells);
-      numbers = map-append (λ (x : Delivered). x.block) h.past (message ∷ []) ∙ ap (λ xs. xs ++ message.block ∷ [])
-          (was ∙ sym numbers) ∙ ap (λ o. numbers_of m ++ option_to_list o) (sym owed);
+      told = subst (AllZip IsNoticeOf (h.past ++ message ∷ [])) (sym notices)
+          (zip-snoc IsNoticeOf h.past (notices_of n) message d h.told tells);
+      numbers = map-append (λ (x : PlacedMessage). x.block) h.past (message ∷ []) ∙ ap (λ xs. xs ++ message.block ∷ [])
+          (was ∙ sym numbers) ∙ ap (λ o. sent_numbers m ++ option_to_list o) (sym owed);
       given = given ∙ h.given ∙ ap (λ (xs : List ℕ). length xs) (sym numbers);
       messages = h.messages;
       few = h.few;
@@ -64,12 +64,12 @@ gave heap placed n m message d h waiting none owed notices tells numbers given o
     }
 
 -- fewer notices were sent than a ring accepts
-pub few-sent : (heap : HeapId) (placed : List Delivered) (n : Notices) (ring : Sending) → IsTelling heap placed n
+pub few-sent : (heap : HeapId) (placed : List PlacedMessage) (n : Notices) (ring : Sending) → AreNoticesOf heap placed n
     → n.notices ≡ Some ring → length ring.sent < 4294967294
 few-sent heap placed n ring h is =
-    let long : length (notices_of n) ≡ length h.past = AllZip-long TellsOf h.past (notices_of n) h.told in
+    let long : length (notices_of n) ≡ length h.past = AllZip-long IsNoticeOf h.past (notices_of n) h.told in
     let same : length (notices_of n) ≡ length ring.sent = ap (λ o. length (sent_on o n.noticed)) is in
-    let all : length placed ≡ length (h.past ++ n.waiting.items) = ap (λ (xs : List Delivered). length xs) h.all in
+    let all : length placed ≡ length (h.past ++ n.waiting.items) = ap (λ (xs : List PlacedMessage). length xs) h.all in
     let both : length (h.past ++ n.waiting.items) ≡ length h.past + length n.waiting.items =
     length-append h.past n.waiting.items in
     let few = h.few in
@@ -80,11 +80,11 @@ all-after P [] ys h = h
 all-after P (x ∷ xs) ys h = all-after P xs ys (All-tail P x (xs ++ ys) h)
 
 -- the first pending message is a request or a reply
-pub first-is : (heap : HeapId) (placed : List Delivered) (n : Notices) (message : Delivered) (rest : List Delivered)
-    → IsTelling heap placed n → n.waiting.items ≡ message ∷ rest → IsMessage message
+pub first-is : (heap : HeapId) (placed : List PlacedMessage) (n : Notices) (message : PlacedMessage) (rest : List PlacedMessage)
+    → AreNoticesOf heap placed n → n.waiting.items ≡ message ∷ rest → IsRequestOrReply message
 first-is heap placed n message rest h waiting =
-    All-head IsMessage message rest (all-after IsMessage h.past (message ∷ rest)
-    (subst (All IsMessage) (h.all ∙ ap (λ xs. h.past ++ xs) waiting) h.messages))
+    All-head IsRequestOrReply message rest (all-after IsRequestOrReply h.past (message ∷ rest)
+    (subst (All IsRequestOrReply) (h.all ∙ ap (λ xs. h.past ++ xs) waiting) h.messages))
 
 -- the item at index 0
 pub front-is : {X : Type 0} (xs : List X) (r : Option (Bor X)) (x : X) (n : ℕ) → (IsSome r ↔ (0 < n)) → n ≤ length xs

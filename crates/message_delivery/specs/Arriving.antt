@@ -10,39 +10,39 @@ use Rattle.frame_transport.specs.Frames.{IsPartial}
 use Rattle.frame_transport.specs.declared.format.Frame.{Frame}
 use Rattle.policy_access.specs.Verdict.{AccessPolicy}
 use Rattle.receive_heap.specs.declared.extents.Block.{Block}
-use Rattle.receive_core.specs.Life.{Fated, Life, Lives, stores_of, was_dropped, was_placed}
+use Rattle.receive_core.specs.ReceiverTraces.{Fated, ReceiverTrace, IsTraceOf, stores_of_fate, was_dropped, was_placed}
 use Rattle.receive_core.specs.declared.arrival.DropCause.{DropCause}
 use Rattle.message_delivery.specs.declared.arrivals.ArrivalLine.{ArrivalLine}
 use Rattle.message_delivery.specs.declared.arrivals.ArrivalLine.TheVariants.{Arrived, Dropped}
 use Rattle.message_delivery.specs.declared.arrivals.Arrivals.{Arrivals}
-use Rattle.message_delivery.specs.declared.arrivals.Stream.TheVariants.{Cut, Failed, Open}
-use Rattle.message_delivery.specs.declared.arrivals.Turned.{Turned}
-use Rattle.message_delivery.specs.declared.arrivals.Turned.TheVariants.{Nothing, Delivered, Dropped as Refused}
-use Rattle.message_delivery.specs.declared.arrivals.Delivered.{Delivered as Message}
+use Rattle.message_delivery.specs.declared.arrivals.StreamState.TheVariants.{Cut, Failed, Open}
+use Rattle.message_delivery.specs.declared.arrivals.DeliveryOutcome.{DeliveryOutcome}
+use Rattle.message_delivery.specs.declared.arrivals.DeliveryOutcome.TheVariants.{Nothing, Delivered, Dropped as Refused}
+use Rattle.message_delivery.specs.declared.arrivals.PlacedMessage.{PlacedMessage as Message}
 use Rattle.message_delivery.specs.declared.limits.TheConstants.{MAX_ARRIVALS}
 
 -- a line is the fate of a frame
-abbrev pub IsTold : Fated → ArrivalLine → Type 0
-IsTold (was_dropped f policy why) (Dropped kind method number cause) =
+abbrev pub IsFateLine : Fated → ArrivalLine → Type 0
+IsFateLine (was_dropped f policy why) (Dropped kind method number cause) =
     (f.kind ≡ kind) × (f.method ≡ method) × (f.number ≡ number) × (cause ≡ why)
-IsTold (was_placed f policy t block placed) (Arrived kind method number tree) =
+IsFateLine (was_placed f policy t block placed) (Arrived kind method number tree) =
     (f.kind ≡ kind) × (f.method ≡ method) × (f.number ≡ number) × (tree ≡ t)
-IsTold _ _ = ⊥
+IsFateLine _ _ = ⊥
 
 -- the policy under which a frame was judged
-abbrev pub policy_of : Fated → Option AccessPolicy
-policy_of (was_dropped f policy why) = policy
-policy_of (was_placed f policy t block placed) = policy
+abbrev pub policy_of_fate : Fated → Option AccessPolicy
+policy_of_fate (was_dropped f policy why) = policy
+policy_of_fate (was_placed f policy t block placed) = policy
 
 -- The arrivals have this trace. Each line is the fate of a frame, in order and once, under the connection's
 -- policy. The stores to the heap are those that placed the messages. The stream is `Cut` exactly if it has a
 -- frame fault.
-pub record HaveLived (life : Life) (a : Arrivals) : Type 0 where
+pub record IsArrivalTrace (life : ReceiverTrace) (a : Arrivals) : Type 0 where
   pub valid : IsValid a.table.now
-  pub lives : Lives a.table.now life a.inbound
-  pub told : AllZip IsTold life.fates a.lines.items
-  pub judged : All (λ fated. policy_of fated ≡ option_copied a.policy) life.fates
-  pub stored : a.writer.stores ≡ flat_map stores_of life.fates
+  pub lives : IsTraceOf a.table.now life a.inbound
+  pub told : AllZip IsFateLine life.fates a.lines.items
+  pub judged : All (λ fated. policy_of_fate fated ≡ option_copied a.policy) life.fates
+  pub stored : a.writer.stores ≡ flat_map stores_of_fate life.fates
   pub words : a.writer.heap.words ≡ a.inbound.heap.words
   pub most : a.inbound.heap.words ≤ MAX_HEAP
   pub uncut : a.stream ≢ Cut → life.fault ≡ None
@@ -51,17 +51,17 @@ pub record HaveLived (life : Life) (a : Arrivals) : Type 0 where
   pub few : length a.lines.items ≤ MAX_ARRIVALS
 
 -- the arrivals have some trace
-abbrev pub AreArriving : Arrivals → Type 0
-AreArriving a = (life : Life) × HaveLived life a
+abbrev pub HasTrace : Arrivals → Type 0
+HasTrace a = (life : ReceiverTrace) × IsArrivalTrace life a
 
 -- No further frame can be handled: the link failed, `MAX_ARRIVALS` frames were handled, or nothing more is
 -- received and no whole frame waits.
-abbrev pub HasAll : Arrivals → Type 0
-HasAll a = (a.stream ≡ Failed) ⊎ ((MAX_ARRIVALS ≤ length a.lines.items)
+abbrev pub IsComplete : Arrivals → Type 0
+IsComplete a = (a.stream ≡ Failed) ⊎ ((MAX_ARRIVALS ≤ length a.lines.items)
     ⊎ ((a.stream ≢ Open) × IsPartial a.inbound.fed.bytes))
 
 -- the constant parts of a connection's arrivals
-pub record AreSame (old new : Arrivals) : Type 0 where
+pub record HaveSameIdentity (old new : Arrivals) : Type 0 where
   pub table : new.table.now ≡ old.table.now
   pub policy : new.policy ≡ old.policy
   pub conn : new.inbound.conn ≡ old.inbound.conn
@@ -70,23 +70,23 @@ pub record AreSame (old new : Arrivals) : Type 0 where
 
 -- the frames that had their fates in a turn, by its outcome: one message was placed, one frame was dropped, or
 -- nothing
-abbrev pub AreTurned : Turned → List Fated → Type 0
-AreTurned Nothing more = more ≡ []
-AreTurned Refused more =
+abbrev pub AreFatesOf : DeliveryOutcome → List Fated → Type 0
+AreFatesOf Nothing more = more ≡ []
+AreFatesOf Refused more =
     (f : Frame) × (policy : Option AccessPolicy) × (why : DropCause) × (more ≡ was_dropped f policy why ∷ [])
-AreTurned (Delivered d) more = (f : Frame) × (policy : Option AccessPolicy) × (t : Node) × (block : Block)
+AreFatesOf (Delivered d) more = (f : Frame) × (policy : Option AccessPolicy) × (t : Node) × (block : Block)
     × (placed : PlacedWords) × (more ≡ was_placed f policy t block placed ∷ []) × (f.kind ≡ d.kind)
     × (f.method ≡ d.method) × (f.number ≡ d.number) × (d.addr ≡ block.at) × (d.block ≡ block.number)
 
 -- the held blocks after a turn: the block of the message that it placed is appended to the others
-abbrev pub Holds : Turned → List Block → List Block → Type 0
-Holds Nothing old new = new ≡ old
-Holds Refused old new = new ≡ old
-Holds (Delivered d) old new =
+abbrev pub HasHeld : DeliveryOutcome → List Block → List Block → Type 0
+HasHeld Nothing old new = new ≡ old
+HasHeld Refused old new = new ≡ old
+HasHeld (Delivered d) old new =
     (block : Block) × (block.number ≡ d.block) × (block.at ≡ d.addr) × (new ≡ old ++ block ∷ [])
 
 -- P holds of the message that a turn placed, if it placed one
-abbrev pub IfDelivered : Turned → (Message → Type 0) → Type 0
+abbrev pub IfDelivered : DeliveryOutcome → (Message → Type 0) → Type 0
 IfDelivered Nothing P = ⊤
 IfDelivered Refused P = ⊤
 IfDelivered (Delivered d) P = P d

@@ -1,2 +1,2 @@
 pub mod Arriving
-pub mod Telling
+pub mod Noticing

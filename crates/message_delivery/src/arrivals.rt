@@ -2,18 +2,18 @@
 
 ghost use Rattle.std.specs.Prelude.{◌≡◌, ◌≢◌, ◌<◌, ◌≤◌, ◌^◌, ◌⊎◌, ℕ, List, length, true, false, Option, None, OnOk, IfOk, OnErr, IsTrue};
 ghost use Rattle.std.specs.Io.KnownBytes.{Appends};
-ghost use Rattle.mrpc_base.specs.Faults.{HasCause};
+ghost use Rattle.mrpc_base.specs.Failures.{HasCause};
 ghost use Rattle.frame_transport.specs.Frames.{IsPartial};
 ghost use Rattle.frame_transport.specs.declared.fault.FeedFault.{FeedFault as TheFault};
-ghost use Rattle.receive_core.specs.Life.{Life as TheLife, Fated, fed, fated};
-ghost use Rattle.message_delivery.specs.Arriving.{AreArriving, AreSame, AreTurned, HasAll, HaveLived, Holds, IfDelivered};
+ghost use Rattle.receive_core.specs.ReceiverTraces.{ReceiverTrace as TheLife, Fated, after_piece, after_fates};
+ghost use Rattle.message_delivery.specs.Arriving.{HasTrace, HaveSameIdentity, AreFatesOf, IsComplete, IsArrivalTrace, HasHeld, IfDelivered};
 
 use crate::limits::MAX_ARRIVALS;
 use frame_transport::FeedFault;
 use mrpc_base::{Came, Link};
 use mrpc_table::{Memory, Table, Tree};
 use policy_access::Access;
-use receive_core::{Arrival, DropCause, Inbound, life_of_receiver};
+use receive_core::{Arrival, DropCause, Inbound, trace_of_receiver};
 use receive_heap::Block;
 use shared_heap::Writer;
 
@@ -38,7 +38,7 @@ pub enum ArrivalLine {
 
 /// A message that was placed in the heap, and whose notice is pending.
 #[derive(Clone, Copy)]
-pub struct Delivered {
+pub struct PlacedMessage {
     pub kind: u8,
     pub method: u16,
     pub number: u32,
@@ -50,7 +50,7 @@ pub struct Delivered {
 
 /// Whether more of a stream may arrive, or why not.
 #[derive(Clone, Copy, PartialEq, Eq)]
-pub enum Stream {
+pub enum StreamState {
     /// More may arrive.
     Open,
     /// The other side has finished.
@@ -71,7 +71,7 @@ pub struct Arrivals<'t> {
     pub policy: Option<&'t Access>,
     /// What became of the frames, in order.
     pub lines: Vec<ArrivalLine>,
-    pub stream: Stream,
+    pub stream: StreamState,
     /// The frame fault of the stream, if it has one.
     pub fault: Option<FeedFault>,
 }
@@ -95,48 +95,51 @@ impl<'t> Arrivals<'t> {
     /// Whether nothing more is received: the stream ended, failed or is malformed, or `MAX_ARRIVALS` frames were
     /// handled.
     pub fn is_over(&self) -> bool
-        ensures over { result ≡ true → (self.now.stream ≢ Stream.Open) ⊎ (MAX_ARRIVALS ≤ length self.now.lines.items) }
+        ensures over { result ≡ true → (self.now.stream ≢ StreamState.Open)
+            ⊎ (MAX_ARRIVALS ≤ length self.now.lines.items) }
         ensures open { result ≡ false
-            → (self.now.stream ≡ Stream.Open) × (length self.now.lines.items < MAX_ARRIVALS) }
+            → (self.now.stream ≡ StreamState.Open) × (length self.now.lines.items < MAX_ARRIVALS) }
     {
-        self.stream != Stream::Open || self.lines.len() as u64 >= MAX_ARRIVALS
+        self.stream != StreamState::Open || self.lines.len() as u64 >= MAX_ARRIVALS
     }
 
     /// True only if no further frame can be handled: the link failed, `MAX_ARRIVALS` frames were handled, or the
     /// stream ended or is malformed and no whole frame waits.
-    pub fn has_all(&self) -> bool
-        ensures { result ≡ true → HasAll self.now }
+    pub fn is_complete(&self) -> bool
+        ensures { result ≡ true → IsComplete self.now }
     {
         match self.stream {
-            Stream::Open => self.lines.len() as u64 >= MAX_ARRIVALS,
-            Stream::Ended | Stream::Cut => {
+            StreamState::Open => self.lines.len() as u64 >= MAX_ARRIVALS,
+            StreamState::Ended | StreamState::Cut => {
                 self.lines.len() as u64 >= MAX_ARRIVALS || self.inbound.first().is_none()
             }
-            Stream::Failed => true,
+            StreamState::Failed => true,
         }
     }
 
     /// Receives once, unless a whole frame waits or nothing more is received. Returns whether something arrived. The
     /// only error is `Memory`, which leaves the arrivals unchanged.
     pub fn receive<L: Link>(&mut self, link: &mut L, buffer: &mut [u8]) -> Result<bool, Memory>
-        requires lived { AreArriving self.old }
+        requires lived { HasTrace self.old }
         requires room { 0 < length buffer.old }
         requires most { length buffer.old ≤ 2 ^ 32 }
 
         // Their trace is extended by the received bytes, and by the first fault, if there is one.
-        ensures lived { (life : TheLife) → HaveLived life self.old
+        ensures lived { (life : TheLife) → IsArrivalTrace life self.old
             → OnOk result ((piece : List ℕ) × (fault : Option TheFault)
-            × Appends (L.given link.old) (L.given link.new) piece × HaveLived (fed life piece fault) self.new) }
-        ensures same { AreSame self.old self.new }
+            × Appends (L.given link.old) (L.given link.new) piece
+            × IsArrivalTrace (after_piece life piece fault) self.new) }
+        ensures same { HaveSameIdentity self.old self.new }
         ensures lines { self.new.lines ≡ self.old.lines }
         ensures writer { self.new.writer ≡ self.old.writer }
         ensures heap { self.new.inbound.heap ≡ self.old.inbound.heap }
 
         // The stream becomes `Failed` exactly when the link's count of failures rises, and `Ended` only if the link
         // returned its end.
-        ensures cause { HasCause ((self.old.stream ≢ Stream.Failed) × (self.new.stream ≡ Stream.Failed))
-            (L.faults link.old) (L.faults link.new) }
-        ensures ends { self.old.stream ≢ Stream.Ended → self.new.stream ≡ Stream.Ended → IsTrue (L.ended link.new) }
+        ensures cause { HasCause ((self.old.stream ≢ StreamState.Failed) × (self.new.stream ≡ StreamState.Failed))
+            (L.failures link.old) (L.failures link.new) }
+        ensures ends { self.old.stream ≢ StreamState.Ended → self.new.stream ≡ StreamState.Ended
+            → IsTrue (L.ended link.new) }
 
         ensures memory { OnErr result (self.new ≡ self.old) }
         ensures silent { L.given link.old ≡ None → L.given link.new ≡ None }
@@ -151,11 +154,11 @@ impl<'t> Arrivals<'t> {
             Came::Bytes(count) => self.feed(&buffer[..count]),
             Came::Idle => Ok(false),
             Came::End => {
-                self.stream = Stream::Ended;
+                self.stream = StreamState::Ended;
                 Ok(true)
             }
             Came::Failed => {
-                self.stream = Stream::Failed;
+                self.stream = StreamState::Failed;
                 Ok(true)
             }
             Came::Memory => Err(Memory),
@@ -164,26 +167,26 @@ impl<'t> Arrivals<'t> {
 
     // Feeds the received bytes.
     fn feed(&mut self, piece: &[u8]) -> Result<bool, Memory>
-        requires lived { AreArriving self.old }
-        requires open { self.old.stream ≡ Stream.Open }
+        requires lived { HasTrace self.old }
+        requires open { self.old.stream ≡ StreamState.Open }
         requires partial { IsPartial self.old.inbound.fed.bytes }
         requires most { length piece.now ≤ 2 ^ 32 }
-        ensures lived { (life : TheLife) → HaveLived life self.old
-            → OnOk result ((fault : Option TheFault) × HaveLived (fed life piece.now fault) self.new) }
-        ensures same { AreSame self.old self.new }
+        ensures lived { (life : TheLife) → IsArrivalTrace life self.old
+            → OnOk result ((fault : Option TheFault) × IsArrivalTrace (after_piece life piece.now fault) self.new) }
+        ensures same { HaveSameIdentity self.old self.new }
         ensures lines { self.new.lines ≡ self.old.lines }
         ensures writer { self.new.writer ≡ self.old.writer }
         ensures heap { self.new.inbound.heap ≡ self.old.inbound.heap }
-        ensures stream { (self.new.stream ≡ Stream.Open) ⊎ (self.new.stream ≡ Stream.Cut) }
+        ensures stream { (self.new.stream ≡ StreamState.Open) ⊎ (self.new.stream ≡ StreamState.Cut) }
         ensures memory { OnErr result (self.new ≡ self.old) }
     {
-        life_of_receiver();
+        trace_of_receiver();
         match self.inbound.bytes(piece) {
             Ok(()) => Ok(true),
             Err(fault) => match fault {
                 FeedFault::Memory => Err(Memory),
                 _ => {
-                    self.stream = Stream::Cut;
+                    self.stream = StreamState::Cut;
                     self.fault = Some(fault);
                     Ok(true)
                 }
@@ -193,27 +196,27 @@ impl<'t> Arrivals<'t> {
 
     /// Handles the first whole frame, unless the link has failed. Returns the message if it was placed. The only
     /// error is `Memory`, after which nothing is guaranteed of the arrivals.
-    pub fn turn(&mut self) -> Result<Turned, Memory>
-        requires { AreArriving self.old }
+    pub fn turn(&mut self) -> Result<DeliveryOutcome, Memory>
+        requires { HasTrace self.old }
 
         // Their trace is extended by the fate of the frame, after the earlier ones.
-        ensures lived { (life : TheLife) → HaveLived life self.old → IfOk result (λ turned. (more : List Fated)
-            × AreTurned turned more × HaveLived (fated life more) self.new) }
+        ensures lived { (life : TheLife) → IsArrivalTrace life self.old → IfOk result (λ turned. (more : List Fated)
+            × AreFatesOf turned more × IsArrivalTrace (after_fates life more) self.new) }
         ensures kind { IfOk result (λ turned. IfDelivered turned (λ d. (1 ≤ d.kind) × (d.kind ≤ 2))) }
-        ensures held { IfOk result (λ turned. Holds turned self.old.inbound.heap.held self.new.inbound.heap.held) }
-        ensures same { AreSame self.old self.new }
+        ensures held { IfOk result (λ turned. HasHeld turned self.old.inbound.heap.held self.new.inbound.heap.held) }
+        ensures same { HaveSameIdentity self.old self.new }
         ensures stream { self.new.stream ≡ self.old.stream }
     {
-        life_of_receiver();
-        if self.stream == Stream::Failed || self.lines.len() as u64 >= MAX_ARRIVALS {
-            return Ok(Turned::Nothing);
+        trace_of_receiver();
+        if self.stream == StreamState::Failed || self.lines.len() as u64 >= MAX_ARRIVALS {
+            return Ok(DeliveryOutcome::Nothing);
         }
         match self
             .inbound
             .turn(self.table, self.policy, &mut self.writer)?
         {
-            Arrival::None => Ok(Turned::Nothing),
-            Arrival::Waiting { .. } => Ok(Turned::Nothing),
+            Arrival::None => Ok(DeliveryOutcome::Nothing),
+            Arrival::Waiting { .. } => Ok(DeliveryOutcome::Nothing),
             Arrival::Arrived {
                 kind,
                 method,
@@ -227,7 +230,7 @@ impl<'t> Arrivals<'t> {
                     number,
                     tree,
                 })?;
-                Ok(Turned::Delivered(message_in(kind, method, number, block)))
+                Ok(DeliveryOutcome::Delivered(placed_message(kind, method, number, block)))
             }
             Arrival::Dropped {
                 kind,
@@ -241,17 +244,17 @@ impl<'t> Arrivals<'t> {
                     number,
                     why,
                 })?;
-                Ok(Turned::Dropped)
+                Ok(DeliveryOutcome::Dropped)
             }
         }
     }
 }
 
 // The message in a block, for its notice.
-fn message_in(kind: u8, method: u16, number: u32, block: Block) -> Delivered
+fn placed_message(kind: u8, method: u16, number: u32, block: Block) -> PlacedMessage
     ensures { result ≡ record { kind = kind; method = method; number = number; addr = block.at; block = block.number } }
 {
-    Delivered {
+    PlacedMessage {
         kind,
         method,
         number,
@@ -262,11 +265,11 @@ fn message_in(kind: u8, method: u16, number: u32, block: Block) -> Delivered
 
 /// The outcome of a turn.
 #[derive(Clone, Copy)]
-pub enum Turned {
+pub enum DeliveryOutcome {
     /// No frame was handled.
     Nothing,
     /// A frame was dropped.
     Dropped,
     /// A message was placed.
-    Delivered(Delivered),
+    Delivered(PlacedMessage),
 }

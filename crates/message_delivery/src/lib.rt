@@ -15,7 +15,7 @@ mod limits;
 mod notices;
 mod reclaims;
 
-pub use arrivals::{ArrivalLine, Arrivals, Delivered, Stream, Turned};
+pub use arrivals::{ArrivalLine, Arrivals, DeliveryOutcome, PlacedMessage, StreamState};
 pub use limits::MAX_ARRIVALS;
 pub use notices::Notices;
-pub use reclaims::{Reclaimed, Reclaims};
+pub use reclaims::{ReclaimOutcome, Reclaims};

@@ -2,11 +2,11 @@
 
 ghost use Rattle.std.specs.Prelude.{◌≡◌, ◌≤◌, ◌<◌, ◌+◌, ◌++◌, ◌∷◌, [], List, length, true, false, None, IfOk, OnOk, OnErr};
 ghost use Rattle.shared_heap.specs.Fresh.{HeapId};
-ghost use Rattle.message_delivery.specs.declared.arrivals.Delivered.{Delivered as Message};
-ghost use Rattle.message_delivery.specs.Telling.{AreSameRings, AreTelling, IsMessage, IsTelling, StayOpen, TellsOf};
-ghost use Rattle.descriptor_ring.specs.Rings.{IsOf};
+ghost use Rattle.message_delivery.specs.declared.arrivals.PlacedMessage.{PlacedMessage as Message};
+ghost use Rattle.message_delivery.specs.Noticing.{AreSameRings, AreNotices, IsRequestOrReply, AreNoticesOf, AreStillOpen, IsNoticeOf};
+ghost use Rattle.descriptor_ring.specs.Rings.{IsDescriptorOf};
 
-use crate::arrivals::Delivered;
+use crate::arrivals::PlacedMessage;
 use descriptor_ring::{Descriptor, Full, NumberSender, NumbersSent, Sender, Sent};
 use mrpc_table::Memory;
 use shared_heap::Writer;
@@ -17,7 +17,7 @@ use std::sync::Wait;
 #[derive(Drop)]
 pub struct Notices {
     /// Messages whose notices are pending, in order.
-    pub waiting: VecDeque<Delivered>,
+    pub waiting: VecDeque<PlacedMessage>,
     /// The ring of notices; `None` after it was closed.
     pub notices: Option<Sender>,
     /// The ring of block numbers; `None` after it was closed.
@@ -33,11 +33,12 @@ pub struct Notices {
 
 impl Notices {
     /// Appends a message to the pending ones.
-    pub fn add(&mut self, message: Delivered) -> Result<(), Memory>
-        ensures telling { (heap : HeapId) (placed : List Message) → IsTelling heap placed self.old → IsMessage message
-            → length placed + 1 < 4294967294 → OnOk result (IsTelling heap (placed ++ message ∷ []) self.new) }
+    pub fn add(&mut self, message: PlacedMessage) -> Result<(), Memory>
+        ensures telling { (heap : HeapId) (placed : List Message) → AreNoticesOf heap placed self.old
+            → IsRequestOrReply message
+            → length placed + 1 < 4294967294 → OnOk result (AreNoticesOf heap (placed ++ message ∷ []) self.new) }
         ensures rings { AreSameRings self.old self.new }
-        ensures open { StayOpen self.old self.new }
+        ensures open { AreStillOpen self.old self.new }
         ensures memory { OnErr result (self.new.waiting.items ≡ self.old.waiting.items) }
     {
         self.waiting.push_back(message)?;
@@ -45,28 +46,28 @@ impl Notices {
     }
 
     /// Sends notices, each followed by its block number, while both rings have room. Returns whether one was sent.
-    pub fn give<R: Wait>(&mut self, rt: &R, writer: &mut Writer) -> bool
-        requires { AreTelling writer.old.heap self.old }
-        ensures telling { (placed : List Message) → IsTelling writer.old.heap placed self.old
-            → IsTelling writer.old.heap placed self.new }
+    pub fn send_notices<R: Wait>(&mut self, rt: &R, writer: &mut Writer) -> bool
+        requires { AreNotices writer.old.heap self.old }
+        ensures telling { (placed : List Message) → AreNoticesOf writer.old.heap placed self.old
+            → AreNoticesOf writer.old.heap placed self.new }
         ensures rings { AreSameRings self.old self.new }
-        ensures open { StayOpen self.old self.new }
+        ensures open { AreStillOpen self.old self.new }
         ensures writer { writer.new ≡ writer.old }
     {
         let mut gave = false;
-        while self.give_number(rt) && self.give_notice(rt, writer) {
+        while self.send_number(rt) && self.send_notice(rt, writer) {
             gave = true;
         }
         gave
     }
 
     // Sends the number that is owed. Returns false if the ring is full.
-    fn give_number<R: Wait>(&mut self, rt: &R) -> bool
-        requires { (heap : HeapId) × AreTelling heap self.old }
-        ensures telling { (heap : HeapId) (placed : List Message) → IsTelling heap placed self.old
-            → IsTelling heap placed self.new }
+    fn send_number<R: Wait>(&mut self, rt: &R) -> bool
+        requires { (heap : HeapId) × AreNotices heap self.old }
+        ensures telling { (heap : HeapId) (placed : List Message) → AreNoticesOf heap placed self.old
+            → AreNoticesOf heap placed self.new }
         ensures rings { AreSameRings self.old self.new }
-        ensures open { StayOpen self.old self.new }
+        ensures open { AreStillOpen self.old self.new }
         ensures waiting { self.new.waiting ≡ self.old.waiting }
         ensures given { result ≡ true → self.new.owed ≡ None }
     {
@@ -85,13 +86,13 @@ impl Notices {
     }
 
     // Sends the next notice. Returns false if none is pending or the ring is full.
-    fn give_notice<R: Wait>(&mut self, rt: &R, writer: &mut Writer) -> bool
-        requires telling { AreTelling writer.old.heap self.old }
+    fn send_notice<R: Wait>(&mut self, rt: &R, writer: &mut Writer) -> bool
+        requires telling { AreNotices writer.old.heap self.old }
         requires none_owed { self.old.owed ≡ None }
-        ensures telling { (placed : List Message) → IsTelling writer.old.heap placed self.old
-            → IsTelling writer.old.heap placed self.new }
+        ensures telling { (placed : List Message) → AreNoticesOf writer.old.heap placed self.old
+            → AreNoticesOf writer.old.heap placed self.new }
         ensures rings { AreSameRings self.old self.new }
-        ensures open { StayOpen self.old self.new }
+        ensures open { AreStillOpen self.old self.new }
         ensures fewer { result ≡ true → length self.new.waiting.items + 1 ≤ length self.old.waiting.items }
         ensures writer { writer.new ≡ writer.old }
     {
@@ -110,7 +111,7 @@ impl Notices {
     }
 
     /// Whether the notice and the block number of each message were sent.
-    pub fn is_given(&self) -> bool
+    pub fn is_sent(&self) -> bool
         ensures { result ≡ true → (self.now.waiting.items ≡ []) × (self.now.owed ≡ None) }
     {
         self.waiting.is_empty() && self.owed.is_none()
@@ -118,15 +119,15 @@ impl Notices {
 
     /// Once every notice was sent, closes each ring that has room. Returns whether one was closed.
     pub fn close<R: Wait>(&mut self, rt: &R) -> bool
-        ensures telling { (heap : HeapId) (placed : List Message) → IsTelling heap placed self.old
-            → IsTelling heap placed self.new }
+        ensures telling { (heap : HeapId) (placed : List Message) → AreNoticesOf heap placed self.old
+            → AreNoticesOf heap placed self.new }
         ensures rings { AreSameRings self.old self.new }
         ensures given { result ≡ true → (self.old.waiting.items ≡ []) × (self.old.owed ≡ None) }
-        ensures open { result ≡ false → StayOpen self.old self.new }
+        ensures open { result ≡ false → AreStillOpen self.old self.new }
         ensures waiting { self.new.waiting ≡ self.old.waiting }
         ensures owed { self.new.owed ≡ self.old.owed }
     {
-        if !self.is_given() {
+        if !self.is_sent() {
             return false;
         }
         let notices = self.close_notices(rt);
@@ -135,10 +136,10 @@ impl Notices {
     }
 
     fn close_notices<R: Wait>(&mut self, rt: &R) -> bool
-        ensures telling { (heap : HeapId) (placed : List Message) → IsTelling heap placed self.old
-            → IsTelling heap placed self.new }
+        ensures telling { (heap : HeapId) (placed : List Message) → AreNoticesOf heap placed self.old
+            → AreNoticesOf heap placed self.new }
         ensures rings { AreSameRings self.old self.new }
-        ensures open { result ≡ false → StayOpen self.old self.new }
+        ensures open { result ≡ false → AreStillOpen self.old self.new }
         ensures waiting { self.new.waiting ≡ self.old.waiting }
         ensures owed { self.new.owed ≡ self.old.owed }
     {
@@ -158,10 +159,10 @@ impl Notices {
     }
 
     fn close_blocks<R: Wait>(&mut self, rt: &R) -> bool
-        ensures telling { (heap : HeapId) (placed : List Message) → IsTelling heap placed self.old
-            → IsTelling heap placed self.new }
+        ensures telling { (heap : HeapId) (placed : List Message) → AreNoticesOf heap placed self.old
+            → AreNoticesOf heap placed self.new }
         ensures rings { AreSameRings self.old self.new }
-        ensures open { result ≡ false → StayOpen self.old self.new }
+        ensures open { result ≡ false → AreStillOpen self.old self.new }
         ensures waiting { self.new.waiting ≡ self.old.waiting }
         ensures owed { self.new.owed ≡ self.old.owed }
     {
@@ -189,10 +190,10 @@ impl Notices {
 }
 
 // The notice of a message, which covers the stores that placed it.
-fn notice(writer: &mut Writer, message: Delivered) -> Descriptor
-    requires { IsMessage message }
-    ensures of_heap { IsOf writer.old.heap result }
-    ensures tells { TellsOf message result }
+fn notice(writer: &mut Writer, message: PlacedMessage) -> Descriptor
+    requires { IsRequestOrReply message }
+    ensures of_heap { IsDescriptorOf writer.old.heap result }
+    ensures tells { IsNoticeOf message result }
     ensures writer { writer.new ≡ writer.old }
 {
     Descriptor {

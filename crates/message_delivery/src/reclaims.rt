@@ -2,8 +2,8 @@
 
 ghost use Rattle.std.specs.Prelude.{◌≡◌, ◌≤◌, ◌<◌, ◌+◌, ◌^◌, ◌++◌, ◌∷◌, [], ℕ, List, true, false, OnOk, IfSome, IfNone};
 ghost use Rattle.mrpc_table.specs.declared.table.Table.{Table as TheTable};
-ghost use Rattle.receive_core.specs.Life.{Life as TheLife, Lives};
-ghost use Rattle.message_delivery.specs.Telling.{AreJudged, IsCounting, IsReclaiming, LosesEach};
+ghost use Rattle.receive_core.specs.ReceiverTraces.{ReceiverTrace as TheLife, IsTraceOf};
+ghost use Rattle.message_delivery.specs.Noticing.{AreJudged, IsCounting, IsReclaiming, IsWithoutEach};
 
 use descriptor_ring::{NumberReceiver, NumberTaken};
 use mrpc_table::Memory;
@@ -28,7 +28,7 @@ pub struct Reclaims {
 
 /// The result of a reclaim.
 #[derive(Clone, Copy, PartialEq, Eq)]
-pub enum Reclaimed {
+pub enum ReclaimOutcome {
     /// No number was available, or the next one is postponed.
     Nothing,
     /// Some numbers were judged, or the end of the ring was taken.
@@ -43,14 +43,14 @@ impl Reclaims {
         rt: &R,
         inbound: &mut Inbound,
         given: u64,
-    ) -> Result<Reclaimed, Memory>
+    ) -> Result<ReclaimOutcome, Memory>
         requires few_programmed { self.old.programmed < 2 ^ 63 }
         requires few_given { given < 2 ^ 63 }
 
         // More numbers were judged: those that were reclaimed each removed their block from the held ones, in order.
         ensures reclaimed { (numbers back : List ℕ) → IsReclaiming numbers back self.old → OnOk result ((more : List ℕ)
             × (gained : List ℕ) × IsReclaiming (numbers ++ more) (back ++ gained) self.new
-            × LosesEach gained inbound.old.heap.held inbound.new.heap.held) }
+            × IsWithoutEach gained inbound.old.heap.held inbound.new.heap.held) }
 
         // The others named no block that was held when they were judged.
         ensures refused { (numbers : List ℕ) → IsCounting numbers self.old → OnOk result ((more : List ℕ)
@@ -62,22 +62,22 @@ impl Reclaims {
         ensures ring { self.new.numbers.ring ≡ self.old.numbers.ring }
 
         // The receiver's trace is unchanged.
-        ensures life { (T : TheTable) (life : TheLife) → Lives T life inbound.old → Lives T life inbound.new }
+        ensures life { (T : TheTable) (life : TheLife) → IsTraceOf T life inbound.old → IsTraceOf T life inbound.new }
         ensures conn { inbound.new.conn ≡ inbound.old.conn }
         ensures fed { inbound.new.fed ≡ inbound.old.fed }
         ensures words { inbound.new.heap.words ≡ inbound.old.heap.words }
     {
         let most = self.programmed + given;
         let was_closed = self.closed;
-        let mut reclaimed = Reclaimed::Nothing;
+        let mut reclaimed = ReclaimOutcome::Nothing;
         while let Some(number) = self.next(rt, most) {
             if inbound.reclaim(number).is_err() {
                 self.not_held.push(number)?;
             }
-            reclaimed = Reclaimed::Some;
+            reclaimed = ReclaimOutcome::Some;
         }
         if self.closed && !was_closed {
-            return Ok(Reclaimed::Some);
+            return Ok(ReclaimOutcome::Some);
         }
         Ok(reclaimed)
     }

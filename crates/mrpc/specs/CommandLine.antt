@@ -3,9 +3,9 @@ use Rattle.std.specs.Prelude.{◌≡◌, ◌⊎◌, ℕ, List, [], ◌∷◌, co
 use Rattle.std.specs.declared.alloc.Global.{Global}
 
 -- the word asks for the help text or for the version
-abbrev pub Asks : List ℕ → Type 0
-Asks word = (word ≡ codes "--help") ⊎ (word ≡ codes "--version")
+abbrev pub IsProgramOption : List ℕ → Type 0
+IsProgramOption word = (word ≡ codes "--help") ⊎ (word ≡ codes "--version")
 
 -- that word is the only one
-abbrev pub AsksAlone : List (String Global) → Type 0
-AsksAlone words = (map string_bytes words ≡ codes "--help" ∷ []) ⊎ (map string_bytes words ≡ codes "--version" ∷ [])
+abbrev pub IsLoneProgramOption : List (String Global) → Type 0
+IsLoneProgramOption words = (map string_bytes words ≡ codes "--help" ∷ []) ⊎ (map string_bytes words ≡ codes "--version" ∷ [])

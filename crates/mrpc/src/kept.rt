@@ -2,12 +2,12 @@
 
 ghost use Rattle.std.specs.Prelude.{◌≡◌, ◌<◌, ◌≤◌, length, take};
 ghost use Rattle.std.specs.Io.KnownBytes.{Appends, Consumes, IsAtEnd, Keeps};
-ghost use Rattle.mrpc_base.specs.Faults.{HasCause};
-ghost use Rattle.mrpc_base.specs.Reading.{OnBytes, OnNoBytes};
-ghost use Rattle.mrpc_base.specs.Writing.{OnTook};
+ghost use Rattle.mrpc_base.specs.Failures.{HasCause};
+ghost use Rattle.mrpc_base.specs.Sources.{OnBytes, OnNoBytes};
+ghost use Rattle.mrpc_base.specs.Sinks.{OnTook};
 
-use crate::progress::Progress;
-use crate::told::calls_told;
+use crate::accepted_calls::accepted_calls;
+use crate::progress::RunProgress;
 use mrpc_base::{CHUNK, Got, Put, Sink, Source};
 use mrpc_table::Bytes;
 use std::alloc::Global;
@@ -18,7 +18,7 @@ use std::time::Clock;
 const FAULT: &[u8] = b"fault ";
 
 // The most bytes of it.
-const LONGEST: usize = 64;
+const MAX_FAULT_LINE: usize = 64;
 
 // A source whose bytes are kept as they are read.
 pub(crate) struct KeptSource<S: Source + Drop> {
@@ -69,7 +69,7 @@ impl<S: Source + Drop> KeptSource<S> {
 impl<S: Source + Drop> Source for KeptSource<S> {
     ghost left = { λ s. S.left s.source };
 
-    ghost faults = { λ s. S.faults s.source };
+    ghost failures = { λ s. S.failures s.source };
 
     fn read(&mut self, buf: &mut [u8]) -> Got
         requires room { 0 < length buf.old }
@@ -78,7 +78,7 @@ impl<S: Source + Drop> Source for KeptSource<S> {
             (take n buf.new)) }
         ensures end { result ≡ Got.End → IsAtEnd (S.left self.old.source) }
         ensures kept { OnNoBytes result (Keeps (S.left self.old.source) (S.left self.new.source)) }
-        ensures cause { HasCause (result ≡ Got.Failed) (S.faults self.old.source) (S.faults self.new.source) }
+        ensures cause { HasCause (result ≡ Got.Failed) (S.failures self.old.source) (S.failures self.new.source) }
     {
         let got = self.source.read(buf);
         if let Got::Bytes(count) = got {
@@ -97,7 +97,7 @@ pub(crate) struct KeptSink<'r, R, K: Sink + Drop> {
     // Whether to look for the number of calls. Not in a replay, which writes each line by itself.
     counts: bool,
     calls: Option<u64>,
-    progress: &'r Progress<'r, R>,
+    progress: &'r RunProgress<'r, R>,
 }
 
 impl<'r, R, K: Sink + Drop> Drop for KeptSink<'r, R, K> {
@@ -115,7 +115,11 @@ impl<'r, R, K: Sink + Drop> Drop for KeptSink<'r, R, K> {
 
 impl<'r, R: Eprint + Clock, K: Sink + Drop> KeptSink<'r, R, K> {
     // A sink to which nothing was written.
-    pub(crate) fn new(alloc: Global, sink: K, progress: &'r Progress<'r, R>) -> KeptSink<'r, R, K> {
+    pub(crate) fn new(
+        alloc: Global,
+        sink: K,
+        progress: &'r RunProgress<'r, R>,
+    ) -> KeptSink<'r, R, K> {
         KeptSink {
             sink,
             alloc,
@@ -134,7 +138,7 @@ impl<'r, R: Eprint + Clock, K: Sink + Drop> KeptSink<'r, R, K> {
     fn count(&mut self, piece: &[u8])
         ensures { self.new.sink ≡ self.old.sink }
     {
-        if let Some(calls) = calls_told(piece) {
+        if let Some(calls) = accepted_calls(piece) {
             self.calls = Some(calls);
         }
     }
@@ -145,7 +149,7 @@ impl<'r, R: Eprint + Clock, K: Sink + Drop> KeptSink<'r, R, K> {
         if self.counts {
             self.count(piece);
         }
-        if piece.len() > LONGEST || !piece.starts_with(FAULT) {
+        if piece.len() > MAX_FAULT_LINE || !piece.starts_with(FAULT) {
             return;
         }
         if let Ok(fault) = Bytes::from_slice(self.alloc, piece) {
@@ -169,7 +173,7 @@ impl<'r, R, K: Sink + Drop> KeptSink<'r, R, K> {
 impl<'r, R: Eprint + Clock, K: Sink + Drop> Sink for KeptSink<'r, R, K> {
     ghost written = { λ s. K.written s.sink };
 
-    ghost faults = { λ s. K.faults s.sink };
+    ghost failures = { λ s. K.failures s.sink };
 
     fn write(&mut self, piece: &[u8]) -> Put
         requires some { 0 < length piece.now }
@@ -177,7 +181,7 @@ impl<'r, R: Eprint + Clock, K: Sink + Drop> Sink for KeptSink<'r, R, K> {
         ensures appended { OnTook result (λ n. Appends (K.written self.old.sink) (K.written self.new.sink)
             (take n piece.now)) }
         ensures kept { result ≡ Put.Failed → Keeps (K.written self.old.sink) (K.written self.new.sink) }
-        ensures cause { HasCause (result ≡ Put.Failed) (K.faults self.old.sink) (K.faults self.new.sink) }
+        ensures cause { HasCause (result ≡ Put.Failed) (K.failures self.old.sink) (K.failures self.new.sink) }
     {
         self.progress.clear();
         let put = self.sink.write(piece);

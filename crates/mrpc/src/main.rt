@@ -6,22 +6,22 @@
 //! standard error.
 #![tactic(auto)]
 
+mod accepted_calls;
 mod command_line;
 mod kept;
 mod progress;
-mod told;
 mod usage;
 
-use command_diagnostics::{explained, no_command};
-use command_line::{Asked, WordsFault, asked_alone, words};
+use command_diagnostics::{explain_fault, explain_usage};
+use command_line::{ProgramOption, WordsFault, lone_option, words};
 use kept::{KeptSink, KeptSource};
-use link_counters::TallyFabric;
+use link_counters::CountingFabric;
 use mrpc_base::{Fabric, Sink, Source, write_all};
 use mrpc_top::{
     DONE, FABRIC_FAILED, FAULTY_INPUT, LINK_FAILED, NO_COMMAND, NO_MEMORY, OUTPUT_FAILED,
     run_command,
 };
-use progress::Progress;
+use progress::RunProgress;
 use std::alloc::Global;
 use std::env::Env;
 use std::io::{Eprint, IsTerminal};
@@ -45,7 +45,7 @@ const SEE_FAULT: &str = "mrpc: the input has a fault, which the last line of the
 
 fn main(rt: HostRuntime) -> ExitCode {
     let mut error = StandardOutput::new(rt.stderr());
-    let Ok(progress) = Progress::new(&rt, rt.alloc(), rt.stderr().is_terminal()) else {
+    let Ok(progress) = RunProgress::new(&rt, rt.alloc(), rt.stderr().is_terminal()) else {
         return ExitCode::from(say_status(rt.alloc(), NO_MEMORY, None, &mut error));
     };
     let mut input = KeptSource::new(rt.alloc(), StandardInput::new(rt.stdin()));
@@ -59,7 +59,7 @@ fn exit_status<R, S: Source + Drop, K: Sink + Drop, E: Sink>(
     input: &mut KeptSource<S>,
     out: &mut KeptSink<'_, R, K>,
     error: &mut E,
-    progress: &Progress<'_, R>,
+    progress: &RunProgress<'_, R>,
 ) -> u8
 where
     R: Threads + Wait + Sync + Clock + Files + Env + Eprint + AllocGlobal,
@@ -80,14 +80,14 @@ fn status_of<R, S: Source + Drop, K: Sink + Drop, E: Sink>(
     input: &mut KeptSource<S>,
     out: &mut KeptSink<'_, R, K>,
     error: &mut E,
-    progress: &Progress<'_, R>,
+    progress: &RunProgress<'_, R>,
 ) -> u8
 where
     R: Threads + Wait + Sync + Clock + Files + Eprint + AllocGlobal,
     R: Net<Stream = TcpStream, Listener = TcpListener>,
     R::File: Lock,
 {
-    if let Some(asked) = asked_alone(words) {
+    if let Some(asked) = lone_option(words) {
         let status = answer(rt.alloc(), asked, out);
         return say_status(rt.alloc(), status, None, error);
     }
@@ -112,10 +112,10 @@ fn say_end<R: Eprint + Clock, S: Source + Drop, K: Sink + Drop, E: Sink>(
     input: &KeptSource<S>,
     out: &KeptSink<'_, R, K>,
     error: &mut E,
-    progress: &Progress<'_, R>,
+    progress: &RunProgress<'_, R>,
 ) {
     match words.first() {
-        Some(word) if status == FAULTY_INPUT => tell(alloc, word, input, out, error),
+        Some(word) if status == FAULTY_INPUT => write_diagnostic(alloc, word, input, out, error),
         Some(_) if status == NO_COMMAND => say_words(alloc, words, error),
         Some(_) if status == DONE || status == LINK_FAILED => {
             if let Some(calls) = out.calls() {
@@ -142,7 +142,7 @@ fn run_words<R, S: Source, K: Sink>(
     input: &mut S,
     out: &mut K,
     fault: &SystemFault,
-    progress: &Progress<'_, R>,
+    progress: &RunProgress<'_, R>,
 ) -> u8
 where
     R: Threads + Wait + Sync + Clock + Files + Eprint + AllocGlobal,
@@ -163,7 +163,7 @@ fn run_counted<R, S: Source, K: Sink, F: Fabric + Drop>(
     input: &mut S,
     out: &mut K,
     fabric: F,
-    progress: &Progress<'_, R>,
+    progress: &RunProgress<'_, R>,
 ) -> u8
 where
     R: Threads + Wait + Sync + Clock + Files + Eprint + AllocGlobal,
@@ -173,7 +173,7 @@ where
         return NO_MEMORY;
     };
     let mut wire = FileSink::new(rt);
-    let mut fabric = TallyFabric::new(fabric, tally);
+    let mut fabric = CountingFabric::new(fabric, tally);
     let clock = SystemClock::new(rt);
     run_command(
         rt,
@@ -189,7 +189,7 @@ where
 }
 
 // Writes the diagnostic of the input to standard error. If it runs out of memory, writes where to look.
-fn tell<R, S: Source + Drop, K: Sink + Drop, E: Sink>(
+fn write_diagnostic<R, S: Source + Drop, K: Sink + Drop, E: Sink>(
     alloc: Global,
     word: &String,
     input: &KeptSource<S>,
@@ -197,7 +197,7 @@ fn tell<R, S: Source + Drop, K: Sink + Drop, E: Sink>(
     error: &mut E,
 ) {
     if let Some(text) = input.kept() {
-        if let Ok(lines) = explained(alloc, word.as_bytes(), text, out.fault(), WIDTH) {
+        if let Ok(lines) = explain_fault(alloc, word.as_bytes(), text, out.fault(), WIDTH) {
             write_all(error, lines.as_slice());
             return;
         }
@@ -207,16 +207,16 @@ fn tell<R, S: Source + Drop, K: Sink + Drop, E: Sink>(
 
 // Writes to standard error which words are no command. Writes nothing if it runs out of memory.
 fn say_words<E: Sink>(alloc: Global, words: &[String], error: &mut E) {
-    if let Ok(line) = no_command(alloc, words) {
+    if let Ok(line) = explain_usage(alloc, words) {
         write_all(error, line.as_slice());
     }
 }
 
 // Writes what the command line asks of the program itself, and returns the status.
-fn answer<K: Sink>(alloc: Global, asked: Asked, out: &mut K) -> u8 {
+fn answer<K: Sink>(alloc: Global, asked: ProgramOption, out: &mut K) -> u8 {
     let written = match asked {
-        Asked::Version => write_all(out, VERSION.as_bytes()),
-        Asked::Help => match usage(alloc) {
+        ProgramOption::Version => write_all(out, VERSION.as_bytes()),
+        ProgramOption::Help => match usage(alloc) {
             Ok(text) => write_all(out, text.as_bytes()),
             Err(_) => return NO_MEMORY,
         },

@@ -2,7 +2,7 @@
 
 ghost use Rattle.std.specs.Prelude.{IsTrue};
 
-use link_counters::Tally;
+use link_counters::FrameCounters;
 use mrpc_base::Gate;
 use std::alloc::{AllocError, Global};
 use std::io::Eprint;
@@ -14,11 +14,11 @@ const EVERY: u64 = 1000;
 
 // The progress of a run, on standard error if that is a terminal: one line, rewritten by the worker that
 // calls the gate when it is due, and at the end a line that stays. Otherwise it prints nothing.
-pub(crate) struct Progress<'r, R> {
+pub(crate) struct RunProgress<'r, R> {
     rt: &'r R,
     // `None` if the system returned no time then.
     start: Option<Instant>,
-    tally: Tally,
+    tally: FrameCounters,
     is_shown: bool,
     // When the first round started, if one did, and when the line is due.
     began: AtomicU64,
@@ -28,9 +28,9 @@ pub(crate) struct Progress<'r, R> {
 }
 
 // Written by hand, so that a drop is one call, not a drop of each part.
-impl<'r, R> Drop for Progress<'r, R> {
+impl<'r, R> Drop for RunProgress<'r, R> {
     fn drop(self) {
-        let Progress {
+        let RunProgress {
             rt: _,
             start: _,
             tally: _tally,
@@ -45,17 +45,17 @@ impl<'r, R> Drop for Progress<'r, R> {
 // No round has started.
 const NEVER: u64 = u64::MAX;
 
-impl<'r, R: Eprint + Clock> Progress<'r, R> {
+impl<'r, R: Eprint + Clock> RunProgress<'r, R> {
     // The progress of a run that hasn't started.
     pub(crate) fn new(
         rt: &'r R,
         alloc: Global,
         is_shown: bool,
-    ) -> Result<Progress<'r, R>, AllocError> {
-        Ok(Progress {
+    ) -> Result<RunProgress<'r, R>, AllocError> {
+        Ok(RunProgress {
             rt,
             start: Instant::now(rt).ok(),
-            tally: Tally::new(alloc)?,
+            tally: FrameCounters::new(alloc)?,
             is_shown,
             began: AtomicU64::new(NEVER),
             due: AtomicU64::new(0),
@@ -75,7 +75,7 @@ impl<'r, R: Eprint + Clock> Progress<'r, R> {
     }
 
     // The counters of the run's frames.
-    pub(crate) fn tally(&self) -> &Tally {
+    pub(crate) fn tally(&self) -> &FrameCounters {
         &self.tally
     }
 
@@ -141,7 +141,7 @@ fn a_second(count: u64, millis: u64) -> u64 {
     }
 }
 
-impl<'r, R: Eprint + Clock + Sync> Gate for Progress<'r, R> {
+impl<'r, R: Eprint + Clock + Sync> Gate for RunProgress<'r, R> {
     // It is always open.
     fn open(&self, _conn: u32) -> bool
         ensures { IsTrue result }

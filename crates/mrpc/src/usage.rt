@@ -72,13 +72,13 @@ pub(crate) fn usage(alloc: Global) -> Result<String, AllocError> {
 
 // What failed, and what to do about it; the system's words, if there are any, go between.
 #[derive(Clone, Copy)]
-pub(crate) struct Sentence {
+pub(crate) struct FailureMessage {
     pub what: &'static str,
     pub advice: &'static str,
 }
 
 // What failed, in a run or in another command, for the statuses that report a failure.
-pub(crate) fn failure(status: u8, is_run: bool) -> Option<Sentence> {
+pub(crate) fn failure(status: u8, is_run: bool) -> Option<FailureMessage> {
     let (what, advice) = match status {
         NO_COMMAND => (
             "mrpc: give one of these commands alone",
@@ -110,5 +110,5 @@ pub(crate) fn failure(status: u8, is_run: bool) -> Option<Sentence> {
         ),
         _ => return None,
     };
-    Some(Sentence { what, advice })
+    Some(FailureMessage { what, advice })
 }

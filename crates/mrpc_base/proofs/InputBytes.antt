@@ -1,7 +1,7 @@
 -- Known bytes, up to the end.
 use Rattle.std.proofs.Common.{ℕ, List, ◌++◌, Option, Some, None, ap, ◌∙◌, append-nil}
 use Rattle.std.specs.Io.KnownBytes.{Consumes, IsAtEnd}
-use Rattle.mrpc_base.specs.InputReading.{IsAllOf}
+use Rattle.mrpc_base.specs.WholeInput.{IsAllOf}
 
 pub all_of_consumed : (old mid : Option (List ℕ)) (text : List ℕ) → Consumes old mid text → IsAtEnd mid → IsAllOf old text
 all_of_consumed None mid text a e = tt

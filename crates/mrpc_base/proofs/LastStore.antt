@@ -8,7 +8,7 @@ use Rattle.std.proofs.lemmas.Bool.Decides.{nat_tests}
 use Rattle.std.proofs.lemmas.List.{map-append, get_or-replicate, length-replicate}
 use Rattle.std.proofs.lemmas.List.Elements.{filter-append}
 use Rattle.mrpc_base.specs.Heap.{last_or, word_after}
-use Rattle.mrpc_base.specs.Parts.{StandsAfter}
+use Rattle.mrpc_base.specs.Parts.{AreWordsAfter}
 
 pub last_or-append : (otherwise : ℕ) (xs ys : List ℕ) → last_or otherwise (xs ++ ys) ≡ last_or (last_or otherwise xs) ys
 last_or-append otherwise [] ys = refl
@@ -48,14 +48,14 @@ word_after-other stores place value other apart =
 
 -- ---- the words stay those of the stores
 
-pub stands_at_first : (stores : List (ℕ × ℕ)) (words : List ℕ) (n : ℕ) → stores ≡ [] → words ≡ replicate n 0 → StandsAfter stores words
+pub stands_at_first : (stores : List (ℕ × ℕ)) (words : List ℕ) (n : ℕ) → stores ≡ [] → words ≡ replicate n 0 → AreWordsAfter stores words
 stands_at_first stores words n none zeros = λ place inside.
     let below : place < n = omega (arith, inside, ap length zeros, length-replicate {A = ℕ} n 0) in
     ap (λ ws. get_or ws place 0) zeros ∙ get_or-replicate n place 0 0 below ∙ sym (ap (λ ss. word_after ss place) none ∙ word_after-nil place)
 
 pub stands_after_store : (stores new : List (ℕ × ℕ)) (words : List ℕ) (place value : ℕ) → place < length words
-    → new ≡ stores ++ (place, value) ∷ [] → StandsAfter stores words
-    → StandsAfter new (set words place value)
+    → new ≡ stores ++ (place, value) ∷ [] → AreWordsAfter stores words
+    → AreWordsAfter new (set words place value)
 stands_after_store stores new words place value inside more stands = λ other in'.
     ⊎_elim
     (λ (same : place ≡ other).

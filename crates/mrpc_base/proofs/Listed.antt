@@ -6,7 +6,7 @@ use Rattle.std.proofs.lemmas.List.Sorted.{IsPermutation-filter_both, length_perm
 use Rattle.mrpc_base.specs.declared.words.Room.{Room}
 use Rattle.mrpc_base.specs.declared.words.Room.TheVariants.{Made, Memory}
 use Rattle.mrpc_base.specs.Heap.{Race, races_up_to, races_past, races_with}
-use Rattle.mrpc_base.specs.Parts.{Waiting}
+use Rattle.mrpc_base.specs.Parts.{ScheduledRaces}
 
 up_to_or_past : (number load : ℕ) → nat_lt number load ≡ not (nat_le load number)
 up_to_or_past number load = grind (arith, nat_tests)
@@ -26,12 +26,12 @@ All-races_with P races race one all =
     (All-cons P race (races_past race.load races) one (All-filter (λ (r : Race). nat_lt race.load r.load) P races all))
 
 -- at most one more race is scheduled, no more were listed than there are, and P still holds of each
-pub record Lists (P : Race → Type 0) (old new : Waiting) : Type 0 where
+pub record Lists (P : Race → Type 0) (old new : ScheduledRaces) : Type 0 where
   pub one_more : length new.races ≤ length old.races + 1
   pub listed : new.listed + length old.races ≤ old.listed + length new.races
   pub all : All P new.races
 
-pub Lists-from_answer : (P : Race → Type 0) (old new : Waiting) (race : Race) (answer : Room)
+pub Lists-from_answer : (P : Race → Type 0) (old new : ScheduledRaces) (race : Race) (answer : Room)
     → (answer ≡ Made → new.races ≡ races_with old.races race) → (answer ≡ Made → new.listed ≡ old.listed + 1) → (answer ≡ Memory → new ≡ old)
     → P race → All P old.races → Lists P old new
 Lists-from_answer P old new race Made made counted memory one all =
@@ -41,7 +41,7 @@ Lists-from_answer P old new race Made made counted memory one all =
     record { one_more = omega (arith, len); listed = omega (arith, len, count); all = subst (All P) (sym is) (All-races_with P old.races race one all) }
 Lists-from_answer P old new race Memory made counted memory one all =
     let same = memory refl in
-    let races = ap (λ (w : Waiting). w.races) same in
+    let races = ap (λ (w : ScheduledRaces). w.races) same in
     let len = ap length races in
-    let count = ap (λ (w : Waiting). w.listed) same in
+    let count = ap (λ (w : ScheduledRaces). w.listed) same in
     record { one_more = omega (arith, len); listed = omega (arith, len, count); all = subst (All P) (sym races) all }

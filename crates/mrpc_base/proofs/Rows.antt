@@ -1,8 +1,8 @@
 -- The definitions on small heaps, by evaluation.
 use Rattle.std.proofs.Common.{◌≡◌, ℕ, List, [], ◌∷◌, Some, None, ◌-◌, ◌^◌, refl}
-use Rattle.mrpc_base.specs.Faults.{raised}
+use Rattle.mrpc_base.specs.Failures.{raised}
 use Rattle.mrpc_base.specs.Heap.{Race, word_after, stores_of, races_up_to, races_past, races_with}
-use Rattle.mrpc_base.specs.Reading.{given_count}
+use Rattle.mrpc_base.specs.Sources.{given_count}
 
 -- the last store counts, a store elsewhere doesn't, and a place without stores has 0
 last_counts : word_after ((2, 150) ∷ (3, 4) ∷ (2, 9) ∷ []) 2 ≡ 9

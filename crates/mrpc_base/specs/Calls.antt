@@ -6,4 +6,4 @@ use Rattle.std.specs.Prelude.{ℕ, List}
 pub record CallCount : Type 0 where
   pub failing : List ℕ
   pub calls : ℕ
-  pub faults : ℕ
+  pub failures : ℕ

@@ -12,10 +12,10 @@ unfoldable pub word_after : List (ℕ × ℕ) → ℕ → ℕ
 word_after stores place = last_or 0 (map (λ store. store.1) (filter (λ store. store.0 == place) stores))
 
 -- the known stores stay a prefix of all stores
-abbrev pub Extends : Option (List (ℕ × ℕ)) → Option (List (ℕ × ℕ)) → Type 0
-Extends None new = ⊤
-Extends (Some xs) None = ⊥
-Extends (Some xs) (Some ys) = (more : List (ℕ × ℕ)) × (ys ≡ xs ++ more)
+abbrev pub IsExtendedTo : Option (List (ℕ × ℕ)) → Option (List (ℕ × ℕ)) → Type 0
+IsExtendedTo None new = ⊤
+IsExtendedTo (Some xs) None = ⊥
+IsExtendedTo (Some xs) (Some ys) = (more : List (ℕ × ℕ)) × (ys ≡ xs ++ more)
 
 -- a store that is made right before a load, which is counted from 1 in its submission
 pub record Race : Type 0 where
@@ -55,7 +55,7 @@ pub record Heap : Type 0 where
   pub store_room : ℕ
 
 -- only the room for loads has changed
-pub record AfterRoom (old new : Heap) : Type 0 where
+pub record IsRoomChange (old new : Heap) : Type 0 where
   pub size : new.size ≡ old.size
   pub loads : new.loads ≡ old.loads
   pub stores : new.stores ≡ old.stores
@@ -64,7 +64,7 @@ pub record AfterRoom (old new : Heap) : Type 0 where
   pub store_room : new.store_room ≡ old.store_room
 
 -- one load of a value from a place: the races up to the load are made first, and the load sees them
-pub record AfterLoad (old : Heap) (place value : ℕ) (new : Heap) : Type 0 where
+pub record IsLoad (old : Heap) (place value : ℕ) (new : Heap) : Type 0 where
   pub size : new.size ≡ old.size
   pub loads : new.loads ≡ old.loads ++ (place, value) ∷ []
   pub stores : new.stores ≡ old.stores ++ stores_of (races_up_to (old.begun + 1) old.races)
@@ -74,7 +74,7 @@ pub record AfterLoad (old : Heap) (place value : ℕ) (new : Heap) : Type 0 wher
   pub store_room : new.store_room ≡ old.store_room
 
 -- these loads were made in order, each with the change that a load makes
-abbrev pub AfterLoads : {W : Type 0} → (W → ℕ → ℕ → W → Type 0) → W → List (ℕ × ℕ) → W → Type 0
-AfterLoads {W} after_load old [] new = new ≡ old
-AfterLoads {W} after_load old (load ∷ loads) new = (next : W) × after_load old load.0 load.1 next
-    × AfterLoads after_load next loads new
+abbrev pub AreLoads : {W : Type 0} → (W → ℕ → ℕ → W → Type 0) → W → List (ℕ × ℕ) → W → Type 0
+AreLoads {W} after_load old [] new = new ≡ old
+AreLoads {W} after_load old (load ∷ loads) new = (next : W) × after_load old load.0 load.1 next
+    × AreLoads after_load next loads new

@@ -1,10 +1,10 @@
 pub mod Calls
-pub mod Faults
+pub mod Failures
 pub mod Heap
-pub mod InputReading
-pub mod Linking
+pub mod WholeInput
+pub mod Links
 pub mod Parts
 pub mod Quota
-pub mod Reading
+pub mod Sources
 pub mod Supply
-pub mod Writing
+pub mod Sinks

@@ -4,16 +4,16 @@ use Rattle.std.specs.Prelude.{◌≡◌, ◌<◌, ℕ, ◌+◌, ◌^◌, ◌≤�
 use Rattle.mrpc_base.specs.Heap.{Race, word_after}
 
 -- how many words a heap has, and the stores that were made to it
-pub record Stored : Type 0 where
+pub record StoredWordsState : Type 0 where
   pub size : ℕ
   pub stores : List (ℕ × ℕ)
 
 -- each word is the last value stored at its place
-abbrev pub StandsAfter : List (ℕ × ℕ) → List ℕ → Type 0
-StandsAfter stores words = (place : ℕ) → place < length words → slice_index words place ≡ word_after stores place
+abbrev pub AreWordsAfter : List (ℕ × ℕ) → List ℕ → Type 0
+AreWordsAfter stores words = (place : ℕ) → place < length words → slice_index words place ≡ word_after stores place
 
 -- the scheduled races, in the order in which they are made, and the number of the next listing
-pub record Waiting : Type 0 where
+pub record ScheduledRaces : Type 0 where
   pub races : List Race
   pub listed : ℕ
 
@@ -35,7 +35,7 @@ IsFirstDue number old new store = (race : Race) × (old ≡ race ∷ new) × (st
     × (race.load ≤ number)
 
 -- each load and store that has room can still be counted, the stores of scheduled races included
-pub record KeepsRoom (stored : Stored) (waiting : Waiting) (loads finished load_room store_room : ℕ) : Type 0 where
+pub record IsCountable (stored : StoredWordsState) (waiting : ScheduledRaces) (loads finished load_room store_room : ℕ) : Type 0 where
   pub begun : finished ≤ loads
   pub for_loads : loads + load_room < 2 ^ 64
   pub for_stores : length stored.stores + length waiting.races + store_room < 2 ^ 64

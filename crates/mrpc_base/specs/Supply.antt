@@ -2,6 +2,6 @@
 use Rattle.std.specs.Prelude.{ℕ, List}
 
 -- the bytes that were given, and those that remain
-pub record Supplied : Type 0 where
+pub record SupplyState : Type 0 where
   pub given : List ℕ
   pub left : List ℕ

@@ -1,41 +1,41 @@
 //! A call counter for devices in memory: how many calls there were, which are to fail, and how many failed.
 
 ghost use Rattle.std.specs.Prelude.{◌≡◌, ◌≤◌, ◌↔◌, Contains, IsPermutation, IsTrue};
-ghost use Rattle.mrpc_base.specs.Faults.{raised};
+ghost use Rattle.mrpc_base.specs.Failures.{raised};
 
 use std::marker::Model;
 
 #[derive(Drop)]
-pub(crate) struct Calls {
+pub(crate) struct CallCounter {
     // In ascending order, for the binary search.
     failing: Vec<u64>,
     calls: u64,
-    faults: u64,
+    failures: u64,
 }
 
-impl Model for Calls {
+impl Model for CallCounter {
     ghost use Rattle.std.specs.List.Sorted.{IsNonDecreasing};
     ghost use Rattle.mrpc_base.specs.Calls.{CallCount};
 
     ghost Value = { CallCount };
 
-    ghost view = { λ c. record { failing = c.failing.items; calls = c.calls; faults = c.faults } };
+    ghost view = { λ c. record { failing = c.failing.items; calls = c.calls; failures = c.failures } };
 
     ghost invariant = { λ c. IsNonDecreasing c.failing.items };
 }
 
-impl Calls {
+impl CallCounter {
     // A counter before any call. `failing` holds the numbers of the calls that are to fail, in any order.
     pub(crate) fn new(mut failing: Vec<u64>) -> Self
         ensures failing { IsPermutation failing.items result.failing }
         ensures calls { result.calls ≡ 0 }
-        ensures faults { result.faults ≡ 0 }
+        ensures failures { result.failures ≡ 0 }
     {
         failing.sort_unstable();
-        Calls {
+        CallCounter {
             failing,
             calls: 0,
-            faults: 0,
+            failures: 0,
         }
     }
 
@@ -45,10 +45,10 @@ impl Calls {
         self.calls
     }
 
-    pub(crate) fn faults(&self) -> u64
-        ensures { result ≡ self.now.faults }
+    pub(crate) fn failures(&self) -> u64
+        ensures { result ≡ self.now.failures }
     {
-        self.faults
+        self.failures
     }
 
     // Counts a call, and returns whether it is to fail.
@@ -56,19 +56,19 @@ impl Calls {
         ensures calls { self.new.calls ≡ raised self.old.calls }
         ensures fails { IsTrue result ↔ Contains self.old.failing self.new.calls }
         ensures failing { self.new.failing ≡ self.old.failing }
-        ensures faults { self.new.faults ≡ self.old.faults }
+        ensures failures { self.new.failures ≡ self.old.failures }
     {
         self.calls = self.calls.saturating_add(1);
         self.failing.binary_search(&self.calls).is_ok()
     }
 
     // Counts a call that failed.
-    pub(crate) fn fault(&mut self)
-        ensures faults { self.new.faults ≡ raised self.old.faults }
-        ensures never_falls { self.old.faults ≤ self.new.faults }
+    pub(crate) fn count_failure(&mut self)
+        ensures failures { self.new.failures ≡ raised self.old.failures }
+        ensures never_falls { self.old.failures ≤ self.new.failures }
         ensures calls { self.new.calls ≡ self.old.calls }
         ensures failing { self.new.failing ≡ self.old.failing }
     {
-        self.faults = self.faults.saturating_add(1);
+        self.failures = self.failures.saturating_add(1);
     }
 }

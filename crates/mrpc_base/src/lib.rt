@@ -51,6 +51,6 @@ pub use sink::{Put, Sink};
 pub use source::{Got, Source};
 pub use stores::Stores;
 pub use tickets::{Tickets, WINDOWS};
-pub use whole_input::{CHUNK, INPUT_LIMIT, Input, read_input};
+pub use whole_input::{CHUNK, InputResult, MAX_INPUT, read_input};
 pub use words::{Room, Words};
 pub use writing::write_all;

@@ -2,8 +2,8 @@
 
 ghost use Rattle.std.specs.Prelude.{◌≡◌, ◌≢◌, ◌<◌, ◌≤◌, List, [], ◌∷◌, ◌++◌, ℕ, Bool, Option, None, IsTrue, length, take};
 ghost use Rattle.std.specs.Io.KnownBytes.{Appends, Keeps};
-ghost use Rattle.mrpc_base.specs.Faults.{HasCause};
-ghost use Rattle.mrpc_base.specs.Linking.{OnCame, OnNoneCame};
+ghost use Rattle.mrpc_base.specs.Failures.{HasCause};
+ghost use Rattle.mrpc_base.specs.Links.{OnCame, OnNoneCame};
 
 /// The result of a send.
 #[derive(Clone, Copy, PartialEq, Eq)]
@@ -49,7 +49,7 @@ pub trait Link {
     ghost peer_finished: { Self → Self → Type 0 };
 
     /// A count that rises when a send or a receive fails. It saturates at 2^64 - 1.
-    ghost faults: { Self → ℕ };
+    ghost failures: { Self → ℕ };
 
     /// `since first later`: `later` is a later state of the link `first`. Every call preserves it.
     ghost since: { Self → Self → Type 0 };
@@ -69,7 +69,7 @@ pub trait Link {
         ensures same_link { (first : Self) → since first self.old → since first self.new }
         ensures refused { result ≡ Handed.Failed → refused self.old frame.now self.new }
 
-        ensures cause { HasCause (result ≡ Handed.Failed) (faults self.old) (faults self.new) };
+        ensures cause { HasCause (result ≡ Handed.Failed) (failures self.old) (failures self.new) };
 
     /// Whether this many frames can be sent without waiting for room. The default returns true. No clause depends on
     /// the result.
@@ -96,13 +96,13 @@ pub trait Link {
         ensures idle { result ≡ Came.Idle → nothing_ready self.old self.new }
         ensures end { result ≡ Came.End → peer_finished self.old self.new }
 
-        ensures cause { HasCause (result ≡ Came.Failed) (faults self.old) (faults self.new) };
+        ensures cause { HasCause (result ≡ Came.Failed) (failures self.old) (failures self.new) };
 
     /// Closes the sending side. This cannot fail.
     fn finish(&mut self)
         ensures same_handed { handed self.new ≡ handed self.old }
         ensures same_given { given self.new ≡ given self.old }
         ensures same_ended { ended self.new ≡ ended self.old }
-        ensures same_faults { faults self.new ≡ faults self.old }
+        ensures same_faults { failures self.new ≡ failures self.old }
         ensures same_link { (first : Self) → since first self.old → since first self.new };
 }

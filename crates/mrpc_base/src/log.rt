@@ -7,41 +7,41 @@ use std::marker::Model;
 
 // A load or a store of a value at a place.
 #[derive(Clone, Copy)]
-pub(crate) struct Access {
+pub(crate) struct HeapAccess {
     pub place: u64,
     pub value: u64,
 }
 
 // The place and the value of each access, in order.
 #[derive(Drop)]
-pub(crate) struct Accesses {
+pub(crate) struct AccessList {
     pub ghost list: { List (ℕ × ℕ) },
 }
 
-impl Model for Accesses {
+impl Model for AccessList {
     ghost also_owns = { λ _. ftrue };
 }
 
-impl Accesses {
+impl AccessList {
     // The empty list.
-    pub(crate) fn new() -> Accesses
+    pub(crate) fn new() -> AccessList
         ensures { result.list ≡ [] }
     {
-        Accesses {}
+        AccessList {}
     }
 
     // The list with one more access.
-    pub(crate) fn with(_before: &Accesses, _access: &Access) -> Accesses
+    pub(crate) fn with_one_more(_before: &AccessList, _access: &HeapAccess) -> AccessList
         ensures { result.list ≡ _before.now.list ++ (_access.now.place, _access.now.value) ∷ [] }
     {
-        Accesses {}
+        AccessList {}
     }
 }
 
 // The loads, or the stores, so far, with their number.
 #[derive(Drop)]
 pub(crate) struct Log {
-    accesses: Accesses,
+    accesses: AccessList,
     made: u64,
 }
 
@@ -59,7 +59,7 @@ impl Log {
         ensures { result ≡ [] }
     {
         Log {
-            accesses: Accesses::new(),
+            accesses: AccessList::new(),
             made: 0,
         }
     }
@@ -74,7 +74,7 @@ impl Log {
         requires { length self.old < 2 ^ 64 - 1 }
         ensures { self.new ≡ self.old ++ (place, value) ∷ [] }
     {
-        self.accesses = Accesses::with(&self.accesses, &Access { place, value });
+        self.accesses = AccessList::with_one_more(&self.accesses, &HeapAccess { place, value });
         self.made += 1;
     }
 }

@@ -1,18 +1,18 @@
 //! A link in memory, whose sends and receives can be made to fail, and whose receives can be made short.
 
 ghost use Rattle.std.specs.Prelude.{◌≡◌, ◌≢◌, ◌<◌, ◌≤◌, ◌↔◌, ◌⊎◌, [], ◌∷◌, ◌++◌, Contains, IsPermutation, IsTrue, length, map, slice_get, take, drop, true, false};
-ghost use Rattle.mrpc_base.specs.Faults.{HasCause, raised};
-ghost use Rattle.mrpc_base.specs.Linking.{OnCame, OnNoneCame};
-ghost use Rattle.mrpc_base.specs.Reading.{given_count};
+ghost use Rattle.mrpc_base.specs.Failures.{HasCause, raised};
+ghost use Rattle.mrpc_base.specs.Links.{OnCame, OnNoneCame};
+ghost use Rattle.mrpc_base.specs.Sources.{given_count};
 
-use crate::calls::Calls;
+use crate::calls::CallCounter;
 use crate::mem_source::{count_to_give, listed_length};
 use crate::supply::Supply;
 use crate::{Came, Handed, Link};
 use std::alloc::Global;
 use std::marker::Model;
 
-/// A link in memory. Contracts see it as a `Linking`: the frames sent, the bytes received and those remaining. It also
+/// A link in memory. Contracts see it as a `MemLinkState`: the frames sent, the bytes received and those remaining. It also
 /// has the lengths and the numbers of failing sends and receives that the link was made with. Further it has how many
 /// sends and receives there were and failed, and whether either side has finished.
 #[derive(Drop)]
@@ -21,19 +21,19 @@ pub struct MemLink {
     handed: Vec<Vec<u8>>,
     incoming: Supply,
     lengths: Vec<usize>,
-    sends: Calls,
-    receives: Calls,
+    sends: CallCounter,
+    receives: CallCounter,
     // Sends and receives together.
-    faults: u64,
+    failures: u64,
     ended: bool,
     finished: bool,
 }
 
 impl Model for MemLink {
     ghost use Rattle.std.specs.Prelude.{map};
-    ghost use Rattle.mrpc_base.specs.Linking.{Linking};
+    ghost use Rattle.mrpc_base.specs.Links.{MemLinkState};
 
-    ghost Value = { Linking };
+    ghost Value = { MemLinkState };
 
     ghost view = { λ l. record {
       handed = map (λ frame. frame.items) l.handed.items;
@@ -44,7 +44,7 @@ impl Model for MemLink {
       failing_receives = l.receives.failing;
       sends = l.sends.calls;
       receives = l.receives.calls;
-      faults = l.faults;
+      failures = l.failures;
       ended = l.ended;
       finished = l.finished;
     } };
@@ -73,7 +73,7 @@ impl MemLink {
         ensures failing_receives { IsPermutation failing_receives.items result.failing_receives }
         ensures sends { result.sends ≡ 0 }
         ensures receives { result.receives ≡ 0 }
-        ensures faults { result.faults ≡ 0 }
+        ensures failures { result.failures ≡ 0 }
         ensures ended { result.ended ≡ false }
         ensures finished { result.finished ≡ false }
     {
@@ -82,9 +82,9 @@ impl MemLink {
             handed: Vec::new(alloc),
             incoming: Supply::new(incoming),
             lengths,
-            sends: Calls::new(failing_sends),
-            receives: Calls::new(failing_receives),
-            faults: 0,
+            sends: CallCounter::new(failing_sends),
+            receives: CallCounter::new(failing_receives),
+            failures: 0,
             ended: false,
             finished: false,
         }
@@ -105,10 +105,10 @@ impl MemLink {
     }
 
     /// How many sends and receives failed. It saturates at 2^64 - 1.
-    pub fn faults(&self) -> u64
-        ensures { result ≡ self.now.faults }
+    pub fn failures(&self) -> u64
+        ensures { result ≡ self.now.failures }
     {
-        self.faults
+        self.failures
     }
 
     /// Whether a receive has returned `End`.
@@ -126,11 +126,11 @@ impl MemLink {
     }
 
     // Counts a send or a receive that failed.
-    fn fault(&mut self)
-        ensures faults { self.new ≡ record self.old { faults = raised self.old.faults } }
-        ensures never_falls { self.old.faults ≤ self.new.faults }
+    fn count_failure(&mut self)
+        ensures failures { self.new ≡ record self.old { failures = raised self.old.failures } }
+        ensures never_falls { self.old.failures ≤ self.new.failures }
     {
-        self.faults = self.faults.saturating_add(1);
+        self.failures = self.failures.saturating_add(1);
     }
 
     // Keeps a copy of a frame.
@@ -162,7 +162,7 @@ impl Link for MemLink {
 
     ghost peer_finished = { λ old new. old.left ≡ [] };
 
-    ghost faults = { λ l. l.faults };
+    ghost failures = { λ l. l.failures };
 
     // The lists that it was made with don't change.
     ghost since = { λ old new. (new.lengths ≡ old.lengths) × (new.failing_sends ≡ old.failing_sends)
@@ -185,16 +185,16 @@ impl Link for MemLink {
 
         // The counts, and what is unchanged.
         ensures sends { self.new.sends ≡ raised self.old.sends }
-        ensures faults { result ≡ Handed.Failed → self.new.faults ≡ raised self.old.faults }
-        ensures cause { HasCause (result ≡ Handed.Failed) self.old.faults self.new.faults }
+        ensures failures { result ≡ Handed.Failed → self.new.failures ≡ raised self.old.failures }
+        ensures cause { HasCause (result ≡ Handed.Failed) self.old.failures self.new.failures }
         ensures same { self.new ≡ record self.old {
           handed = self.new.handed;
           sends = self.new.sends;
-          faults = self.new.faults;
+          failures = self.new.failures;
         } }
     {
         if self.sends.next() || self.finished {
-            self.fault();
+            self.count_failure();
             return Handed::Failed;
         }
         self.keep(frame)
@@ -225,19 +225,19 @@ impl Link for MemLink {
         ensures ends { result ≡ Came.End → IsTrue self.new.ended }
         ensures same_ended { result ≢ Came.End → self.new.ended ≡ self.old.ended }
         ensures receives { self.new.receives ≡ raised self.old.receives }
-        ensures faults { result ≡ Came.Failed → self.new.faults ≡ raised self.old.faults }
-        ensures cause { HasCause (result ≡ Came.Failed) self.old.faults self.new.faults }
+        ensures failures { result ≡ Came.Failed → self.new.failures ≡ raised self.old.failures }
+        ensures cause { HasCause (result ≡ Came.Failed) self.old.failures self.new.failures }
         ensures same { self.new ≡ record self.old {
           given = self.new.given;
           left = self.new.left;
           receives = self.new.receives;
-          faults = self.new.faults;
+          failures = self.new.failures;
           ended = self.new.ended;
         } }
     {
         let before = self.receives.calls();
         if self.receives.next() {
-            self.fault();
+            self.count_failure();
             return Came::Failed;
         }
         let left = self.incoming.left().len();

@@ -1,32 +1,32 @@
 //! A sink in memory, whose writes can be made to fail.
 
 ghost use Rattle.std.specs.Prelude.{◌≡◌, ◌≢◌, ◌<◌, ◌≤◌, [], ◌++◌, Contains, IsPermutation, length, take};
-ghost use Rattle.mrpc_base.specs.Faults.{HasCause, raised};
-ghost use Rattle.mrpc_base.specs.Writing.{OnTook};
+ghost use Rattle.mrpc_base.specs.Failures.{HasCause, raised};
+ghost use Rattle.mrpc_base.specs.Sinks.{OnTook};
 
-use crate::calls::Calls;
+use crate::calls::CallCounter;
 use crate::{Put, Sink};
 use std::alloc::Global;
 use std::marker::Model;
 
-/// A sink that keeps what is written in memory. Contracts see it as a `Writing`: the bytes written, the numbers of
+/// A sink that keeps what is written in memory. Contracts see it as a `MemSinkState`: the bytes written, the numbers of
 /// failing writes that it was made with, and how many writes there were and failed.
 #[derive(Drop)]
 pub struct MemSink {
     written: Vec<u8>,
-    calls: Calls,
+    calls: CallCounter,
 }
 
 impl Model for MemSink {
-    ghost use Rattle.mrpc_base.specs.Writing.{Writing};
+    ghost use Rattle.mrpc_base.specs.Sinks.{MemSinkState};
 
-    ghost Value = { Writing };
+    ghost Value = { MemSinkState };
 
     ghost view = { λ s. record {
       written = s.written.items;
       failing = s.calls.failing;
       calls = s.calls.calls;
-      faults = s.calls.faults;
+      failures = s.calls.failures;
     } };
 }
 
@@ -37,11 +37,11 @@ impl MemSink {
         // In ascending order, for the binary search.
         ensures failing { IsPermutation failing.items result.failing }
         ensures calls { result.calls ≡ 0 }
-        ensures faults { result.faults ≡ 0 }
+        ensures failures { result.failures ≡ 0 }
     {
         MemSink {
             written: Vec::new(alloc),
-            calls: Calls::new(failing),
+            calls: CallCounter::new(failing),
         }
     }
 
@@ -53,10 +53,10 @@ impl MemSink {
     }
 
     /// How many writes failed. It saturates at 2^64 - 1.
-    pub fn faults(&self) -> u64
-        ensures { result ≡ self.now.faults }
+    pub fn failures(&self) -> u64
+        ensures { result ≡ self.now.failures }
     {
-        self.calls.faults()
+        self.calls.failures()
     }
 
     /// How many writes there were, failed ones included. It saturates at 2^64 - 1.
@@ -72,7 +72,7 @@ impl Sink for MemSink {
 
     ghost written = { λ s. Some s.written };
 
-    ghost faults = { λ s. s.faults };
+    ghost failures = { λ s. s.failures };
 
     fn write(&mut self, piece: &[u8]) -> Put
         requires some { 0 < length piece.now }
@@ -89,11 +89,11 @@ impl Sink for MemSink {
         // The counts, and what is unchanged.
         ensures failing { self.new.failing ≡ self.old.failing }
         ensures calls { self.new.calls ≡ raised self.old.calls }
-        ensures faults { result ≡ Put.Failed → self.new.faults ≡ raised self.old.faults }
-        ensures cause { HasCause (result ≡ Put.Failed) self.old.faults self.new.faults }
+        ensures failures { result ≡ Put.Failed → self.new.failures ≡ raised self.old.failures }
+        ensures cause { HasCause (result ≡ Put.Failed) self.old.failures self.new.failures }
     {
         if self.calls.next() || self.written.extend_from_slice(piece).is_err() {
-            self.calls.fault();
+            self.calls.count_failure();
             return Put::Failed;
         }
         Put::Took(piece.len())

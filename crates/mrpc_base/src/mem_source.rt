@@ -1,35 +1,35 @@
 //! A source in memory, whose reads can be made short or made to fail.
 
 ghost use Rattle.std.specs.Prelude.{◌≡◌, ◌≢◌, ◌<◌, ◌≤◌, ◌↔◌, [], ◌++◌, All, Contains, IsPermutation, length, min, slice_get, take, drop};
-ghost use Rattle.mrpc_base.specs.Faults.{HasCause, raised};
-ghost use Rattle.mrpc_base.specs.Reading.{OnBytes, OnNoBytes, given_count};
+ghost use Rattle.mrpc_base.specs.Failures.{HasCause, raised};
+ghost use Rattle.mrpc_base.specs.Sources.{OnBytes, OnNoBytes, given_count};
 
-use crate::calls::Calls;
+use crate::calls::CallCounter;
 use crate::supply::Supply;
 use crate::{Got, Source};
 use std::marker::Model;
 
-/// A source over bytes in memory. Contracts see it as a `Reading`: the remaining bytes, the lengths and the numbers of
+/// A source over bytes in memory. Contracts see it as a `MemSourceState`: the remaining bytes, the lengths and the numbers of
 /// failing reads that it was made with, and how many reads there were and failed.
 #[derive(Drop)]
 pub struct MemSource {
     supply: Supply,
     lengths: Vec<usize>,
-    calls: Calls,
+    calls: CallCounter,
 }
 
 impl Model for MemSource {
     ghost use Rattle.std.specs.Prelude.{◌<◌, All};
-    ghost use Rattle.mrpc_base.specs.Reading.{Reading};
+    ghost use Rattle.mrpc_base.specs.Sources.{MemSourceState};
 
-    ghost Value = { Reading };
+    ghost Value = { MemSourceState };
 
     ghost view = { λ s. record {
       left = s.supply.left;
       lengths = s.lengths.items;
       failing = s.calls.failing;
       calls = s.calls.calls;
-      faults = s.calls.faults;
+      failures = s.calls.failures;
     } };
 
     ghost invariant = { λ s. All (λ most. 0 < most) s.lengths.items };
@@ -64,12 +64,12 @@ impl MemSource {
         // In ascending order, for the binary search.
         ensures failing { IsPermutation failing.items result.failing }
         ensures calls { result.calls ≡ 0 }
-        ensures faults { result.faults ≡ 0 }
+        ensures failures { result.failures ≡ 0 }
     {
         MemSource {
             supply: Supply::new(bytes),
             lengths,
-            calls: Calls::new(failing),
+            calls: CallCounter::new(failing),
         }
     }
 
@@ -81,10 +81,10 @@ impl MemSource {
     }
 
     /// How many reads failed. It saturates at 2^64 - 1.
-    pub fn faults(&self) -> u64
-        ensures { result ≡ self.now.faults }
+    pub fn failures(&self) -> u64
+        ensures { result ≡ self.now.failures }
     {
-        self.calls.faults()
+        self.calls.failures()
     }
 
     /// How many reads there were, including failed ones and those at the end. It saturates at 2^64 - 1.
@@ -100,7 +100,7 @@ impl Source for MemSource {
 
     ghost left = { λ s. Some s.left };
 
-    ghost faults = { λ s. s.faults };
+    ghost failures = { λ s. s.failures };
 
     fn read(&mut self, buf: &mut [u8]) -> Got
         requires room { 0 < length buf.old }
@@ -122,12 +122,12 @@ impl Source for MemSource {
         ensures lengths { self.new.lengths ≡ self.old.lengths }
         ensures failing { self.new.failing ≡ self.old.failing }
         ensures calls { self.new.calls ≡ raised self.old.calls }
-        ensures faults { result ≡ Got.Failed → self.new.faults ≡ raised self.old.faults }
-        ensures cause { HasCause (result ≡ Got.Failed) self.old.faults self.new.faults }
+        ensures failures { result ≡ Got.Failed → self.new.failures ≡ raised self.old.failures }
+        ensures cause { HasCause (result ≡ Got.Failed) self.old.failures self.new.failures }
     {
         let before = self.calls.calls();
         if self.calls.next() {
-            self.calls.fault();
+            self.calls.count_failure();
             return Got::Failed;
         }
         let left = self.supply.left().len();

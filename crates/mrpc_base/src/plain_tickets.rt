@@ -1,7 +1,7 @@
 //! Quotas that a single holder counts.
 
 ghost use Rattle.std.specs.Prelude.{◌≡◌, ◌≢◌, ◌<◌, ◌≤◌, ◌⊎◌, ◌∷◌, [], ◌++◌, ℕ, IfOk, IfSome, IsSomeAnd};
-ghost use Rattle.mrpc_base.specs.Faults.{raised};
+ghost use Rattle.mrpc_base.specs.Failures.{raised};
 ghost use Rattle.mrpc_base.specs.Quota.{drawn_in, tickets_of};
 ghost use Rattle.mrpc_base.specs.declared.tickets.TheConstants.{WINDOWS};
 

@@ -1,7 +1,7 @@
 //! The words of a heap in memory, with stores that race with its reader's loads.
 
 ghost use Rattle.std.specs.Prelude.{◌≡◌, ◌<◌, ◌≤◌, ◌+◌, ◌^◌, ℕ, [], ◌∷◌, ◌++◌, All, IfOk, IfSome, IsTrue, length};
-ghost use Rattle.mrpc_base.specs.Heap.{word_after, stores_of, races_up_to, races_past, races_with, AfterRoom, AfterLoad};
+ghost use Rattle.mrpc_base.specs.Heap.{word_after, stores_of, races_up_to, races_past, races_with, IsRoomChange, IsLoad};
 
 use crate::log::Log;
 use crate::races::Races;
@@ -35,7 +35,7 @@ pub struct PlainWords {
 impl Model for PlainWords {
     ghost use Rattle.std.specs.Prelude.{◌-◌, length};
     ghost use Rattle.mrpc_base.specs.Heap.{Heap};
-    ghost use Rattle.mrpc_base.specs.Parts.{KeepsRoom};
+    ghost use Rattle.mrpc_base.specs.Parts.{IsCountable};
 
     ghost Value = { Heap };
 
@@ -49,7 +49,7 @@ impl Model for PlainWords {
       store_room = h.store_room;
     } };
 
-    ghost invariant = { λ h. KeepsRoom h.words h.races (length h.loads) h.finished h.load_room h.store_room };
+    ghost invariant = { λ h. IsCountable h.words h.races (length h.loads) h.finished h.load_room h.store_room };
 }
 
 // Whether this many more stores can be counted, in addition to those made and those of the scheduled races.
@@ -198,11 +198,11 @@ impl Words for PlainWords {
 
     ghost room = { λ h. h.load_room };
 
-    ghost use Rattle.mrpc_base.specs.Heap.{AfterRoom, AfterLoad};
+    ghost use Rattle.mrpc_base.specs.Heap.{IsRoomChange, IsLoad};
 
-    ghost after_room = { AfterRoom };
+    ghost after_room = { IsRoomChange };
 
-    ghost after_load = { AfterLoad };
+    ghost after_load = { IsLoad };
 
     fn words(&self) -> u64
         ensures { result ≡ self.now.size }
@@ -222,7 +222,7 @@ impl Words for PlainWords {
         ensures begun { self.new.begun ≡ self.old.begun }
         ensures races { self.new.races ≡ self.old.races }
         ensures store_room { self.new.store_room ≡ self.old.store_room }
-        ensures changes { AfterRoom self.old self.new }
+        ensures changes { IsRoomChange self.old self.new }
     {
         if n <= self.load_room {
             return Room::Made;
@@ -250,7 +250,7 @@ impl Words for PlainWords {
 
         ensures begun { self.new.begun ≡ self.old.begun + 1 }
         ensures store_room { self.new.store_room ≡ self.old.store_room }
-        ensures changes { AfterLoad self.old place result self.new }
+        ensures changes { IsLoad self.old place result self.new }
     {
         let number = self.loads.len() - self.finished + 1;
         make_due(&mut self.words, &mut self.races, number);

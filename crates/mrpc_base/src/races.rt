@@ -10,21 +10,21 @@ use std::collections::BTreeMap;
 use std::marker::Model;
 
 // The place and the value of a store.
-type Store = (u64, u64);
+type RaceStore = (u64, u64);
 
 #[derive(Drop)]
 pub(crate) struct Races {
     // Keyed by the number of the load, then by the number of the listing.
-    waiting: BTreeMap<(u64, u64), Store>,
+    waiting: BTreeMap<(u64, u64), RaceStore>,
     // The number of the next listing.
     listed: u64,
 }
 
 impl Model for Races {
     ghost use Rattle.std.specs.Prelude.{map};
-    ghost use Rattle.mrpc_base.specs.Parts.{Waiting, race_of, AreListedBelow};
+    ghost use Rattle.mrpc_base.specs.Parts.{ScheduledRaces, race_of, AreListedBelow};
 
-    ghost Value = { Waiting };
+    ghost Value = { ScheduledRaces };
 
     ghost view = { λ r. record { races = map race_of r.waiting.entries; listed = r.listed } };
 
@@ -68,7 +68,7 @@ impl Races {
     }
 
     // Removes the first scheduled race, if there is one, and returns its store.
-    pub(crate) fn take_first(&mut self) -> Option<Store>
+    pub(crate) fn take_first(&mut self) -> Option<RaceStore>
         ensures first { IfSome result (IsFirstRace self.old.races self.new.races) }
         ensures none { IfNone result (self.old.races ≡ []) }
         ensures unchanged { IfNone result (self.new.races ≡ []) }
@@ -79,7 +79,7 @@ impl Races {
     }
 
     // Removes the first scheduled race if it is of a load up to `number`, and returns its store.
-    pub(crate) fn take_due(&mut self, number: u64) -> Option<Store>
+    pub(crate) fn take_due(&mut self, number: u64) -> Option<RaceStore>
         ensures first { IfSome result (IsFirstDue number self.old.races self.new.races) }
         ensures none { IfNone result (All (λ race. number < race.load) self.old.races) }
         ensures unchanged { IfNone result (self.new.races ≡ self.old.races) }

@@ -2,8 +2,8 @@
 
 ghost use Rattle.std.specs.Prelude.{◌≡◌, ◌<◌, ◌≤◌, List, ℕ, Option, length, take};
 ghost use Rattle.std.specs.Io.KnownBytes.{Appends, Keeps};
-ghost use Rattle.mrpc_base.specs.Faults.{HasCause};
-ghost use Rattle.mrpc_base.specs.Writing.{OnTook};
+ghost use Rattle.mrpc_base.specs.Failures.{HasCause};
+ghost use Rattle.mrpc_base.specs.Sinks.{OnTook};
 
 /// The result of a write.
 #[derive(Clone, Copy, PartialEq, Eq)]
@@ -20,7 +20,7 @@ pub trait Sink {
     ghost written: { Self → Option (List ℕ) };
 
     /// A count that rises when a write fails. It saturates at 2^64 - 1.
-    ghost faults: { Self → ℕ };
+    ghost failures: { Self → ℕ };
 
     /// Writes a prefix of a piece: as much as the sink takes in one call.
     fn write(&mut self, piece: &[u8]) -> Put
@@ -30,5 +30,5 @@ pub trait Sink {
         ensures appended { OnTook result (λ n. Appends (written self.old) (written self.new) (take n piece.now)) }
         ensures kept { result ≡ Put.Failed → Keeps (written self.old) (written self.new) }
 
-        ensures cause { HasCause (result ≡ Put.Failed) (faults self.old) (faults self.new) };
+        ensures cause { HasCause (result ≡ Put.Failed) (failures self.old) (failures self.new) };
 }

@@ -2,8 +2,8 @@
 
 ghost use Rattle.std.specs.Prelude.{◌≡◌, ◌<◌, ◌≤◌, List, ℕ, Option, length, take};
 ghost use Rattle.std.specs.Io.KnownBytes.{Consumes, IsAtEnd, Keeps};
-ghost use Rattle.mrpc_base.specs.Faults.{HasCause};
-ghost use Rattle.mrpc_base.specs.Reading.{OnBytes, OnNoBytes};
+ghost use Rattle.mrpc_base.specs.Failures.{HasCause};
+ghost use Rattle.mrpc_base.specs.Sources.{OnBytes, OnNoBytes};
 
 /// The result of a read.
 #[derive(Clone, Copy, PartialEq, Eq)]
@@ -22,7 +22,7 @@ pub trait Source {
     ghost left: { Self → Option (List ℕ) };
 
     /// A count that rises when a read fails. It saturates at 2^64 - 1.
-    ghost faults: { Self → ℕ };
+    ghost failures: { Self → ℕ };
 
     /// Reads the next bytes into the start of `buf`. The bytes of `buf` after them are unspecified.
     fn read(&mut self, buf: &mut [u8]) -> Got
@@ -33,5 +33,5 @@ pub trait Source {
         ensures end { result ≡ Got.End → IsAtEnd (left self.old) }
         ensures kept { OnNoBytes result (Keeps (left self.old) (left self.new)) }
 
-        ensures cause { HasCause (result ≡ Got.Failed) (faults self.old) (faults self.new) };
+        ensures cause { HasCause (result ≡ Got.Failed) (failures self.old) (failures self.new) };
 }

@@ -15,13 +15,13 @@ pub(crate) struct StoredWords {
 
 impl Model for StoredWords {
     ghost use Rattle.std.specs.Prelude.{vec_len};
-    ghost use Rattle.mrpc_base.specs.Parts.{Stored, StandsAfter};
+    ghost use Rattle.mrpc_base.specs.Parts.{StoredWordsState, AreWordsAfter};
 
-    ghost Value = { Stored };
+    ghost Value = { StoredWordsState };
 
     ghost view = { λ s. record { size = vec_len s.words; stores = s.stores } };
 
-    ghost invariant = { λ s. StandsAfter s.stores s.words.items };
+    ghost invariant = { λ s. AreWordsAfter s.stores s.words.items };
 }
 
 impl StoredWords {

@@ -13,9 +13,9 @@ pub(crate) struct Supply {
 
 impl Model for Supply {
     ghost use Rattle.std.specs.Prelude.{◌≤◌, drop, length, take};
-    ghost use Rattle.mrpc_base.specs.Supply.{Supplied};
+    ghost use Rattle.mrpc_base.specs.Supply.{SupplyState};
 
-    ghost Value = { Supplied };
+    ghost Value = { SupplyState };
 
     ghost view = { λ s. record { given = take s.given s.bytes.items; left = drop s.given s.bytes.items } };
 

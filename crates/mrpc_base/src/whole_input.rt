@@ -1,14 +1,14 @@
 //! The whole input of a command.
 
 ghost use Rattle.std.specs.Prelude.{◌≡◌, ◌<◌, ◌≤◌, ◌++◌, length, vec_len, IfOk, OnOk};
-ghost use Rattle.mrpc_base.specs.Faults.{HasCause};
-ghost use Rattle.mrpc_base.specs.InputReading.{OnWhole, IsAllOf, ReadsPast};
+ghost use Rattle.mrpc_base.specs.Failures.{HasCause};
+ghost use Rattle.mrpc_base.specs.WholeInput.{OnWhole, IsAllOf, HasReadPast};
 
 use crate::{Got, Source};
 use std::alloc::{AllocError, Global};
 
 /// The most bytes that an input may have.
-pub const INPUT_LIMIT: usize = 16_777_216;
+pub const MAX_INPUT: usize = 16_777_216;
 
 // The most bytes that one read asks for.
 const PIECE: usize = 65_536;
@@ -19,10 +19,10 @@ pub const CHUNK: usize = 2_048;
 
 /// The result of reading an input.
 #[derive(Drop)]
-pub enum Input {
+pub enum InputResult {
     /// The input was read to its end; these are its bytes.
     Whole(Vec<u8>),
-    /// The input has more than `INPUT_LIMIT` bytes; one byte past the limit was read.
+    /// The input has more than `MAX_INPUT` bytes; one byte past the limit was read.
     TooLong,
     /// The source failed.
     Failed,
@@ -31,14 +31,14 @@ pub enum Input {
 }
 
 /// Reads an input to its end, or one byte past its limit.
-pub fn read_input<S: Source>(alloc: Global, input: &mut S) -> Input
-    ensures whole { OnWhole result (λ text. (length text ≤ INPUT_LIMIT) × IsAllOf (S.left input.old) text) }
-    ensures too_long { result ≡ Input.TooLong → ReadsPast INPUT_LIMIT (S.left input.old) (S.left input.new) }
-    ensures cause { HasCause (result ≡ Input.Failed) (S.faults input.old) (S.faults input.new) }
+pub fn read_input<S: Source>(alloc: Global, input: &mut S) -> InputResult
+    ensures whole { OnWhole result (λ text. (length text ≤ MAX_INPUT) × IsAllOf (S.left input.old) text) }
+    ensures too_long { result ≡ InputResult.TooLong → HasReadPast MAX_INPUT (S.left input.old) (S.left input.new) }
+    ensures cause { HasCause (result ≡ InputResult.Failed) (S.failures input.old) (S.failures input.new) }
 {
     match buffer(alloc, PIECE) {
         Ok(mut piece) => read_pieces(alloc, input, &mut piece),
-        Err(_) => Input::Memory,
+        Err(_) => InputResult::Memory,
     }
 }
 
@@ -61,24 +61,24 @@ fn append(text: &mut Vec<u8>, bytes: &[u8]) -> Result<(), AllocError>
 }
 
 // Like `read_input`, with reads of at most the buffer's length.
-fn read_pieces<S: Source>(alloc: Global, input: &mut S, piece: &mut [u8]) -> Input
+fn read_pieces<S: Source>(alloc: Global, input: &mut S, piece: &mut [u8]) -> InputResult
     requires { 0 < length piece.old }
-    ensures whole { OnWhole result (λ text. (length text ≤ INPUT_LIMIT) × IsAllOf (S.left input.old) text) }
-    ensures too_long { result ≡ Input.TooLong → ReadsPast INPUT_LIMIT (S.left input.old) (S.left input.new) }
-    ensures cause { HasCause (result ≡ Input.Failed) (S.faults input.old) (S.faults input.new) }
+    ensures whole { OnWhole result (λ text. (length text ≤ MAX_INPUT) × IsAllOf (S.left input.old) text) }
+    ensures too_long { result ≡ InputResult.TooLong → HasReadPast MAX_INPUT (S.left input.old) (S.left input.new) }
+    ensures cause { HasCause (result ≡ InputResult.Failed) (S.failures input.old) (S.failures input.new) }
 {
     let mut text: Vec<u8> = Vec::new(alloc);
-    while text.len() <= INPUT_LIMIT {
-        let room = piece.len().min(INPUT_LIMIT + 1 - text.len());
+    while text.len() <= MAX_INPUT {
+        let room = piece.len().min(MAX_INPUT + 1 - text.len());
         match input.read(&mut piece[..room]) {
             Got::Bytes(count) => {
                 if append(&mut text, &piece[..count]).is_err() {
-                    return Input::Memory;
+                    return InputResult::Memory;
                 }
             }
-            Got::End => return Input::Whole(text),
-            Got::Failed => return Input::Failed,
+            Got::End => return InputResult::Whole(text),
+            Got::Failed => return InputResult::Failed,
         }
     }
-    Input::TooLong
+    InputResult::TooLong
 }

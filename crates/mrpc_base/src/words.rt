@@ -1,7 +1,7 @@
 //! The words of a heap, as its reader uses them.
 
 ghost use Rattle.std.specs.Prelude.{◌≡◌, ◌<◌, ◌≤◌, ◌+◌, List, [], ◌∷◌, ◌++◌, ℕ, Option, IfSome};
-ghost use Rattle.mrpc_base.specs.Heap.{Extends, word_after};
+ghost use Rattle.mrpc_base.specs.Heap.{IsExtendedTo, word_after};
 
 /// The result of making room.
 #[derive(Clone, Copy, PartialEq, Eq)]
@@ -57,7 +57,7 @@ pub trait Words {
         ensures size { size self.new ≡ size self.old }
 
         // Others may store before the load, and the word reflects all the stores before it.
-        ensures grows { Extends (stores self.old) (stores self.new) }
+        ensures grows { IsExtendedTo (stores self.old) (stores self.new) }
         ensures last { IfSome (stores self.new) (λ all. result ≡ word_after all place) }
         ensures changes { after_load self.old place result self.new };
 }

@@ -2,8 +2,8 @@
 
 ghost use Rattle.std.specs.Prelude.{◌≡◌, ◌<◌, ◌≤◌, ℕ, length, take, IsTrue, true, false};
 ghost use Rattle.std.specs.Io.KnownBytes.{Appends};
-ghost use Rattle.mrpc_base.specs.Faults.{HasCause};
-ghost use Rattle.mrpc_base.specs.Writing.{AppendsFront};
+ghost use Rattle.mrpc_base.specs.Failures.{HasCause};
+ghost use Rattle.mrpc_base.specs.Sinks.{HasAppendedPrefix};
 
 use crate::{Put, Sink};
 
@@ -11,9 +11,9 @@ use crate::{Put, Sink};
 /// input makes no write. If a write fails, the sink has taken a proper prefix of the bytes, as far as it reveals them.
 pub fn write_all<K: Sink>(out: &mut K, bytes: &[u8]) -> bool
     ensures done { IsTrue result → Appends (K.written out.old) (K.written out.new) bytes.now }
-    ensures front { result ≡ false → AppendsFront (K.written out.old) (K.written out.new) bytes.now }
+    ensures front { result ≡ false → HasAppendedPrefix (K.written out.old) (K.written out.new) bytes.now }
     ensures untouched { length bytes.now ≡ 0 → out.new ≡ out.old }
-    ensures cause { HasCause (result ≡ false) (K.faults out.old) (K.faults out.new) }
+    ensures cause { HasCause (result ≡ false) (K.failures out.old) (K.failures out.new) }
 {
     let mut done = 0;
     while done < bytes.len() {

@@ -8,7 +8,7 @@
 
 use crate::given::{count_of, table_of};
 use crate::lines::line_of;
-use bench_apps::{Found, MAX_CALLS, call};
+use bench_apps::{MAX_CALLS, TakenCalls, call};
 use mrpc_table::Bytes;
 use std::alloc::Global;
 use std::sync::Wait;
@@ -18,16 +18,16 @@ use std::thread::Threads;
 const TABLE: &[u8] = b"message M\nfield 1 plain uint64 n\nmethod 0 S Get M M\n";
 
 // Has as many calls echoed as the words ask for, and returns what to print.
-pub(crate) fn told<R>(rt: &R, alloc: Global, words: &[String]) -> Option<Bytes>
+pub(crate) fn output<R>(rt: &R, alloc: Global, words: &[String]) -> Option<Bytes>
 where
     R: Threads + Wait + Sync,
 {
-    let Found { calls, numbers } = echoed(rt, alloc, count_of(words)?)?;
+    let TakenCalls { calls, numbers } = echoed(rt, alloc, count_of(words)?)?;
     line_of(alloc, &[calls, numbers])
 }
 
 // The results of this number of calls; `None` if it runs out of memory or the count is out of range.
-fn echoed<R: Threads + Wait + Sync>(rt: &R, alloc: Global, count: u32) -> Option<Found> {
+fn echoed<R: Threads + Wait + Sync>(rt: &R, alloc: Global, count: u32) -> Option<TakenCalls> {
     if count > MAX_CALLS {
         return None;
     }

@@ -40,14 +40,14 @@ struct Task {
 
 // The counts at the end.
 #[derive(Clone, Copy)]
-struct Done {
+struct TaskCounts {
     happenings: usize,
     frames: usize,
 }
 
 // Does what the words ask for, and returns what to print.
-pub(crate) fn told(alloc: Global, words: &[String]) -> Option<Bytes> {
-    let Done { happenings, frames } = carry_out(alloc, asked(words)?)?;
+pub(crate) fn output(alloc: Global, words: &[String]) -> Option<Bytes> {
+    let TaskCounts { happenings, frames } = carry_out(alloc, asked(words)?)?;
     line_of(alloc, &[happenings as u64, frames as u64])
 }
 
@@ -74,17 +74,17 @@ fn asked(words: &[String]) -> Option<Task> {
 }
 
 // The result of a task; `None` if it runs out of memory or a number overflows.
-fn carry_out(alloc: Global, task: Task) -> Option<Done> {
+fn carry_out(alloc: Global, task: Task) -> Option<TaskCounts> {
     let table = table_of(alloc, TABLE)?;
     carry_out_on(alloc, &table, task)
 }
 
-fn carry_out_on(alloc: Global, table: &Table, task: Task) -> Option<Done>
+fn carry_out_on(alloc: Global, table: &Table, task: Task) -> Option<TaskCounts>
     requires { IsValid table.now }
 {
     let mut work = Work::open(alloc, table)?;
     do_all(&mut work, task)?;
-    Some(Done {
+    Some(TaskCounts {
         happenings: work.happenings(),
         frames: work.frames(),
     })

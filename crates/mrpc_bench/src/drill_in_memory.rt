@@ -16,7 +16,7 @@ use drill::{MAX_CALLS, drill_plan};
 use mem_fabric::MemFabric;
 use mrpc_base::{Fabric, OpenGate};
 use mrpc_table::Bytes;
-use run_driver::{Counted, count_plan};
+use run_driver::{RunCounts, count_plan};
 use run_plan::Plan;
 use std::alloc::Global;
 use std::sync::Wait;
@@ -25,7 +25,7 @@ use std::time::Clock;
 use system_io::SystemClock;
 
 // Runs a drill in which each client submits this number of calls, and returns a line of its counts.
-pub(crate) fn told<R>(rt: &R, alloc: Global, words: &[String]) -> Option<Bytes>
+pub(crate) fn output<R>(rt: &R, alloc: Global, words: &[String]) -> Option<Bytes>
 where
     R: Threads + Wait + Sync + Clock,
 {
@@ -59,7 +59,7 @@ where
     line_if_whole(alloc, &counted)
 }
 
-fn line_if_whole(alloc: Global, counted: &Counted) -> Option<Bytes> {
+fn line_if_whole(alloc: Global, counted: &RunCounts) -> Option<Bytes> {
     if counted.failed {
         return None;
     }

@@ -21,7 +21,7 @@ const CAPACITY: u64 = 64;
 
 // Forwards as many frames as the words ask for, and returns what to print. Skips each frame for which it runs
 // out of memory.
-pub(crate) fn told<R>(rt: &R, alloc: Global, words: &[String]) -> Option<Bytes>
+pub(crate) fn output<R>(rt: &R, alloc: Global, words: &[String]) -> Option<Bytes>
 where
     R: Threads + Wait + Sync,
 {

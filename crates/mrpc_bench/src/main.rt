@@ -38,7 +38,7 @@ use std::{env, io};
 
 fn main(rt: HostRuntime) -> io::Result<ExitCode> {
     let words = words_of(&rt)?;
-    let told = told_by(&rt, rt.alloc(), &words, &mut rt.stdin());
+    let told = part_output(&rt, rt.alloc(), &words, &mut rt.stdin());
     discard(words);
     print(&mut rt.stdout(), told)
 }
@@ -65,7 +65,7 @@ fn print<W: Write>(out: &mut W, told: Option<Vec<Bytes>>) -> io::Result<ExitCode
 
 // The parts.
 #[derive(Clone, Copy)]
-enum Part {
+enum BenchPart {
     Apps,
     Conn,
     Drill,
@@ -76,19 +76,24 @@ enum Part {
     Upgrade,
 }
 
-const PARTS: [(&str, Part); 8] = [
-    ("apps", Part::Apps),
-    ("conn", Part::Conn),
-    ("drill", Part::Drill),
-    ("links", Part::Links),
-    ("ring", Part::Ring),
-    ("scenario", Part::Scenario),
-    ("serve", Part::Serve),
-    ("upgrade", Part::Upgrade),
+const PARTS: [(&str, BenchPart); 8] = [
+    ("apps", BenchPart::Apps),
+    ("conn", BenchPart::Conn),
+    ("drill", BenchPart::Drill),
+    ("links", BenchPart::Links),
+    ("ring", BenchPart::Ring),
+    ("scenario", BenchPart::Scenario),
+    ("serve", BenchPart::Serve),
+    ("upgrade", BenchPart::Upgrade),
 ];
 
 // The texts that the part named by the words prints, in order; `None` if the words name no part.
-fn told_by<R, I: Read>(rt: &R, alloc: Global, words: &[String], input: &mut I) -> Option<Vec<Bytes>>
+fn part_output<R, I: Read>(
+    rt: &R,
+    alloc: Global,
+    words: &[String],
+    input: &mut I,
+) -> Option<Vec<Bytes>>
 where
     R: Threads + Wait + Sync + Clock,
 {
@@ -96,14 +101,14 @@ where
         return None;
     };
     match named(&PARTS, part.as_str())? {
-        Part::Apps => alone(alloc, apps::told(rt, alloc, behind)),
-        Part::Conn => alone(alloc, conn::told(alloc, behind)),
-        Part::Drill => alone(alloc, drill_in_memory::told(rt, alloc, behind)),
-        Part::Links => alone(alloc, links::told(rt, alloc, behind)),
-        Part::Ring => alone(alloc, ring::told(rt, alloc, behind)),
-        Part::Scenario => alone(alloc, scenarios::told(alloc, behind, input)),
-        Part::Serve => serve::told(rt, alloc, behind, input),
-        Part::Upgrade => alone(alloc, upgrade::told(rt, alloc, behind)),
+        BenchPart::Apps => alone(alloc, apps::output(rt, alloc, behind)),
+        BenchPart::Conn => alone(alloc, conn::output(alloc, behind)),
+        BenchPart::Drill => alone(alloc, drill_in_memory::output(rt, alloc, behind)),
+        BenchPart::Links => alone(alloc, links::output(rt, alloc, behind)),
+        BenchPart::Ring => alone(alloc, ring::output(rt, alloc, behind)),
+        BenchPart::Scenario => alone(alloc, scenarios::output(alloc, behind, input)),
+        BenchPart::Serve => serve::output(rt, alloc, behind, input),
+        BenchPart::Upgrade => alone(alloc, upgrade::output(rt, alloc, behind)),
     }
 }
 

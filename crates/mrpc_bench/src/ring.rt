@@ -11,7 +11,7 @@ mod passing;
 use crate::given::{count_of, table_of};
 use crate::lines::line_of;
 use mrpc_table::Bytes;
-use passing::{Passed, pass};
+use passing::{RingResults, pass};
 use std::alloc::Global;
 use std::sync::Wait;
 use std::thread::Threads;
@@ -20,16 +20,16 @@ use std::thread::Threads;
 const TABLE: &[u8] = b"message M\nfield 1 plain uint64 n\nmethod 0 S Get M M\n";
 
 // Sends as many descriptors as the words ask for, and returns what to print.
-pub(crate) fn told<R>(rt: &R, alloc: Global, words: &[String]) -> Option<Bytes>
+pub(crate) fn output<R>(rt: &R, alloc: Global, words: &[String]) -> Option<Bytes>
 where
     R: Threads + Wait + Sync,
 {
-    let Passed { copied, sum, .. } = passed(rt, alloc, count_of(words)?)?;
+    let RingResults { copied, sum, .. } = passed(rt, alloc, count_of(words)?)?;
     line_of(alloc, &[copied, sum])
 }
 
 // The results at the ring's other end; `None` if it runs out of memory or the count is out of range.
-fn passed<R: Threads + Wait + Sync>(rt: &R, alloc: Global, count: u32) -> Option<Passed> {
+fn passed<R: Threads + Wait + Sync>(rt: &R, alloc: Global, count: u32) -> Option<RingResults> {
     if count > 4294967293 {
         return None;
     }

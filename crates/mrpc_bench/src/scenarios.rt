@@ -19,26 +19,26 @@ use toml::{Table, table_from_slice};
 
 // How a text is read.
 #[derive(Clone, Copy)]
-enum Form {
+enum TextForm {
     Plan,
     Toml,
 }
 
 // Counts the lines of the programs of an input, and returns what to print.
-pub(crate) fn told<I: Read>(alloc: Global, words: &[String], input: &mut I) -> Option<Bytes> {
+pub(crate) fn output<I: Read>(alloc: Global, words: &[String], input: &mut I) -> Option<Bytes> {
     let form = named(&FORMS, words.first()?.as_str())?;
     let text = text_of(alloc, input)?;
     let lines = lines_of(alloc, form, text.as_slice())?;
     line_of(alloc, &[lines as u64])
 }
 
-const FORMS: [(&str, Form); 2] = [("plan", Form::Plan), ("toml", Form::Toml)];
+const FORMS: [(&str, TextForm); 2] = [("plan", TextForm::Plan), ("toml", TextForm::Toml)];
 
 // The number of lines of the programs of a text; `None` if the text isn't of the form.
-fn lines_of(alloc: Global, form: Form, text: &[u8]) -> Option<usize> {
+fn lines_of(alloc: Global, form: TextForm, text: &[u8]) -> Option<usize> {
     match form {
-        Form::Plan => lines_of_plan(alloc, text),
-        Form::Toml => lines_of_table(alloc, text),
+        TextForm::Plan => lines_of_plan(alloc, text),
+        TextForm::Toml => lines_of_table(alloc, text),
     }
 }
 

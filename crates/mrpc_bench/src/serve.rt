@@ -11,10 +11,10 @@ ghost use Rattle.run_plan.specs.Plans.{IsPlan};
 
 use crate::discard;
 use crate::given::text_of;
-use mem_fabric::{ListedFaults, MemFabric};
+use mem_fabric::{InjectedFailures, MemFabric};
 use mrpc_base::{Fabric, OpenGate};
 use mrpc_table::Bytes;
-use run_driver::{Run, serve_plan};
+use run_driver::{RunReport, serve_plan};
 use run_plan::Plan;
 use scenario_reader::read_scenario;
 use std::alloc::Global;
@@ -25,7 +25,7 @@ use std::time::Clock;
 use system_io::SystemClock;
 
 // Runs the scenario of an input, and returns the parts of its report.
-pub(crate) fn told<R, I: Read>(
+pub(crate) fn output<R, I: Read>(
     rt: &R,
     alloc: Global,
     words: &[String],
@@ -72,11 +72,11 @@ where
 {
     let clock = SystemClock::new(rt);
     let run = serve_plan(rt, alloc, plan, &mut fabric, &clock, &OpenGate).ok()?;
-    told_of(run)
+    report_parts(run)
 }
 
-fn told_of(run: Run) -> Option<Vec<Bytes>> {
-    let Run {
+fn report_parts(run: RunReport) -> Option<Vec<Bytes>> {
+    let RunReport {
         parts,
         totals: _totals,
         failed,
@@ -85,8 +85,8 @@ fn told_of(run: Run) -> Option<Vec<Bytes>> {
 }
 
 // The list under which no call of the fabric and of its links fails.
-pub(crate) fn no_faults(alloc: Global) -> ListedFaults {
-    ListedFaults {
+pub(crate) fn no_faults(alloc: Global) -> InjectedFailures {
+    InjectedFailures {
         openings: Vec::new(alloc),
         sends: Vec::new(alloc),
         receives: Vec::new(alloc),

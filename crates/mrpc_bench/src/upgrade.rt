@@ -27,7 +27,7 @@ use std::time::{Clock, Instant};
 const CALLS: u64 = 64;
 
 // Upgrades a policy as often as the words ask for, and returns the line of the times.
-pub(crate) fn told<R: Clock>(rt: &R, alloc: Global, words: &[String]) -> Option<Bytes> {
+pub(crate) fn output<R: Clock>(rt: &R, alloc: Global, words: &[String]) -> Option<Bytes> {
     let upgrades = count_of(words)?;
     let table = table_of(alloc, TABLE)?;
     let times = times(rt, alloc, &table, upgrades)?;

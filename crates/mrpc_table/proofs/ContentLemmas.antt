@@ -5,12 +5,12 @@ use Rattle.std.proofs.lemmas.Bool.{eq-eqb, cases_lt}
 use Rattle.std.specs.Ordering.{nat_cmp, ordering_index}
 use Rattle.std.specs.List.Sorted.{IsNonDecreasingBy, IsPartitionPoint}
 use Rattle.std.specs.declared.cmp.Ordering.TheVariants.{Less, Equal, Greater}
-use Rattle.mrpc_table.specs.Node.{content_at, NumbersAscend}
+use Rattle.mrpc_table.specs.Node.{content_at, AreNumbersAscending}
 use Rattle.mrpc_table.specs.View.{node_of, content_of}
 use Rattle.mrpc_table.specs.Weight.{weight, content_weight}
 use Rattle.mrpc_table.specs.declared.tree.FieldValue.{FieldValue}
 
-numbers_above : (fs : List (ℕ × FieldValue)) (last : ℕ) → NumbersAscend last (node_of fs) → (k : ℕ) (d : ℕ × FieldValue) → k < length fs → last < (get_or fs k d).0
+numbers_above : (fs : List (ℕ × FieldValue)) (last : ℕ) → AreNumbersAscending last (node_of fs) → (k : ℕ) (d : ℕ × FieldValue) → k < length fs → last < (get_or fs k d).0
 numbers_above [] last up k d within = absurd (omega arith)
 numbers_above (f ∷ fs) last up zero d within = up.0
 numbers_above (f ∷ fs) last up (suc k) d within = omega (arith, up.0, numbers_above fs f.0 up.1 k d (omega arith))
@@ -20,7 +20,7 @@ read_again [] i d within = absurd (omega arith)
 read_again (f ∷ fs) zero d within = refl
 read_again (f ∷ fs) (suc i) d within = read_again fs i d (omega arith)
 
-found : (fs : List (ℕ × FieldValue)) (last n i : ℕ) (f : ℕ × FieldValue) → NumbersAscend last (node_of fs)
+found : (fs : List (ℕ × FieldValue)) (last n i : ℕ) (f : ℕ × FieldValue) → AreNumbersAscending last (node_of fs)
     → i < length fs → f ≡ get_or fs i f → f.0 ≡ n → content_at (node_of fs) n ≡ Some (content_of f.1)
 found [] last n i f up within at is = absurd (omega arith)
 found (g ∷ gs) last n zero f up within at is =
@@ -31,7 +31,7 @@ found (g ∷ gs) last n (suc i) f up within at is =
     let ne : (g.0 == n) ≡ false = grind arith in
     rw ne (found gs g.0 n i f up.1 (omega arith) at is)
 
-pub found-at : (fs : List (ℕ × FieldValue)) (n i : ℕ) (d : ℕ × FieldValue) → NumbersAscend 0 (node_of fs)
+pub found-at : (fs : List (ℕ × FieldValue)) (n i : ℕ) (d : ℕ × FieldValue) → AreNumbersAscending 0 (node_of fs)
     → i < length fs → (get_or fs i d).0 ≡ n → content_at (node_of fs) n ≡ Some (content_of (get_or fs i d).1)
 found-at fs n i d up within is = found fs 0 n i (get_or fs i d) up within (read_again fs i d within) is
 
@@ -42,7 +42,7 @@ not_found (g ∷ gs) n none =
     let ne : (g.0 == n) ≡ false = grind arith in
     rw ne (not_found gs n (λ k d within. none (suc k) d (omega arith)))
 
-numbers_rise : (fs : List (ℕ × FieldValue)) (last : ℕ) → NumbersAscend last (node_of fs)
+numbers_rise : (fs : List (ℕ × FieldValue)) (last : ℕ) → AreNumbersAscending last (node_of fs)
     → (i j : ℕ) (d : ℕ × FieldValue) → i ≤ j → j < length fs → (get_or fs i d).0 ≤ (get_or fs j d).0
 numbers_rise [] last up i j d le within = absurd (omega arith)
 numbers_rise (f ∷ fs) last up zero zero d le within = omega arith
@@ -53,7 +53,7 @@ numbers_rise (f ∷ fs) last up (suc i) (suc j) d le within = numbers_rise fs f.
 index_rises : (a b n : ℕ) → a ≤ b → ordering_index (nat_cmp a n) ≤ ordering_index (nat_cmp b n)
 index_rises a b n le = grind arith
 
-orders_rise : (fs : List (ℕ × FieldValue)) (last n : ℕ) → NumbersAscend last (node_of fs) → IsNonDecreasingBy (λ (f : ℕ × FieldValue). ordering_index (nat_cmp f.0 n)) fs
+orders_rise : (fs : List (ℕ × FieldValue)) (last n : ℕ) → AreNumbersAscending last (node_of fs) → IsNonDecreasingBy (λ (f : ℕ × FieldValue). ordering_index (nat_cmp f.0 n)) fs
 orders_rise fs last n up i j d le within = index_rises (get_or fs i d).0 (get_or fs j d).0 n (numbers_rise fs last up i j d le within)
 
 differs_less : (a b : ℕ) → nat_cmp a b ≡ Less → a ≢ b
@@ -65,7 +65,7 @@ differs_greater a b e same = grind arith
 pub equal_is : (a b : ℕ) → nat_cmp a b ≡ Equal → a ≡ b
 equal_is a b e = grind arith
 
-pub missed : (fs : List (ℕ × FieldValue)) (last n i : ℕ) → NumbersAscend last (node_of fs)
+pub missed : (fs : List (ℕ × FieldValue)) (last n i : ℕ) → AreNumbersAscending last (node_of fs)
     → (IsNonDecreasingBy (λ (f : ℕ × FieldValue). ordering_index (nat_cmp f.0 n)) fs
     → IsPartitionPoint (λ (f : ℕ × FieldValue). nat_cmp f.0 n ≡ Less) (λ (f : ℕ × FieldValue). nat_cmp f.0 n
     ≡ Greater) fs i)

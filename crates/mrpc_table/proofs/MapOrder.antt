@@ -7,7 +7,7 @@ use Rattle.std.specs.declared.cmp.Ordering.TheVariants.{Less, Equal, Greater}
 use Rattle.std.proofs.lemmas.Cmp.{nat_list_cmp_total, ranked}
 use Rattle.mrpc_table.specs.Node.{Item, number, run, node, Pairs, no_pairs, pair}
 use Rattle.mrpc_table.specs.Words.{rank, is_numeric, IsWordForm}
-use Rattle.mrpc_table.specs.Normal.{IsRun, IsBefore, AscendFrom, KeysAscend, IsItem, ArePairs, item_depth, pairs_depth}
+use Rattle.mrpc_table.specs.Normal.{IsRun, IsBefore, AreKeysAscendingFrom, AreKeysAscending, IsItem, ArePairs, item_depth, pairs_depth}
 use Rattle.mrpc_table.specs.declared.table.Kind.{Kind}
 use Rattle.mrpc_table.specs.declared.table.Kind.TheVariants.{Text, Octets, Message as OfMessage}
 use Rattle.mrpc_table.specs.declared.table.Table.{Table}
@@ -69,19 +69,19 @@ put-depth key room i j (pair l w ps) a b h =
     (λ e. omega (arith, a, b, h)) h (λ e. omega (arith, h, put-depth key room i j ps a b (omega (arith, h))))
 
 put-ascend_from : (T : Table) (key k : Kind) (last i j : Item) (ps : Pairs) → IsNoMessage key → IsItem T key i
-    → ArePairs T key k ps → IsBefore key last i → AscendFrom key last ps → AscendFrom key last (with_pair key i j ps)
+    → ArePairs T key k ps → IsBefore key last i → AreKeysAscendingFrom key last ps → AreKeysAscendingFrom key last (with_pair key i j ps)
 put-ascend_from T key k last i j no_pairs plain a h before up = (before, tt)
 put-ascend_from T key k last i j (pair l w ps) plain a h before up =
-    put-go (AscendFrom key last) i j l w ps (with_pair key i j ps) (key_cmp key i l)
+    put-go (AreKeysAscendingFrom key last) i j l w ps (with_pair key i j ps) (key_cmp key i l)
     (λ e. (before, (key-before T key i l plain a h.0 e, up.1)))
     up
     (λ e. (up.0, put-ascend_from T key k l i j ps plain a h.2 (key-before T key l i plain h.0 a (key-flip key i l e)) up.1))
 
 put-ascend : (T : Table) (key k : Kind) (i j : Item) (ps : Pairs) → IsNoMessage key → IsItem T key i
-    → ArePairs T key k ps → KeysAscend key ps → KeysAscend key (with_pair key i j ps)
+    → ArePairs T key k ps → AreKeysAscending key ps → AreKeysAscending key (with_pair key i j ps)
 put-ascend T key k i j no_pairs plain a h up = tt
 put-ascend T key k i j (pair l w ps) plain a h up =
-    put-go (KeysAscend key) i j l w ps (with_pair key i j ps) (key_cmp key i l)
+    put-go (AreKeysAscending key) i j l w ps (with_pair key i j ps) (key_cmp key i l)
     (λ e. (key-before T key i l plain a h.0 e, up))
     up
     (λ e. put-ascend_from T key k l i j ps plain a h.2 (key-before T key l i plain h.0 a (key-flip key i l e)) up)
@@ -94,7 +94,7 @@ pub last-kinds : (T : Table) (key k : Kind) (es : List (Item × Item)) → AreOf
 last-kinds T key k [] h = tt
 last-kinds T key k (e ∷ es) h = put-pairs T key k e.0 e.1 (last_of_each key es) h.0.0 h.0.1 (last-kinds T key k es h.1)
 
-pub last-ascend : (T : Table) (key k : Kind) (es : List (Item × Item)) → IsNoMessage key → AreOfKinds T key k es → KeysAscend key (last_of_each key es)
+pub last-ascend : (T : Table) (key k : Kind) (es : List (Item × Item)) → IsNoMessage key → AreOfKinds T key k es → AreKeysAscending key (last_of_each key es)
 last-ascend T key k [] plain h = tt
 last-ascend T key k (e ∷ es) plain h = put-ascend T key k e.0 e.1 (last_of_each key es) plain h.0.0 (last-kinds T key k es h.1) (last-ascend T key k es plain h.1)
 

@@ -6,12 +6,12 @@ use Rattle.mrpc_table.specs.View.{item_of, pairs_of}
 use Rattle.mrpc_table.specs.declared.tree.Value.{Value}
 use Rattle.mrpc_table.specs.declared.table.Kind.{Kind}
 use Rattle.mrpc_table.specs.MapEntries.{key_cmp, with_pair, last_of_each}
-use Rattle.mrpc_table.specs.SortedEntries.{items_of_entry, entry_cmp, KeysRise}
+use Rattle.mrpc_table.specs.SortedEntries.{items_of_entry, entry_cmp, AreEntriesAscending}
 
 put-less : (key : Kind) (k v l w : Item) (ps : Pairs) → key_cmp key k l ≡ Less → with_pair key k v (pair l w ps) ≡ pair k v (pair l w ps)
 put-less key k v l w ps h = ap (λ r. elim r [ Less ↦ pair k v (pair l w ps) | Equal ↦ pair l w ps | Greater ↦ pair l w (with_pair key k v ps) ]) h
 
-pub rise-kept : (k : Kind) (es : List (Value × Value)) → KeysRise k es → pairs_of es ≡ last_of_each k (map items_of_entry es)
+pub rise-kept : (k : Kind) (es : List (Value × Value)) → AreEntriesAscending k es → pairs_of es ≡ last_of_each k (map items_of_entry es)
 rise-kept k [] h = refl
 rise-kept k (e ∷ []) h = refl
 rise-kept k (e ∷ f ∷ fs) h =
@@ -22,7 +22,7 @@ rise-kept k (e ∷ f ∷ fs) h =
 abbrev pub RiseBelow : Kind → List (Value × Value) → ℕ → Type 0
 RiseBelow k es n = (i j : ℕ) (d : Value × Value) → j ≡ suc i → j < n → entry_cmp k (get_or es i d) (get_or es j d) ≡ Less
 
-pub rise-all : (k : Kind) (es : List (Value × Value)) → RiseBelow k es (length es) → KeysRise k es
+pub rise-all : (k : Kind) (es : List (Value × Value)) → RiseBelow k es (length es) → AreEntriesAscending k es
 rise-all k [] h = tt
 rise-all k (e ∷ []) h = tt
 rise-all k (e ∷ f ∷ fs) h =

@@ -8,7 +8,7 @@ use Rattle.mrpc_table.specs.declared.words.Decimal.{Decimal}
 use Rattle.mrpc_table.specs.declared.words.Decimal.TheVariants.{Small, Large}
 use Rattle.mrpc_table.specs.PathWords.{path_of}
 use Rattle.mrpc_table.specs.PathFields.{path_in}
-use Rattle.mrpc_table.specs.PathTrees.{content_behind}
+use Rattle.mrpc_table.specs.PathTrees.{content_at_path}
 use Rattle.mrpc_table.specs.declared.path.Path.{Path}
 use Rattle.mrpc_table.specs.declared.path.PathWord.{PathWord}
 
@@ -98,20 +98,20 @@ above_64_bits = refl
 abbrev with_1 : ℕ → Node
 with_1 n = field 1 (one (number n)) no_fields
 
-at_the_end : content_behind (with_1 5) (to []) ≡ Some (one (number 5))
+at_the_end : content_at_path (with_1 5) (to []) ≡ Some (one (number 5))
 at_the_end = refl
 
-behind_messages : content_behind (field 2 (one (node (field 3 (one (node (with_1 5))) no_fields))) no_fields) (to (2 ∷ 3 ∷ [])) ≡ Some (one (number 5))
+behind_messages : content_at_path (field 2 (one (node (field 3 (one (node (with_1 5))) no_fields))) no_fields) (to (2 ∷ 3 ∷ [])) ≡ Some (one (number 5))
 behind_messages = refl
 
-behind_an_empty_message : content_behind (field 2 (one (node no_fields)) no_fields) (to (2 ∷ [])) ≡ None
+behind_an_empty_message : content_at_path (field 2 (one (node no_fields)) no_fields) (to (2 ∷ [])) ≡ None
 behind_an_empty_message = refl
 
-behind_no_message : content_behind (with_1 5) (to (2 ∷ [])) ≡ None
+behind_no_message : content_at_path (with_1 5) (to (2 ∷ [])) ≡ None
 behind_no_message = refl
 
-behind_a_number : content_behind (with_1 5) (to (1 ∷ [])) ≡ None
+behind_a_number : content_at_path (with_1 5) (to (1 ∷ [])) ≡ None
 behind_a_number = refl
 
-behind_a_list : content_behind (field 4 (many (item (node (with_1 5)) no_items)) no_fields) (to (4 ∷ [])) ≡ None
+behind_a_list : content_at_path (field 4 (many (item (node (with_1 5)) no_items)) no_fields) (to (4 ∷ [])) ≡ None
 behind_a_list = refl

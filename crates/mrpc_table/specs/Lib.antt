@@ -2,8 +2,8 @@ pub mod Ascending
 pub mod Calls
 pub mod Capped
 pub mod FirstFault
-pub mod Falls
-pub mod Fits
+pub mod Descent
+pub mod NormalParts
 pub mod Lines
 pub mod MapEntries
 pub mod Names

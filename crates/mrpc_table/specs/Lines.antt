@@ -14,8 +14,8 @@ pieces_of text = slice_split (λ c. c == 10) text
 abbrev pub whole_lines : List ℕ → List (List ℕ)
 whole_lines text = take (length (pieces_of text) - 1) (pieces_of text)
 
-abbrev pub rest_of : List ℕ → List ℕ
-rest_of text = unwrap_or (slice_get (pieces_of text) (length (pieces_of text) - 1)) []
+abbrev pub remainder_of : List ℕ → List ℕ
+remainder_of text = unwrap_or (slice_get (pieces_of text) (length (pieces_of text) - 1)) []
 
 -- how many line feeds a text has
 abbrev pub line_count : List ℕ → ℕ
@@ -48,5 +48,5 @@ abbrev pub IsIn : (least most n : ℕ) → Type 0
 IsIn least most n = (least ≤ n) × (n ≤ most)
 
 -- words, each after a space
-abbrev pub behind_spaces : List (List ℕ) → List ℕ
-behind_spaces words = flat_map (λ w. 32 ∷ w) words
+abbrev pub after_spaces : List (List ℕ) → List ℕ
+after_spaces words = flat_map (λ w. 32 ∷ w) words

@@ -30,9 +30,9 @@ content_at no_fields n = None
 content_at (field m c t) n = if m == n then Some c else content_at t n
 
 -- the numbers of a message's fields ascend, from above `last`
-abbrev pub NumbersAscend : ℕ → Node → Type 0
-NumbersAscend last no_fields = Unit {0}
-NumbersAscend last (field n c t) = (last < n) × NumbersAscend n t
+abbrev pub AreNumbersAscending : ℕ → Node → Type 0
+AreNumbersAscending last no_fields = Unit {0}
+AreNumbersAscending last (field n c t) = (last < n) × AreNumbersAscending n t
 
 -- the fields with one more at the end
 abbrev pub push_field : Node → ℕ → Content → Node

@@ -44,13 +44,13 @@ IsBefore k (run a) (run b) = slice_cmp nat_cmp a b ≡ Less
 IsBefore k _ _ = ⊥
 
 -- the keys ascend, and no two are equal
-abbrev pub AscendFrom : Kind → Item → Pairs → Type 0
-AscendFrom k last no_pairs = Unit {0}
-AscendFrom k last (pair key value ps) = IsBefore k last key × AscendFrom k key ps
+abbrev pub AreKeysAscendingFrom : Kind → Item → Pairs → Type 0
+AreKeysAscendingFrom k last no_pairs = Unit {0}
+AreKeysAscendingFrom k last (pair key value ps) = IsBefore k last key × AreKeysAscendingFrom k key ps
 
-abbrev pub KeysAscend : Kind → Pairs → Type 0
-KeysAscend k no_pairs = Unit {0}
-KeysAscend k (pair key value ps) = AscendFrom k key ps
+abbrev pub AreKeysAscending : Kind → Pairs → Type 0
+AreKeysAscending k no_pairs = Unit {0}
+AreKeysAscending k (pair key value ps) = AreKeysAscendingFrom k key ps
 
 -- 1 for the label of a member of the oneof at an index, else 0
 abbrev pub membership : Label → ℕ → ℕ
@@ -62,21 +62,21 @@ abbrev pub members_in : List Field → ℕ → Node → ℕ
 members_in fs o no_fields = 0
 members_in fs o (field n c t) = unwrap_or (option_map (λ f. membership f.label o) (field_at fs n)) 0 + members_in fs o t
 
-abbrev pub OneMemberEach : List Field → Node → Type 0
-OneMemberEach fs t = (o : ℕ) → members_in fs o t ≤ 1
+abbrev pub HasOneMemberEach : List Field → Node → Type 0
+HasOneMemberEach fs t = (o : ℕ) → members_in fs o t ≤ 1
 
 -- a field with this label may have the one value; under implicit presence it isn't the default
-abbrev pub TakesOne : Label → Item → Type 0
-TakesOne Plain i = IsDefault i → ⊥
-TakesOne Optional i = Unit {0}
-TakesOne (Member o) i = Unit {0}
-TakesOne _ i = ⊥
+abbrev pub CanHaveOne : Label → Item → Type 0
+CanHaveOne Plain i = IsDefault i → ⊥
+CanHaveOne Optional i = Unit {0}
+CanHaveOne (Member o) i = Unit {0}
+CanHaveOne _ i = ⊥
 
 -- a field with this label may have a list of elements
-abbrev pub TakesMany : Label → Type 0
-TakesMany Repeated = Unit {0}
-TakesMany Packed = Unit {0}
-TakesMany _ = ⊥
+abbrev pub CanHaveMany : Label → Type 0
+CanHaveMany Repeated = Unit {0}
+CanHaveMany Packed = Unit {0}
+CanHaveMany _ = ⊥
 
 -- the code's own: a string is UTF-8, and bytes are any bytes
 abbrev pub IsRun : Kind → List ℕ → Type 0
@@ -92,17 +92,17 @@ abbrev mutual
 
   -- the field with a number may have the content
   pub HasContent : Table → List Field → ℕ → Content → Type 0
-  HasContent T fs n (one i) = (f : Field) × (field_at fs n ≡ Some f) × TakesOne f.label i × IsItem T f.kind i
-  HasContent T fs n (many is) = (f : Field) × (field_at fs n ≡ Some f) × TakesMany f.label × (is ≢ no_items)
+  HasContent T fs n (one i) = (f : Field) × (field_at fs n ≡ Some f) × CanHaveOne f.label i × IsItem T f.kind i
+  HasContent T fs n (many is) = (f : Field) × (field_at fs n ≡ Some f) × CanHaveMany f.label × (is ≢ no_items)
       × AreItems T f.kind is
   HasContent T fs n (pairs ps) = (f : Field) × (key : Kind) × (field_at fs n ≡ Some f) × (f.label ≡ Map key)
-      × (ps ≢ no_pairs) × ArePairs T key f.kind ps × KeysAscend key ps
+      × (ps ≢ no_pairs) × ArePairs T key f.kind ps × AreKeysAscending key ps
 
   -- a value of the kind
   pub IsItem : Table → Kind → Item → Type 0
   IsItem T k (number n) = IsWordForm k n
   IsItem T k (run bytes) = IsRun k bytes
-  IsItem T k (node t) = (i : ℕ) × (k ≡ OfMessage i) × HasFields T (fields_of T i) 0 t × OneMemberEach (fields_of T i) t
+  IsItem T k (node t) = (i : ℕ) × (k ≡ OfMessage i) × HasFields T (fields_of T i) 0 t × HasOneMemberEach (fields_of T i) t
 
   pub AreItems : Table → Kind → Items → Type 0
   AreItems T k no_items = Unit {0}
@@ -139,5 +139,5 @@ abbrev mutual
 -- a tree in normal form of the message at an index of the table
 pub record IsNormal (T : Table) (msg : ℕ) (t : Node) : Type 0 where
   pub fields : HasFields T (fields_of T msg) 0 t
-  pub oneofs : OneMemberEach (fields_of T msg) t
+  pub oneofs : HasOneMemberEach (fields_of T msg) t
   pub depth : depth t ≤ MAX_DEPTH

@@ -40,8 +40,8 @@ way_in T msg [] = Some ([], msg)
 way_in T msg (n ∷ ns) = option_and_then (λ s. option_map (λ w. (s.0 ∷ w.0, w.1)) (way_in T s.1 ns)) (step_in T msg n)
 
 -- the path that a line spells, in a message
-abbrev pub path_to : List ℕ → Field → Path
-path_to way f = record { way = way; number = f.number; kind = f.kind; label = f.label }
+abbrev pub path_of_field : List ℕ → Field → Path
+path_of_field way f = record { way = way; number = f.number; kind = f.kind; label = f.label }
 
 abbrev pub path_in : Table → ℕ → PathWord → Option Path
-path_in T msg p = option_and_then (λ w. option_map (path_to w.0) (field_numbered T w.1 p.last)) (way_in T msg p.way)
+path_in T msg p = option_and_then (λ w. option_map (path_of_field w.0) (field_numbered T w.1 p.last)) (way_in T msg p.way)

@@ -17,27 +17,27 @@ abbrev pub message_under : Node → ℕ → Option Node
 message_under t n = option_and_then message_in (option_and_then item_in (content_at t n))
 
 -- the message at the end of a path; none if one along the path is unset
-abbrev pub message_behind : Node → List ℕ → Option Node
-message_behind t [] = Some t
-message_behind t (n ∷ way) = option_and_then (λ m. message_behind m way) (message_under t n)
+abbrev pub message_at_path : Node → List ℕ → Option Node
+message_at_path t [] = Some t
+message_at_path t (n ∷ way) = option_and_then (λ m. message_at_path m way) (message_under t n)
 
 -- the content of the tree at the end of a path
-abbrev pub content_behind : Node → Path → Option Content
-content_behind t path = option_and_then (λ m. content_at m path.number) (message_behind t path.way)
+abbrev pub content_at_path : Node → Path → Option Content
+content_at_path t path = option_and_then (λ m. content_at m path.number) (message_at_path t path.way)
 
 -- the numbers of a message's fields ascend, and so do those of each message in it that is the one value of its field
 abbrev mutual
-  pub AscendsFrom : ℕ → Node → Type 0
-  AscendsFrom last no_fields = Unit {0}
-  AscendsFrom last (field n c t) = (last < n) × HoldsAscending c × AscendsFrom n t
+  pub IsTreeAscendingFrom : ℕ → Node → Type 0
+  IsTreeAscendingFrom last no_fields = Unit {0}
+  IsTreeAscendingFrom last (field n c t) = (last < n) × IsAscendingContent c × IsTreeAscendingFrom n t
 
-  pub HoldsAscending : Content → Type 0
-  HoldsAscending (one i) = IsAscendingItem i
-  HoldsAscending _ = Unit {0}
+  pub IsAscendingContent : Content → Type 0
+  IsAscendingContent (one i) = IsAscendingItem i
+  IsAscendingContent _ = Unit {0}
 
   pub IsAscendingItem : Item → Type 0
-  IsAscendingItem (node t) = AscendsFrom 0 t
+  IsAscendingItem (node t) = IsTreeAscendingFrom 0 t
   IsAscendingItem _ = Unit {0}
 
-abbrev pub IsAscending : Node → Type 0
-IsAscending t = AscendsFrom 0 t
+abbrev pub IsAscendingTree : Node → Type 0
+IsAscendingTree t = IsTreeAscendingFrom 0 t

@@ -11,17 +11,17 @@ abbrev pub decimal_of : List ℕ → Option Decimal
 decimal_of word = option_map in_64_bits (number_of word)
 
 -- the path of one number
-abbrev pub ends_path : Decimal → PathWord
-ends_path n = record { way = []; last = n }
+abbrev pub path_of_number : Decimal → PathWord
+path_of_number n = record { way = []; last = n }
 
-abbrev pub begins_path : Decimal → PathWord → PathWord
-begins_path n p = record { way = n ∷ p.way; last = p.last }
+abbrev pub path_with_first : Decimal → PathWord → PathWord
+path_with_first n p = record { way = n ∷ p.way; last = p.last }
 
 abbrev pub path_of_parts : List (List ℕ) → Option PathWord
 path_of_parts [] = None
-path_of_parts (part ∷ []) = option_map ends_path (decimal_of part)
+path_of_parts (part ∷ []) = option_map path_of_number (decimal_of part)
 path_of_parts (part ∷ other ∷ parts) =
-    option_and_then (λ n. option_map (begins_path n) (path_of_parts (other ∷ parts))) (decimal_of part)
+    option_and_then (λ n. option_map (path_with_first n) (path_of_parts (other ∷ parts))) (decimal_of part)
 
 abbrev pub path_of : List ℕ → Option PathWord
 path_of word =

@@ -15,22 +15,22 @@ index_of (Small n) = if nat_lt n (2 ^ 16) then Some n else None
 index_of Large = None
 
 -- the order of the reasons: if a line has several, the first counts
-abbrev pub order_of : RuleReason → ℕ
-order_of Word = 0
-order_of Number = 1
-order_of Name = 2
-order_of Known = 3
-order_of Path = 4
-order_of Default = 5
+abbrev pub rule_reason_rank : RuleReason → ℕ
+rule_reason_rank Word = 0
+rule_reason_rank Number = 1
+rule_reason_rank Name = 2
+rule_reason_rank Known = 3
+rule_reason_rank Path = 4
+rule_reason_rank Default = 5
 
 -- a fault names the first line at fault with its first reason, by the reasons of each line; `Memory` can come with any
 -- lines
 abbrev pub IsFaultOf : (ℕ → RuleReason → Type 0) → RuleFault → Type 0
-IsFaultOf IsAgainst (fault.At line reason) = IsFirstFault IsAgainst order_of line reason
+IsFaultOf IsAgainst (fault.At line reason) = IsFirstFault IsAgainst rule_reason_rank line reason
 IsFaultOf IsAgainst fault.Memory = Unit {0}
 
 -- each line means the item at its index
-abbrev pub SayEach : {X : Type 0} → (List ℕ → Option X) → List (List ℕ) → List X → Type 0
-SayEach said [] [] = Unit {0}
-SayEach said (line ∷ lines) (x ∷ xs) = (said line ≡ Some x) × SayEach said lines xs
-SayEach said _ _ = ⊥
+abbrev pub AreParsed : {X : Type 0} → (List ℕ → Option X) → List (List ℕ) → List X → Type 0
+AreParsed said [] [] = Unit {0}
+AreParsed said (line ∷ lines) (x ∷ xs) = (said line ≡ Some x) × AreParsed said lines xs
+AreParsed said _ _ = ⊥

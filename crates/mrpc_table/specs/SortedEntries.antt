@@ -15,12 +15,12 @@ abbrev pub items_of_entry : Value × Value → Item × Item
 items_of_entry e = (item_of e.0, item_of e.1)
 
 -- the code's own: the list by which entries are ordered, that of their key
-abbrev pub code : Kind → Value × Value → List ℕ
-code k e = key_code k (item_of e.0)
+abbrev pub entry_code : Kind → Value × Value → List ℕ
+entry_code k e = key_code k (item_of e.0)
 
 -- the code's own: how the keys of two entries compare
 abbrev pub entry_cmp : Kind → Value × Value → Value × Value → Ordering
-entry_cmp k e f = slice_cmp nat_cmp (code k e) (code k f)
+entry_cmp k e f = slice_cmp nat_cmp (entry_code k e) (entry_code k f)
 
 -- the code's own: no key is below an earlier one
 abbrev pub AreSorted : Kind → List (Value × Value) → Type 0
@@ -36,7 +36,7 @@ pub data IsEntryAdded (k : Kind) (old : List (Value × Value)) (e : Value × Val
       → new ≡ old ++ e ∷ [] → IsEntryAdded k old e new
 
 -- the code's own: each key is above the previous one
-abbrev pub KeysRise : Kind → List (Value × Value) → Type 0
-KeysRise k [] = Unit {0}
-KeysRise k (e ∷ []) = Unit {0}
-KeysRise k (e ∷ f ∷ fs) = (entry_cmp k e f ≡ Less) × KeysRise k (f ∷ fs)
+abbrev pub AreEntriesAscending : Kind → List (Value × Value) → Type 0
+AreEntriesAscending k [] = Unit {0}
+AreEntriesAscending k (e ∷ []) = Unit {0}
+AreEntriesAscending k (e ∷ f ∷ fs) = (entry_cmp k e f ≡ Less) × AreEntriesAscending k (f ∷ fs)

@@ -19,10 +19,10 @@ use Rattle.mrpc_table.specs.declared.table.Method.{Method}
 use Rattle.mrpc_table.specs.declared.table.Table.{Table}
 
 -- each element is in the relation to the next
-abbrev pub Ascends : {X : Type 0} → (X → X → Type 0) → List X → Type 0
-Ascends R [] = Unit {0}
-Ascends R (x ∷ []) = Unit {0}
-Ascends R (x ∷ y ∷ xs) = R x y × Ascends R (y ∷ xs)
+abbrev pub IsAscendingBy : {X : Type 0} → (X → X → Type 0) → List X → Type 0
+IsAscendingBy R [] = Unit {0}
+IsAscendingBy R (x ∷ []) = Unit {0}
+IsAscendingBy R (x ∷ y ∷ xs) = R x y × IsAscendingBy R (y ∷ xs)
 
 -- no element occurs twice
 abbrev pub AreDistinct : {X : Type 0} → List X → Type 0
@@ -54,39 +54,39 @@ IsMessageKind (OfMessage i) = Unit {0}
 IsMessageKind _ = ⊥
 
 -- the labels that a field of a kind may have, in a message with this many oneofs
-abbrev pub GoesWith : ℕ → Label → Kind → Type 0
-GoesWith oneofs Plain k = Unit {0}
-GoesWith oneofs Optional k = IsMessageKind k → ⊥
-GoesWith oneofs Repeated k = Unit {0}
-GoesWith oneofs Packed k = IsTrue (is_numeric k)
-GoesWith oneofs (Map key) k = IsTrue (is_key key)
-GoesWith oneofs (Member o) k = o < oneofs
+abbrev pub IsLabelFor : ℕ → Label → Kind → Type 0
+IsLabelFor oneofs Plain k = Unit {0}
+IsLabelFor oneofs Optional k = IsMessageKind k → ⊥
+IsLabelFor oneofs Repeated k = Unit {0}
+IsLabelFor oneofs Packed k = IsTrue (is_numeric k)
+IsLabelFor oneofs (Map key) k = IsTrue (is_key key)
+IsLabelFor oneofs (Member o) k = o < oneofs
 
 pub record IsField (T : Table) (oneofs : ℕ) (f : Field) : Type 0 where
   pub number : IsFieldNumber f.number
   pub name : IsName f.name
-  pub label : GoesWith oneofs f.label f.kind
+  pub label : IsLabelFor oneofs f.label f.kind
   pub kind : IsKnown T f.kind
 
 -- oneofs are in the order of their least member numbers: by ascending number, a member belongs to an earlier oneof, or
 -- to the next one
-abbrev pub Joins : ℕ → Label → Type 0 → Type 0 → Type 0
-Joins met (Member o) same next = ((o < met) × same) ⊎ ((o ≡ met) × next)
-Joins met _ same next = same
+abbrev pub IsNextOneof : ℕ → Label → Type 0 → Type 0 → Type 0
+IsNextOneof met (Member o) same next = ((o < met) × same) ⊎ ((o ≡ met) × next)
+IsNextOneof met _ same next = same
 
-abbrev pub OneofsFollow : ℕ → ℕ → List Field → Type 0
-OneofsFollow met all [] = met ≡ all
-OneofsFollow met all (f ∷ fs) = Joins met f.label (OneofsFollow met all fs) (OneofsFollow (met + 1) all fs)
+abbrev pub AreOneofsInOrder : ℕ → ℕ → List Field → Type 0
+AreOneofsInOrder met all [] = met ≡ all
+AreOneofsInOrder met all (f ∷ fs) = IsNextOneof met f.label (AreOneofsInOrder met all fs) (AreOneofsInOrder (met + 1) all fs)
 
 pub record IsMessage (T : Table) (m : Message) : Type 0 where
   pub name : IsFullName m.name
   pub few : length m.fields ≤ MAX_FIELDS
   pub fields : All (IsField T (length m.oneofs)) m.fields
-  pub ascend : Ascends (λ f g. f.number < g.number) m.fields
+  pub ascend : IsAscendingBy (λ f g. f.number < g.number) m.fields
   pub names : AreDistinct (map (λ f. f.name) m.fields)
   pub oneofs : All IsName m.oneofs
   pub oneof_names : AreDistinct m.oneofs
-  pub oneof_order : OneofsFollow 0 (length m.oneofs) m.fields
+  pub oneof_order : AreOneofsInOrder 0 (length m.oneofs) m.fields
 
 -- by ascending number, then name
 abbrev pub IsValueBelow : ℤ × List ℕ → ℤ × List ℕ → Type 0
@@ -97,7 +97,7 @@ pub record IsEnum (e : Choices) : Type 0 where
   pub few : length e.values ≤ MAX_VALUES
   pub numbers : All (λ v. FitsSigned w32 v.0) e.values
   pub each_name : All (λ v. IsName v.1) e.values
-  pub ascend : Ascends IsValueBelow e.values
+  pub ascend : IsAscendingBy IsValueBelow e.values
   pub names : AreDistinct (map (λ v. v.1) e.values)
   pub zero : Contains (map (λ v. v.0) e.values) (pos 0)
 
@@ -112,14 +112,14 @@ pub record IsValid (T : Table) : Type 0 where
   pub few_enums : length T.enums ≤ MAX_ENUMS
   pub few_methods : length T.methods ≤ MAX_METHODS
   pub enums : All IsEnum T.enums
-  pub enums_ascend : Ascends (λ e f. IsBelow e.name f.name) T.enums
+  pub enums_ascend : IsAscendingBy (λ e f. IsBelow e.name f.name) T.enums
   pub messages : All (IsMessage T) T.messages
-  pub messages_ascend : Ascends (λ m n. IsBelow m.name n.name) T.messages
+  pub messages_ascend : IsAscendingBy (λ m n. IsBelow m.name n.name) T.messages
   pub types : AreDistinct (map (λ e. e.name) T.enums ++ map (λ m. m.name) T.messages)
   pub methods : All (IsMethod T) T.methods
   pub method_names : AreDistinct {X = List ℕ × List ℕ} (map (λ m. (m.service, m.name)) T.methods)
   pub short : length (table_text T) ≤ MAX_TEXT
 
 -- valid tables of one text are equal
-abbrev pub HaveOneTextEach : Type 0
-HaveOneTextEach = (T U : Table) → IsValid T → IsValid U → table_text T ≡ table_text U → T ≡ U
+abbrev pub HasUniqueTexts : Type 0
+HasUniqueTexts = (T U : Table) → IsValid T → IsValid U → table_text T ≡ table_text U → T ≡ U

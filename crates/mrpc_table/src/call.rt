@@ -1,28 +1,28 @@
 //! Calls: requests and replies, with their messages.
 
 ghost use Rattle.std.specs.Prelude.{◌≡◌};
-ghost use Rattle.mrpc_table.specs.Calls.{sort_of, is_of_sort};
+ghost use Rattle.mrpc_table.specs.Calls.{call_kind_of, is_of_call_kind};
 
 use crate::tree::Tree;
 
 /// Which of the two messages of a method a call carries.
 #[derive(Clone, Copy, PartialEq, Eq)]
-pub enum Sort {
+pub enum CallKind {
     /// The arguments: a message of the method's input type.
     Request,
     /// The result: a message of the method's output type.
     Reply,
 }
 
-impl Sort {
+impl CallKind {
     /// The kind of a call by its number: a request has the number 0, and a reply has that of the request it answers.
-    pub fn of_number(number: u32) -> Sort
-        ensures { result ≡ sort_of number }
+    pub fn of_number(number: u32) -> CallKind
+        ensures { result ≡ call_kind_of number }
     {
         if number == 0 {
-            Sort::Request
+            CallKind::Request
         } else {
-            Sort::Reply
+            CallKind::Reply
         }
     }
 }
@@ -44,9 +44,9 @@ pub struct Call {
 
 impl Call {
     /// Whether the call is of a kind.
-    pub fn is_of(&self, sort: Sort) -> bool
-        ensures { result ≡ is_of_sort sort self.now.number }
+    pub fn is_of(&self, sort: CallKind) -> bool
+        ensures { result ≡ is_of_call_kind sort self.now.number }
     {
-        Sort::of_number(self.number) == sort
+        CallKind::of_number(self.number) == sort
     }
 }

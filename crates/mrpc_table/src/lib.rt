@@ -5,9 +5,9 @@
 //! crate depends on no crate of the project. The layers above use one contract: `IsValid` defines the valid tables,
 //! `table_text` their canonical text, and `IsNormal` the trees of a message.
 //!
-//! It also has what the layers above share. [`Call`] is a request or a reply with its message, and [`Sort`] is which of
+//! It also has what the layers above share. [`Call`] is a request or a reply with its message, and [`CallKind`] is which of
 //! the two (`specs/Calls.antt`). A [`Path`] leads to a field of a message: field numbers joined by dots, each but the
-//! last being a message ([`PathWord::read`], [`PathWord::resolve`], [`message_behind`]; `specs/PathWords.antt`,
+//! last being a message ([`PathWord::read`], [`PathWord::resolve`], [`message_at_path`]; `specs/PathWords.antt`,
 //! `PathFields.antt`, `PathTrees.antt`). [`Lines`] are the lines of a policy, and a [`RuleFault`] is why they are no
 //! policy (`specs/PolicyLines.antt`, over `FirstFault.antt`). All texts of the project share one vocabulary of lines
 //! and words (`specs/Lines.antt`). The entries of a map may come in any order and with equal keys. [`last_of_each`]
@@ -36,7 +36,7 @@ mod table;
 mod tree;
 mod words;
 
-pub use call::{Call, Sort};
+pub use call::{Call, CallKind};
 pub use digits::{decimal_of, digit_value, number_capped};
 pub use field_number::is_field_number;
 pub use field_search::find_field;
@@ -50,7 +50,7 @@ pub use map_laws::kept_entries_are_normal;
 pub use memory::Memory;
 pub use normal::fits;
 pub use path::{Path, PathWord};
-pub use path_find::message_behind;
+pub use path_find::message_at_path;
 pub use path_laws::{normal_ascends, numbers_ascend};
 pub use policy_lines::{Lines, RuleFault, RuleReason};
 pub use sequence::{Bytes, Name, Sequence};
@@ -60,6 +60,6 @@ pub use table::{
 };
 pub use tree::{Entries, FieldValue, Numbered, Tree, Value, Values, find_content};
 pub use words::{
-    Decimal, cut, is_full_form, is_full_name, is_name, is_name_byte, is_name_form, is_name_start,
-    is_short, is_short_full, is_word, line_count, number_of,
+    Decimal, is_full_form, is_full_name, is_name, is_name_byte, is_name_form, is_name_start,
+    is_short, is_short_full, is_word, line_count, number_of, split_once,
 };

@@ -7,7 +7,7 @@ ghost use Rattle.std.specs.Prelude.{◌≡◌, [], ◌∷◌, ◌++◌, if◌the
 ghost use Rattle.std.specs.Ordering.{is_eq};
 ghost use Rattle.mrpc_table.specs.View.{item_of, pairs_of};
 ghost use Rattle.mrpc_table.specs.MapEntries.{last_of_each, key_cmp};
-ghost use Rattle.mrpc_table.specs.SortedEntries.{AreSorted, KeysRise, IsEntryAdded, items_of_entry};
+ghost use Rattle.mrpc_table.specs.SortedEntries.{AreSorted, AreEntriesAscending, IsEntryAdded, items_of_entry};
 
 use crate::{Entries, Kind, Memory, Value};
 use std::alloc::Global;
@@ -29,7 +29,7 @@ pub fn last_of_each(alloc: Global, entries: Entries, key: Kind) -> Result<Entrie
 
 // Whether each key is above the previous one.
 fn ascends(entries: &Entries, key: Kind) -> bool
-    ensures { IsTrue result → KeysRise key entries.now.items }
+    ensures { IsTrue result → AreEntriesAscending key entries.now.items }
 {
     for place in 1..entries.len() {
         if !compare(key, &entries[place - 1].0, &entries[place].0).is_lt() {

@@ -5,10 +5,10 @@ ghost use Rattle.std.specs.Option.{option_copied};
 ghost use Rattle.mrpc_table.specs.declared.table.Kind.{Kind};
 ghost use Rattle.mrpc_table.specs.declared.table.Label.TheVariants.{Map};
 ghost use Rattle.mrpc_table.specs.Words.{rank};
-ghost use Rattle.mrpc_table.specs.Normal.{IsNormal, IsRun, IsBefore, KeysAscend, TakesOne, TakesMany};
+ghost use Rattle.mrpc_table.specs.Normal.{IsNormal, IsRun, IsBefore, AreKeysAscending, CanHaveOne, CanHaveMany};
 ghost use Rattle.mrpc_table.specs.Valid.{IsValid, IsMessage, IsKnown};
 ghost use Rattle.mrpc_table.specs.View.{item_of, items_of, pairs_of, content_of};
-ghost use Rattle.mrpc_table.specs.Fits.{FitsWithin, RestFits, ContentFits, ItemFits, ItemsFit, PairsFit, is_free, taken_after, IsPlaced};
+ghost use Rattle.mrpc_table.specs.NormalParts.{IsNormalWithin, IsNormalSuffix, IsContentWithin, IsItemWithin, AreItemsWithin, ArePairsWithin, is_free, taken_after, IsOneofWithin};
 
 use crate::limits::{MAX_DEPTH, MAX_FIELDS};
 use crate::table::{Field, Kind, Label, Message, Table};
@@ -31,7 +31,7 @@ pub fn fits(tree: &Tree, table: &Table, msg: u32) -> bool
 fn tree_fits(tree: &Tree, table: &Table, msg: u32, room: u32) -> bool
     requires valid { IsValid table.now }
     requires known { msg < length table.now.messages }
-    ensures { IsTrue result ↔ FitsWithin table.now msg room tree.now }
+    ensures { IsTrue result ↔ IsNormalWithin table.now msg room tree.now }
 {
     if room == 0 {
         return false;
@@ -48,7 +48,7 @@ fn fields_fit(tree: &Tree, message: &Message, taken: &mut [bool], table: &Table,
     requires message { IsMessage table.now message.now }
     requires places { length taken.old ≡ 128 }
     requires room { 0 < room }
-    ensures { IsTrue result ↔ RestFits table.now message.now.fields room 0 taken.old tree.now }
+    ensures { IsTrue result ↔ IsNormalSuffix table.now message.now.fields room 0 taken.old tree.now }
 {
     let mut last = 0;
     for (number, content) in &tree.fields {
@@ -71,14 +71,14 @@ fn content_fits(content: &FieldValue, field: &Field, table: &Table, room: u32) -
     requires valid { IsValid table.now }
     requires kind { IsKnown table.now field.now.kind }
     requires key { (k : Kind) → field.now.label ≡ Map k → IsKnown table.now k }
-    ensures { IsTrue result ↔ ContentFits table.now field.now room (content_of content.now) }
+    ensures { IsTrue result ↔ IsContentWithin table.now field.now room (content_of content.now) }
 {
     match content {
         FieldValue::One(value) => {
-            takes_one(field.label, value) && item_fits(value, field.kind, table, room)
+            can_have_one(field.label, value) && item_fits(value, field.kind, table, room)
         }
         FieldValue::Many(values) => {
-            if !takes_many(field.label) {
+            if !can_have_many(field.label) {
                 return false;
             }
             !values.is_empty() && items_fit(values, field.kind, table, room)
@@ -99,7 +99,7 @@ fn content_fits(content: &FieldValue, field: &Field, table: &Table, room: u32) -
 fn items_fit(values: &[Value], kind: Kind, table: &Table, room: u32) -> bool
     requires valid { IsValid table.now }
     requires kind { IsKnown table.now kind }
-    ensures { IsTrue result ↔ ItemsFit table.now kind room (items_of values.now) }
+    ensures { IsTrue result ↔ AreItemsWithin table.now kind room (items_of values.now) }
 {
     for value in values {
         if !item_fits(value, kind, table, room) {
@@ -114,7 +114,7 @@ fn pairs_fit(entries: &[(Value, Value)], key: Kind, kind: Kind, table: &Table, r
     requires valid { IsValid table.now }
     requires key { IsKnown table.now key }
     requires kind { IsKnown table.now kind }
-    ensures { IsTrue result ↔ PairsFit table.now key kind room (pairs_of entries.now) }
+    ensures { IsTrue result ↔ ArePairsWithin table.now key kind room (pairs_of entries.now) }
 {
     for entry in entries {
         if !item_fits(&entry.0, key, table, room) || !item_fits(&entry.1, kind, table, room) {
@@ -128,7 +128,7 @@ fn pairs_fit(entries: &[(Value, Value)], key: Kind, kind: Kind, table: &Table, r
 fn item_fits(value: &Value, kind: Kind, table: &Table, room: u32) -> bool
     requires valid { IsValid table.now }
     requires kind { IsKnown table.now kind }
-    ensures { IsTrue result ↔ ItemFits table.now kind room (item_of value.now) }
+    ensures { IsTrue result ↔ IsItemWithin table.now kind room (item_of value.now) }
 {
     match value {
         Value::Number(word) => kind.is_word_form(*word),
@@ -142,7 +142,7 @@ fn item_fits(value: &Value, kind: Kind, table: &Table, room: u32) -> bool
 
 // Marks the oneof of a label as having a member, and returns whether it had none before.
 fn take_member(taken: &mut [bool], label: Label) -> bool
-    requires { IsPlaced (length taken.old) label }
+    requires { IsOneofWithin (length taken.old) label }
     ensures free { result ≡ is_free taken.old label }
     ensures after { taken.new ≡ taken_after taken.old label }
 {
@@ -193,7 +193,7 @@ fn is_before(kind: Kind, first: &Value, second: &Value) -> bool
 }
 
 fn keys_ascend(kind: Kind, entries: &[(Value, Value)]) -> bool
-    ensures { IsTrue result ↔ KeysAscend kind (pairs_of entries.now) }
+    ensures { IsTrue result ↔ AreKeysAscending kind (pairs_of entries.now) }
 {
     for i in 1..entries.len() {
         if !is_before(kind, &entries[i - 1].0, &entries[i].0) {
@@ -203,8 +203,8 @@ fn keys_ascend(kind: Kind, entries: &[(Value, Value)]) -> bool
     true
 }
 
-fn takes_one(label: Label, value: &Value) -> bool
-    ensures { IsTrue result ↔ TakesOne label (item_of value.now) }
+fn can_have_one(label: Label, value: &Value) -> bool
+    ensures { IsTrue result ↔ CanHaveOne label (item_of value.now) }
 {
     match label {
         Label::Plain => match value {
@@ -217,8 +217,8 @@ fn takes_one(label: Label, value: &Value) -> bool
     }
 }
 
-fn takes_many(label: Label) -> bool
-    ensures { IsTrue result ↔ TakesMany label }
+fn can_have_many(label: Label) -> bool
+    ensures { IsTrue result ↔ CanHaveMany label }
 {
     matches!(label, Label::Repeated | Label::Packed)
 }

@@ -2,14 +2,14 @@
 
 ghost use Rattle.std.specs.Prelude.{◌≡◌, IfSome};
 ghost use Rattle.std.specs.Option.{option_copied};
-ghost use Rattle.mrpc_table.specs.PathTrees.{message_under, message_behind, IsAscending};
+ghost use Rattle.mrpc_table.specs.PathTrees.{message_under, message_at_path, IsAscendingTree};
 
 use crate::tree::{FieldValue, Tree, Value};
 
 // The message that the tree has under a number.
 fn message_under(tree: &Tree, number: u32) -> Option<&Tree>
-    requires { IsAscending tree.now }
-    ensures ascending { IfSome result (λ m. IsAscending m.now) }
+    requires { IsAscendingTree tree.now }
+    ensures ascending { IfSome result (λ m. IsAscendingTree m.now) }
     ensures message { option_copied result ≡ message_under tree.now number }
 {
     match tree.content(number) {
@@ -19,10 +19,10 @@ fn message_under(tree: &Tree, number: u32) -> Option<&Tree>
 }
 
 /// The message that is reached through the messages with these numbers.
-pub fn message_behind<'a>(tree: &'a Tree, way: &[u32]) -> Option<&'a Tree>
-    requires { IsAscending tree.now }
-    ensures message { option_copied result ≡ message_behind tree.now way.now }
-    ensures ascending { IfSome result (λ m. IsAscending m.now) }
+pub fn message_at_path<'a>(tree: &'a Tree, way: &[u32]) -> Option<&'a Tree>
+    requires { IsAscendingTree tree.now }
+    ensures message { option_copied result ≡ message_at_path tree.now way.now }
+    ensures ascending { IfSome result (λ m. IsAscendingTree m.now) }
 {
     let mut message = tree;
     for number in way {

@@ -7,7 +7,7 @@ use crate::limits::MAX_PATH;
 use crate::memory::Memory;
 use crate::path::PathWord;
 use crate::sequence::Sequence;
-use crate::words::{cut, number_of};
+use crate::words::{number_of, split_once};
 use std::alloc::Global;
 
 impl PathWord {
@@ -18,7 +18,7 @@ impl PathWord {
     {
         let mut way = Vec::new(alloc);
         let mut rest = word;
-        while let Some((part, others)) = cut(rest, b'.') {
+        while let Some((part, others)) = split_once(rest, b'.') {
             let Some(number) = number_of(part) else {
                 return Ok(None);
             };

@@ -3,7 +3,7 @@
 ghost use Rattle.std.specs.Prelude.{◌≡◌, ◌≤◌, ◌<◌, ◌+◌, ◌↔◌, ℕ, List, [], ◌∷◌, ◌++◌, ◌⊎◌, length, map, IsTrue, OnOk, OnErr, IfOk};
 ghost use Rattle.std.specs.Fmt.{decimal};
 ghost use Rattle.hex.specs.Hex.{encode_lower};
-ghost use Rattle.mrpc_table.specs.Lines.{behind_spaces};
+ghost use Rattle.mrpc_table.specs.Lines.{after_spaces};
 
 use crate::hexadecimal::{end_of_digits, write_digits};
 use crate::memory::Memory;
@@ -171,7 +171,7 @@ impl Sequence<u8> {
     /// Appends bytes, and then the digits of decimal numbers, each as a further word of a line. The only error is
     /// `Memory`.
     pub fn append_row(&mut self, front: &[u8], numbers: &[u64]) -> Result<(), Memory>
-        ensures { OnOk result (self.new ≡ self.old ++ (front.now ++ behind_spaces (map decimal numbers.now))) }
+        ensures { OnOk result (self.new ≡ self.old ++ (front.now ++ after_spaces (map decimal numbers.now))) }
     {
         self.append(front)?;
         for number in numbers {

@@ -3,14 +3,14 @@
 
 ghost use Rattle.std.specs.Prelude.{◌≡◌, ◌<◌, ◌↔◌, length, IsTrue};
 ghost use Rattle.std.specs.Option.{option_copied};
-ghost use Rattle.mrpc_table.specs.Ascending.{AllAscend, FieldsAscend};
+ghost use Rattle.mrpc_table.specs.Ascending.{AreAllFieldsAscending, AreFieldsAscending};
 ghost use Rattle.mrpc_table.specs.Normal.{fields_of, field_at};
 ghost use Rattle.mrpc_table.specs.Scalars.{scalar_of};
 ghost use Rattle.mrpc_table.specs.Valid.{IsValid};
 ghost use Rattle.mrpc_table.specs.Words.{IsWordForm, is_numeric, is_key, key_kind, rank};
 ghost use Rattle.mrpc_table.specs.WireTypes.{wire_type_of};
 
-use crate::call::Sort;
+use crate::call::CallKind;
 use crate::field_search::search;
 use crate::sequence::{Name, Sequence};
 use crate::words::is_word;
@@ -295,7 +295,7 @@ impl Drop for Message {
 impl Message {
     /// The field with a number. Takes time logarithmic in the number of fields.
     pub fn field(&self, number: u32) -> Option<&Field>
-        requires { FieldsAscend self.now.fields }
+        requires { AreFieldsAscending self.now.fields }
         ensures { option_copied result ≡ field_at self.now.fields number }
     {
         let fields = self.fields.as_slice();
@@ -380,7 +380,7 @@ impl Table {
     /// The fields of the message at an index; empty if there is no such message.
     pub fn fields(&self, message: u32) -> &[Field]
         ensures value { result.now ≡ fields_of self.now message }
-        ensures ascend { AllAscend self.now → FieldsAscend result.now }
+        ensures ascend { AreAllFieldsAscending self.now → AreFieldsAscending result.now }
     {
         match self.messages.as_slice().get(message as usize) {
             Some(message) => message.fields.as_slice(),
@@ -401,7 +401,7 @@ impl Table {
 
     /// The message that the requests or the replies of a method carry, by its index in the table: the method's input or
     /// its output.
-    pub fn message_of(&self, method: u16, sort: Sort) -> u32
+    pub fn message_of(&self, method: u16, sort: CallKind) -> u32
         requires valid { IsValid self.now }
         requires known { method < length self.now.methods }
         ensures place { result ≡ message_of self.now method sort }
@@ -409,8 +409,8 @@ impl Table {
     {
         let method = &self.methods.as_slice()[method as usize];
         match sort {
-            Sort::Request => method.input,
-            Sort::Reply => method.output,
+            CallKind::Request => method.input,
+            CallKind::Reply => method.output,
         }
     }
 
@@ -421,6 +421,6 @@ impl Table {
         ensures place { result ≡ message_at self.now method number }
         ensures within { result < length self.now.messages }
     {
-        self.message_of(method, Sort::of_number(number))
+        self.message_of(method, CallKind::of_number(number))
     }
 }

@@ -2,7 +2,7 @@
 
 ghost use Rattle.std.specs.Prelude.{◌≡◌, ◌<◌, ℕ, None, length, option_map, slice_index_or, IfSome, IfNone};
 ghost use Rattle.std.specs.Option.{option_copied};
-ghost use Rattle.mrpc_table.specs.Node.{content_at, NumbersAscend};
+ghost use Rattle.mrpc_table.specs.Node.{content_at, AreNumbersAscending};
 ghost use Rattle.mrpc_table.specs.View.{content_of, node_of};
 ghost use Rattle.mrpc_table.specs.Weight.{weight, content_weight};
 
@@ -64,7 +64,7 @@ impl Model for Tree {
 
     ghost size = { weight };
 
-    ghost use Rattle.mrpc_table.specs.Falls.{deep_tree};
+    ghost use Rattle.mrpc_table.specs.Descent.{deep_tree};
 
     ghost size_decreases = { λ a h. deep_tree a.fields.items };
 }
@@ -72,7 +72,7 @@ impl Model for Tree {
 impl Tree {
     /// The content of the field with a number. Takes time logarithmic in the number of fields.
     pub fn content(&self, number: u32) -> Option<&FieldValue>
-        requires { NumbersAscend 0 self.now }
+        requires { AreNumbersAscending 0 self.now }
         ensures content { option_map content_of (option_copied result) ≡ content_at self.now number }
         ensures less { IfSome result (λ content. content_weight (content_of content.now) < weight self.now) }
     {
@@ -85,7 +85,7 @@ impl Tree {
 /// The index of the field with a number among the fields of a tree. Takes constant time if the tree has a field for
 /// each smaller number, and otherwise time logarithmic in the number of fields.
 pub fn find_content(fields: &[(u32, FieldValue)], number: u32) -> Option<usize>
-    requires { NumbersAscend 0 (node_of fields.now) }
+    requires { AreNumbersAscending 0 (node_of fields.now) }
     ensures within { IfSome result (λ place. place < length fields.now) }
     ensures numbered { IfSome result (λ place. (f : ℕ × FieldValue) → (slice_index_or fields.now place f).0 ≡ number) }
     ensures none { IfNone result (content_at (node_of fields.now) number ≡ None) }

@@ -11,7 +11,7 @@ use crate::digits::decimal_of;
 use crate::limits::{MAX_FULL_NAME, MAX_NAME};
 
 /// The text before the first separator, and the text after it; `None` if the separator doesn't occur.
-pub fn cut(text: &[u8], separator: u8) -> Option<(&[u8], &[u8])>
+pub fn split_once(text: &[u8], separator: u8) -> Option<(&[u8], &[u8])>
     ensures parts { MatchOption result (slice_split (λ c. c == separator) text.now ≡ text.now ∷ [])
         (λ p. slice_split (λ c. c == separator) text.now
         ≡ p.0.now ∷ slice_split (λ c. c == separator) p.1.now) }
@@ -82,7 +82,7 @@ pub fn is_full_form(word: &[u8]) -> bool
     ensures { result ≡ is_full_form word.now }
 {
     let mut rest = word;
-    while let Some((part, others)) = cut(rest, b'.') {
+    while let Some((part, others)) = split_once(rest, b'.') {
         if !is_name_form(part) {
             return false;
         }
@@ -109,7 +109,7 @@ fn has_short_parts(word: &[u8]) -> bool
     ensures { result ≡ list_all is_short (slice_split (λ c. c == 46) word.now) }
 {
     let mut rest = word;
-    while let Some((part, others)) = cut(rest, b'.') {
+    while let Some((part, others)) = split_once(rest, b'.') {
         if !is_short(part) {
             return false;
         }

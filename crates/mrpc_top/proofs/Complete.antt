@@ -4,17 +4,17 @@ use Rattle.std.proofs.Common.{sym, ℕ, List, [], ◌∷◌, Option, Some, None}
 use Rattle.std.specs.Prelude.{String}
 use Rattle.std.specs.declared.alloc.Global.{Global}
 use Rattle.std.proofs.lemmas.Bool.{cases_eq}
-use Rattle.text_commands.specs.Decoded.CutsText.{in_text, in_stream}
+use Rattle.text_commands.specs.Decoded.HasDecodedToFault.{in_text, in_stream}
 use Rattle.text_commands.specs.Decoded.HasDecodeFault.{fault_in_text, fault_in_stream}
-use Rattle.mrpc_base.specs.declared.whole_input.TheConstants.{INPUT_LIMIT}
-use Rattle.mrpc_top.specs.Command.{IsFaulty, Names, Refuses, command_word}
-use Rattle.mrpc_base.specs.InputReading.{ReadsPast}
+use Rattle.mrpc_base.specs.declared.whole_input.TheConstants.{MAX_INPUT}
+use Rattle.mrpc_top.specs.Command.{HasTextFault, IsNamedCommand, HasRejected, command_word}
+use Rattle.mrpc_base.specs.WholeInput.{HasReadPast}
 use Rattle.mrpc_top.specs.declared.command.Command.{Command}
 use Rattle.mrpc_top.specs.declared.command.Command.TheVariants.{Replay, Decode, Check, Audit}
 
 -- a rejected text is at fault
-pub refused-faulty : (command : Command) (text : List ℕ) (out out' : Option (List ℕ)) → Refuses command text out out'
-    → IsFaulty command text
+pub refused-faulty : (command : Command) (text : List ℕ) (out out' : Option (List ℕ)) → HasRejected command text out out'
+    → HasTextFault command text
 refused-faulty Replay text out out' r = (r.line, r.reason, r.fault)
 refused-faulty Decode text out out' (in_text line word fault written) = fault_in_text line word fault
 refused-faulty Decode text out out' (in_stream table stream lines place word holds cut written) =
@@ -46,12 +46,12 @@ same-word Audit Check e = absurd (omega (arith, e))
 same-word Audit Audit e = refl
 
 -- words name one command
-pub one-command : (words : List (String Global)) (a b : Command) → Names words a → Names words b → a ≡ b
+pub one-command : (words : List (String Global)) (a b : Command) → IsNamedCommand words a → IsNamedCommand words b → a ≡ b
 one-command words a b one other = same-word a b (ap first_byte (sym one ∙ other))
 
 -- if more than the limit was read, more than the limit was left to read
-pub past-limit : (left left' : Option (List ℕ)) (text : List ℕ) → ReadsPast INPUT_LIMIT left left' → left ≡ Some text
-    → INPUT_LIMIT < length text
+pub past-limit : (left left' : Option (List ℕ)) (text : List ℕ) → HasReadPast MAX_INPUT left left' → left ≡ Some text
+    → MAX_INPUT < length text
 past-limit None left' text past is = absurd cc
 past-limit (Some bytes) None text past is = absurd past.2
 past-limit (Some bytes) (Some more) text past is =

@@ -5,7 +5,7 @@ use Rattle.std.proofs.lemmas.List.{take-append-drop, take-append-le}
 use Rattle.std.specs.List.{concat}
 use Rattle.std.specs.Io.KnownBytes.{Appends}
 use Rattle.std.proofs.lemmas.List.Folds.{concat-append}
-use Rattle.text_commands.specs.FaultLines.{WritesFront}
+use Rattle.text_commands.specs.FaultLines.{HasWrittenPrefix}
 use Rattle.mrpc_top.proofs.KnownBytes.{appends-more}
 
 front-of : (before part rest : List ℕ) (many k : ℕ) → k ≡ length before + many → many ≤ length part
@@ -27,7 +27,7 @@ module _ (parts : List (List ℕ)) (i : ℕ) (part : List ℕ) (less : i < lengt
 
   -- so a prefix of the part, after those parts, is a prefix of all
   pub front-next : (old mid new : Option (List ℕ)) (many : ℕ) → many ≤ length part → Appends old mid (concat (take i parts))
-      → Appends mid new (take many part) → WritesFront old new (concat parts)
+      → Appends mid new (take many part) → HasWrittenPrefix old new (concat parts)
   front-next old mid new many few so more =
       let before : List ℕ = concat (take i parts) in
       let rest : List ℕ = concat (drop (suc i) parts) in

@@ -2,13 +2,13 @@
 use Rattle.std.proofs.Common.{◌≡◌, ◌∙◌, ◌<◌, ◌≤◌, ap, arith, refl, subst, sym, ℕ, List, [], ◌∷◌, None, Option, Some}
 use Rattle.std.specs.Prelude.{IfNone, String, codes, length, map, slice_index_or, string_bytes, unwrap_or}
 use Rattle.std.specs.declared.alloc.Global.{Global}
-use Rattle.mrpc_top.specs.Command.{Names}
-use Rattle.mrpc_top.specs.Runs.{IsCallCount, NamesRun}
+use Rattle.mrpc_top.specs.Command.{IsNamedCommand}
+use Rattle.mrpc_top.specs.Runs.{IsCallCount, IsNamedRun}
 use Rattle.mrpc_top.specs.declared.command.Command.{Command}
 use Rattle.mrpc_top.specs.declared.command.Command.TheVariants.{Replay, Decode, Check, Audit}
 use Rattle.drill.specs.declared.plan.TheConstants.{MAX_CALLS}
-use Rattle.mrpc_top.specs.declared.run.Running.{Running}
-use Rattle.mrpc_top.specs.declared.run.Running.TheVariants.{Scenario, Drill}
+use Rattle.mrpc_top.specs.declared.run.RunTarget.{RunTarget}
+use Rattle.mrpc_top.specs.declared.run.RunTarget.TheVariants.{Scenario, Drill}
 
 -- the first two bytes of the first word
 abbrev second_byte : List (List ℕ) → ℕ
@@ -30,8 +30,8 @@ second_word _ = []
 
 -- two words that aren't `drill` and a number of calls name no run
 pub no_drill : (words : List (String Global)) (word number : List ℕ) → map string_bytes words ≡ word ∷ number ∷ []
-    → ((calls : ℕ) → word ≡ codes "drill" → IsCallCount number calls → ⊥) → (running : Running)
-    → NamesRun words running → ⊥
+    → ((calls : ℕ) → word ≡ codes "drill" → IsCallCount number calls → ⊥) → (running : RunTarget)
+    → IsNamedRun words running → ⊥
 no_drill words word number are none Scenario names =
     let e : 2 ≡ 1 = ap length (sym are ∙ names) in
     absurd (omega (arith, e))
@@ -43,8 +43,8 @@ pub none-then : {A : Type 0} (o : Option A) (P Q : Type 0) → (P → Q) → IfN
 none-then None P Q f p = f p
 none-then (Some a) P Q f p = tt
 
-pub no_command : (words : List (String Global)) (running : Running) (command : Command) → NamesRun words running
-    → Names words command → ⊥
+pub no_command : (words : List (String Global)) (running : RunTarget) (command : Command) → IsNamedRun words running
+    → IsNamedCommand words command → ⊥
 no_command words Scenario Replay run names =
     let e : 117 ≡ 101 = ap second_byte (sym run ∙ names) in
     absurd (omega (arith, e))
@@ -65,7 +65,7 @@ no_command words (Drill calls) command run names =
 pub one_count : (word : List ℕ) (calls many : ℕ) → IsCallCount word calls → IsCallCount word many → many ≡ calls
 one_count word calls many a b = ap (λ n. unwrap_or n 0) (sym b.number ∙ a.number)
 
-pub one_run : (words : List (String Global)) (found running : Running) → NamesRun words found → NamesRun words running
+pub one_run : (words : List (String Global)) (found running : RunTarget) → IsNamedRun words found → IsNamedRun words running
     → running ≡ found
 one_run words Scenario Scenario a b = refl
 one_run words Scenario (Drill calls) a b =
@@ -79,10 +79,10 @@ one_run words (Drill calls) (Drill many) a b =
     ap Drill (one_count a.0 calls many a.2 (subst (λ w. IsCallCount w many) same b.2))
 
 -- what words name has few calls
-pub few_calls : (words : List (String Global)) (running : Running) (calls : ℕ) → NamesRun words running
+pub few_calls : (words : List (String Global)) (running : RunTarget) (calls : ℕ) → IsNamedRun words running
     → running ≡ Drill calls → calls ≤ MAX_CALLS
 few_calls words running calls named is =
-    let drill : NamesRun words (Drill calls) = subst (λ r. NamesRun words r) is named in
+    let drill : IsNamedRun words (Drill calls) = subst (λ r. IsNamedRun words r) is named in
     drill.2.most
 
 -- a list of two words, by what is read of it

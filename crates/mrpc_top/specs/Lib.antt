@@ -1,4 +1,4 @@
 pub mod Command
 pub mod Replaying
 pub mod Runs
-pub mod Told
+pub mod RunPlans

@@ -11,20 +11,20 @@ use Rattle.telemetry.specs.declared.counts.Counts.{Counts}
 use Rattle.run_plan.specs.declared.plan.Plan.{Plan}
 use Rattle.drill.specs.Drill.{drill}
 use Rattle.drill.specs.declared.plan.TheConstants.{MAX_CALLS}
-use Rattle.scenario.specs.Reasons.{number_of_entry, reason_word}
+use Rattle.scenario.specs.Reasons.{number_of_entry, scenario_reason_word}
 use Rattle.scenario.specs.Scenarios.{HasFault, IsTextOf}
-use Rattle.scenario.specs.declared.fault.Entry.{Entry}
+use Rattle.scenario.specs.declared.fault.FaultyEntry.{FaultyEntry}
 use Rattle.scenario.specs.declared.fault.ScenarioReason.{ScenarioReason}
 use Rattle.service.specs.Served.{ArePairs}
 use Rattle.run_driver.specs.Running.{HasRun}
-use Rattle.drill.specs.Counting.{counts_told}
+use Rattle.drill.specs.Counting.{report_counts}
 use Rattle.drill.specs.Meeting.{HaveMet}
-use Rattle.mrpc_base.specs.InputReading.{IsInput}
-use Rattle.text_commands.specs.FaultLines.{WritesFront, fault_line}
-use Rattle.mrpc_base.specs.InputReading.{ReadsPast}
-use Rattle.mrpc_base.specs.declared.whole_input.TheConstants.{INPUT_LIMIT}
-use Rattle.mrpc_top.specs.declared.run.Running.{Running}
-use Rattle.mrpc_top.specs.declared.run.Running.TheVariants.{Scenario, Drill}
+use Rattle.mrpc_base.specs.WholeInput.{IsInput}
+use Rattle.text_commands.specs.FaultLines.{HasWrittenPrefix, fault_line}
+use Rattle.mrpc_base.specs.WholeInput.{HasReadPast}
+use Rattle.mrpc_base.specs.declared.whole_input.TheConstants.{MAX_INPUT}
+use Rattle.mrpc_top.specs.declared.run.RunTarget.{RunTarget}
+use Rattle.mrpc_top.specs.declared.run.RunTarget.TheVariants.{Scenario, Drill}
 
 -- ---- words
 
@@ -39,12 +39,12 @@ abbrev pub IsDrill : List (String Global) → ℕ → Type 0
 IsDrill words calls = (word : List ℕ) × (map string_bytes words ≡ codes "drill" ∷ word ∷ []) × IsCallCount word calls
 
 -- the words run the scenario of an input, or the drill with this number of calls of each client
-abbrev pub NamesRun : List (String Global) → Running → Type 0
-NamesRun words Scenario = map string_bytes words ≡ codes "run" ∷ []
-NamesRun words (Drill calls) = IsDrill words calls
+abbrev pub IsNamedRun : List (String Global) → RunTarget → Type 0
+IsNamedRun words Scenario = map string_bytes words ≡ codes "run" ∷ []
+IsNamedRun words (Drill calls) = IsDrill words calls
 
-abbrev pub IsRunning : List (String Global) → Type 0
-IsRunning words = (running : Running) × NamesRun words running
+abbrev pub IsRunCommand : List (String Global) → Type 0
+IsRunCommand words = (running : RunTarget) × IsNamedRun words running
 
 -- ---- what a run prints
 
@@ -57,7 +57,7 @@ drill_line calls counts = line (codes "drill" ∷ decimal calls ∷ codes "took"
 module _ {C L : Type 0} (of_clock : ClockMembers C) (of_link : LinkMembers L) (pair : L → L → Type 0) (clock : C)
     (back back' : List (ℕ × L)) where
   -- the plan of a text was run, and this is the report of its run
-  pub record TellsScenario (failed : Bool) (text told : List ℕ) : Type 0 where
+  pub record IsScenarioReport (failed : Bool) (text told : List ℕ) : Type 0 where
     pub plan : Plan
     pub says : IsTextOf text plan
     pub totals : List (ℕ × Counts)
@@ -67,71 +67,72 @@ module _ {C L : Type 0} (of_clock : ClockMembers C) (of_link : LinkMembers L) (p
   -- as many calls were accepted as were sent and refused. If no link failed, and the two ends of each link
   -- have met, as those of links in memory do, at least as many calls were accepted as its four clients
   -- submit.
-  pub record TellsDrill (failed : Bool) (calls : ℕ) (told : List ℕ) : Type 0 where
+  pub record IsDrillReport (failed : Bool) (calls : ℕ) (told : List ℕ) : Type 0 where
     pub text : List ℕ
     pub totals : List (ℕ × Counts)
     pub ran : HasRun of_clock of_link pair (drill calls) clock back back' text totals failed
-    pub its_line : told ≡ drill_line calls (counts_told ran.told)
-    pub none_stands : (counts_told ran.told).standing ≡ 0
-    pub all_went : (counts_told ran.told).took ≡ (counts_told ran.told).sent + (counts_told ran.told).refused
+    pub its_line : told ≡ drill_line calls (report_counts ran.told)
+    pub none_pending : (report_counts ran.told).standing ≡ 0
+    pub all_sent_or_refused : (report_counts ran.told).took
+        ≡ (report_counts ran.told).sent + (report_counts ran.told).refused
     pub all_came : failed ≡ false → ArePairs (λ s. s.link) (HaveMet of_link) ran.conns
-        → 4 * calls ≤ (counts_told ran.told).took
+        → 4 * calls ≤ (report_counts ran.told).took
 
   -- the run may print this, given whether a link failed: for an input that had so much left to read, or for a
   -- drill
-  abbrev pub MayTell : Bool → Running → Option (List ℕ) → List ℕ → Type 0
-  MayTell failed Scenario left told = (text : List ℕ) × IsInput left text × TellsScenario failed text told
-  MayTell failed (Drill calls) left told = TellsDrill failed calls told
+  abbrev pub MayReport : Bool → RunTarget → Option (List ℕ) → List ℕ → Type 0
+  MayReport failed Scenario left told = (text : List ℕ) × IsInput left text × IsScenarioReport failed text told
+  MayReport failed (Drill calls) left told = IsDrillReport failed calls told
 
 -- ---- faults
 
 -- a text has a first fault, and this is its line
-pub record TellsFault (text told : List ℕ) : Type 0 where
-  pub at : Entry
+pub record IsScenarioFaultLine (text told : List ℕ) : Type 0 where
+  pub at : FaultyEntry
   pub reason : ScenarioReason
   pub fault : HasFault text at reason
-  pub its_line : told ≡ fault_line (number_of_entry at) (reason_word reason)
+  pub its_line : told ≡ fault_line (number_of_entry at) (scenario_reason_word reason)
 
 -- the input of a scenario is too long, or its text has a first fault, and this is the fault's line
-abbrev pub MayRefuse : Running → (left left' : Option (List ℕ)) → List ℕ → Type 0
-MayRefuse Scenario left left' told =
-    (ReadsPast INPUT_LIMIT left left' × (told ≡ fault_line INPUT_LIMIT (codes "Input")))
-    ⊎ ((text : List ℕ) × IsInput left text × TellsFault text told)
-MayRefuse (Drill calls) left left' told = ⊥
+abbrev pub MayReject : RunTarget → (left left' : Option (List ℕ)) → List ℕ → Type 0
+MayReject Scenario left left' told =
+    (HasReadPast MAX_INPUT left left' × (told ≡ fault_line MAX_INPUT (codes "Input")))
+    ⊎ ((text : List ℕ) × IsInput left text × IsScenarioFaultLine text told)
+MayReject (Drill calls) left left' told = ⊥
 
 -- ---- what was written
 
 module _ {C L : Type 0} (of_clock : ClockMembers C) (of_link : LinkMembers L) (pair : L → L → Type 0) (clock : C)
     (back back' : List (ℕ × L)) where
   -- the run wrote its report, given whether a link failed
-  pub record WritesRun (failed : Bool) (running : Running) (left out out' : Option (List ℕ)) : Type 0 where
+  pub record HasWrittenReport (failed : Bool) (running : RunTarget) (left out out' : Option (List ℕ)) : Type 0 where
     pub told : List ℕ
-    pub may : MayTell of_clock of_link pair clock back back' failed running left told
+    pub may : MayReport of_clock of_link pair clock back back' failed running left told
     pub written : Appends out out' told
 
   -- A run ended early, and its output is a prefix of what it may write: nothing, a prefix of its report, or a
   -- prefix of the line of a fault.
-  pub data StopsRun (running : Running) (left left' out out' : Option (List ℕ)) : Type 0 where
-    silent : Appends out out' [] → StopsRun running left left' out out'
+  pub data HasStoppedRun (running : RunTarget) (left left' out out' : Option (List ℕ)) : Type 0 where
+    silent : Appends out out' [] → HasStoppedRun running left left' out out'
     in_telling : (failed : Bool) (told : List ℕ)
-        → MayTell of_clock of_link pair clock back back' failed running left told → WritesFront out out' told
-        → StopsRun running left left' out out'
-    in_fault : (told : List ℕ) → MayRefuse running left left' told → WritesFront out out' told
-        → StopsRun running left left' out out'
+        → MayReport of_clock of_link pair clock back back' failed running left told → HasWrittenPrefix out out' told
+        → HasStoppedRun running left left' out out'
+    in_fault : (told : List ℕ) → MayReject running left left' told → HasWrittenPrefix out out' told
+        → HasStoppedRun running left left' out out'
 
 -- the line of the fault was written
-pub record WritesRefusal (running : Running) (left left' out out' : Option (List ℕ)) : Type 0 where
+pub record HasWrittenFault (running : RunTarget) (left left' out out' : Option (List ℕ)) : Type 0 where
   pub told : List ℕ
-  pub may : MayRefuse running left left' told
+  pub may : MayReject running left left' told
   pub written : Appends out out' told
 
 -- what a run requires of its input: it was read to its end, and it is a valid plan; a drill requires nothing
-abbrev pub HasPlan : Running → Option (List ℕ) → Type 0
+abbrev pub HasPlan : RunTarget → Option (List ℕ) → Type 0
 HasPlan Scenario left = (text : List ℕ) × IsInput left text × (plan : Plan) × IsTextOf text plan
 HasPlan (Drill calls) left = Unit {0}
 
 -- an input has a fault as a scenario: it is too long, or has a first fault
-abbrev pub HasRunFault : Running → List ℕ → Type 0
+abbrev pub HasRunFault : RunTarget → List ℕ → Type 0
 HasRunFault Scenario text =
-    (INPUT_LIMIT < length text) ⊎ ((at : Entry) × (reason : ScenarioReason) × HasFault text at reason)
+    (MAX_INPUT < length text) ⊎ ((at : FaultyEntry) × (reason : ScenarioReason) × HasFault text at reason)
 HasRunFault (Drill calls) text = ⊥

@@ -1,22 +1,23 @@
 //! The commands that run no connections: from the words of a command line and the whole input to the output.
 
 ghost use Rattle.std.specs.Prelude.{◌≡◌, ◌≢◌, ◌↔◌, ◌≤◌, ◌⊎◌, List, ℕ, length, IfSome, IfNone, Some};
-ghost use Rattle.mrpc_base.specs.Faults.{HasCause, Rose};
-ghost use Rattle.mrpc_top.specs.Command.{command_word, Names, IsReplay, IsCommand, IsDone, IsRefused, IsBroken, IsCutShort, HasFault, IsFaulty, WorksOn, Refuses, StopsOn};
-ghost use Rattle.mrpc_top.specs.Replaying.{RunsText, BreaksText, StopsText, RefusesScript, HasScriptFault};
-ghost use Rattle.replay_run.specs.Running.{Breaks, Replays, Stops};
+ghost use Rattle.mrpc_base.specs.Failures.{HasCause, HasRisen};
+ghost use Rattle.mrpc_top.specs.Command.{command_word, IsNamedCommand, IsReplay, IsCommand, IsSuccess, IsRejected, IsFailedReplay, IsCutShort, HasInputFault, HasTextFault, HasWorkedOn, HasRejected, HasStoppedOn};
+ghost use Rattle.mrpc_top.specs.Replaying.{HasReplayedText, HasReplayedToFailure, HasStoppedReplay, HasRejectedScript, HasScriptFault};
+ghost use Rattle.replay_run.specs.Running.{IsBrokenRun, IsFullRun, IsStoppedRun};
 ghost use Rattle.replay_script.specs.Lines.{IsScript};
 
 use crate::discard;
-use crate::replay::one_replay;
-use mrpc_base::{INPUT_LIMIT, Input, Sink, Source, read_input};
-use replay_run::{Stop, run_script};
-use replay_script::{Script, one_script, read_script};
+use crate::replay::replay_is_unique;
+use mrpc_base::{InputResult, MAX_INPUT, Sink, Source, read_input};
+use replay_run::{ReplayError, run_script};
+use replay_script::{Script, read_script, replay_script_or_fault};
 use script_grammar::ScriptFault;
 use std::alloc::Global;
 use text_commands::{
-    DONE, FAULTY_INPUT, INPUT_FAILED, NO_COMMAND, NO_MEMORY, OUTPUT_FAILED, WIRE_FAILED, audit_to,
-    check_to, decode_to, one_audit, one_check, one_decoding, refuse,
+    DONE, FAULTY_INPUT, INPUT_FAILED, NO_COMMAND, NO_MEMORY, OUTPUT_FAILED, WIRE_FAILED,
+    audit_answer_is_unique, audit_to, check_to, checked_table_is_unique, decode_to,
+    decoding_is_unique, write_fault,
 };
 
 /// Runs the command that the words name, and returns its exit status.
@@ -65,49 +66,52 @@ pub fn run_still<S: Source, K: Sink, W: Sink>(
     ensures untouched { result ≡ NO_COMMAND → (input.new ≡ input.old) × (out.new ≡ out.old) × (wire.new ≡ wire.old) }
 
     // What a finished command has done: its input is valid, and its result was written.
-    ensures done { (command : Command) → Names words.now.items command → result ≡ DONE → IsDone command
+    ensures done { (command : Command) → IsNamedCommand words.now.items command → result ≡ DONE → IsSuccess command
         (S.left input.old) (K.written out.old) (K.written out.new) (W.written wire.old) (W.written wire.new) }
     // A faulty input: its first fault was written, and besides it only the lines of the frames before it.
-    ensures faulty { (command : Command) → Names words.now.items command → result ≡ FAULTY_INPUT → IsRefused command
+    ensures faulty { (command : Command) → IsNamedCommand words.now.items command → result ≡ FAULTY_INPUT
+        → IsRejected command
         (S.left input.old) (S.left input.new) (K.written out.old) (K.written out.new) }
     // No work is done on an input that has a fault.
-    ensures refused { (command : Command) (text : List ℕ) → Names words.now.items command → S.left input.old ≡ Some text
-        → HasFault command text → (result ≢ DONE) × (result ≢ WIRE_FAILED) }
+    ensures refused { (command : Command) (text : List ℕ) → IsNamedCommand words.now.items command
+        → S.left input.old ≡ Some text
+        → HasInputFault command text → (result ≢ DONE) × (result ≢ WIRE_FAILED) }
 
     // An input without a fault is worked on, unless a device fails or it runs out of memory.
-    ensures complete { (command : Command) (text : List ℕ) → Names words.now.items command
-        → S.left input.old ≡ Some text → (HasFault command text → ⊥)
-        → (Rose (S.faults input.old) (S.faults input.new) → ⊥) → (Rose (K.faults out.old) (K.faults out.new) → ⊥)
-        → (Rose (W.faults wire.old) (W.faults wire.new) → ⊥) → (result ≡ DONE) ⊎ (result ≡ NO_MEMORY) }
+    ensures complete { (command : Command) (text : List ℕ) → IsNamedCommand words.now.items command
+        → S.left input.old ≡ Some text → (HasInputFault command text → ⊥)
+        → (HasRisen (S.failures input.old) (S.failures input.new) → ⊥)
+        → (HasRisen (K.failures out.old) (K.failures out.new) → ⊥)
+        → (HasRisen (W.failures wire.old) (W.failures wire.new) → ⊥) → (result ≡ DONE) ⊎ (result ≡ NO_MEMORY) }
 
     // Only a replay sends frames, and none for an input that has a fault, whatever else fails.
     ensures unsent { (result ≡ FAULTY_INPUT) ⊎ (IsReplay words.now.items → ⊥) → wire.new ≡ wire.old }
     ensures sound_alone { (text : List ℕ) → IsReplay words.now.items → S.left input.old ≡ Some text
-        → HasFault Command.Replay text → wire.new ≡ wire.old }
+        → HasInputFault Command.Replay text → wire.new ≡ wire.old }
 
     // If a replay's frame can't be written, the replay is one up to the failed send.
-    ensures broken { result ≡ WIRE_FAILED → IsReplay words.now.items × IsBroken (S.left input.old)
+    ensures broken { result ≡ WIRE_FAILED → IsReplay words.now.items × IsFailedReplay (S.left input.old)
         (K.written out.old) (K.written out.new) (W.written wire.old) (W.written wire.new) }
     // If a command ends early, its output is a prefix of what it may write.
-    ensures cut_short { (command : Command) → Names words.now.items command
+    ensures cut_short { (command : Command) → IsNamedCommand words.now.items command
         → (result ≡ NO_MEMORY) ⊎ (result ≡ OUTPUT_FAILED) → IsCutShort command (S.left input.old) (S.left input.new)
         (K.written out.old) (K.written out.new) (W.written wire.old) (W.written wire.new) }
 
     // Each device's failure has its own status. After a frame that couldn't be written, the output may also
     // fail, or it may run out of memory.
-    ensures input_cause { HasCause (result ≡ INPUT_FAILED) (S.faults input.old) (S.faults input.new) }
-    ensures out_cause { HasCause (result ≡ OUTPUT_FAILED) (K.faults out.old) (K.faults out.new) }
-    ensures wire_rose { result ≡ WIRE_FAILED → Rose (W.faults wire.old) (W.faults wire.new) }
-    ensures wire_same { result ≡ DONE → W.faults wire.new ≡ W.faults wire.old }
-    ensures wire_never_falls { W.faults wire.old ≤ W.faults wire.new }
+    ensures input_cause { HasCause (result ≡ INPUT_FAILED) (S.failures input.old) (S.failures input.new) }
+    ensures out_cause { HasCause (result ≡ OUTPUT_FAILED) (K.failures out.old) (K.failures out.new) }
+    ensures wire_rose { result ≡ WIRE_FAILED → HasRisen (W.failures wire.old) (W.failures wire.new) }
+    ensures wire_same { result ≡ DONE → W.failures wire.new ≡ W.failures wire.old }
+    ensures wire_never_falls { W.failures wire.old ≤ W.failures wire.new }
     ensures unread { result ≡ INPUT_FAILED → (out.new ≡ out.old) × (wire.new ≡ wire.old) }
 {
     match command_of(words) {
         Some(command) => match read_input(alloc, input) {
-            Input::Whole(text) => run(alloc, command, &text, out, wire),
-            Input::TooLong => refuse(alloc, INPUT_LIMIT as u64, b"Input", out),
-            Input::Failed => INPUT_FAILED,
-            Input::Memory => NO_MEMORY,
+            InputResult::Whole(text) => run(alloc, command, &text, out, wire),
+            InputResult::TooLong => write_fault(alloc, MAX_INPUT as u64, b"Input", out),
+            InputResult::Failed => INPUT_FAILED,
+            InputResult::Memory => NO_MEMORY,
         },
         None => NO_COMMAND,
     }
@@ -130,28 +134,28 @@ fn run<K: Sink, W: Sink>(
     out: &mut K,
     wire: &mut W,
 ) -> u8
-    requires short { length text.now ≤ INPUT_LIMIT }
+    requires short { length text.now ≤ MAX_INPUT }
     ensures statuses { result ≤ WIRE_FAILED }
     ensures some { (result ≢ NO_COMMAND) × (result ≢ INPUT_FAILED) }
-    ensures done { result ≡ DONE → WorksOn command text.now
+    ensures done { result ≡ DONE → HasWorkedOn command text.now
         (K.written out.old) (K.written out.new) (W.written wire.old) (W.written wire.new) }
-    ensures faulty { result ≡ FAULTY_INPUT → Refuses command text.now (K.written out.old) (K.written out.new) }
-    ensures refused { IsFaulty command text.now → (result ≢ DONE) × (result ≢ WIRE_FAILED) }
+    ensures faulty { result ≡ FAULTY_INPUT → HasRejected command text.now (K.written out.old) (K.written out.new) }
+    ensures refused { HasTextFault command text.now → (result ≢ DONE) × (result ≢ WIRE_FAILED) }
     ensures unsent { (result ≡ FAULTY_INPUT) ⊎ (command ≢ Command.Replay) → wire.new ≡ wire.old }
-    ensures sound_alone { command ≡ Command.Replay → IsFaulty Command.Replay text.now → wire.new ≡ wire.old }
-    ensures broken { result ≡ WIRE_FAILED → (command ≡ Command.Replay) × BreaksText text.now
+    ensures sound_alone { command ≡ Command.Replay → HasTextFault Command.Replay text.now → wire.new ≡ wire.old }
+    ensures broken { result ≡ WIRE_FAILED → (command ≡ Command.Replay) × HasReplayedToFailure text.now
         (K.written out.old) (K.written out.new) (W.written wire.old) (W.written wire.new) }
-    ensures cut_short { (result ≡ NO_MEMORY) ⊎ (result ≡ OUTPUT_FAILED) → StopsOn command text.now
+    ensures cut_short { (result ≡ NO_MEMORY) ⊎ (result ≡ OUTPUT_FAILED) → HasStoppedOn command text.now
         (K.written out.old) (K.written out.new) (W.written wire.old) (W.written wire.new) }
-    ensures out_cause { HasCause (result ≡ OUTPUT_FAILED) (K.faults out.old) (K.faults out.new) }
-    ensures wire_rose { result ≡ WIRE_FAILED → Rose (W.faults wire.old) (W.faults wire.new) }
-    ensures wire_same { result ≡ DONE → W.faults wire.new ≡ W.faults wire.old }
-    ensures wire_never_falls { W.faults wire.old ≤ W.faults wire.new }
+    ensures out_cause { HasCause (result ≡ OUTPUT_FAILED) (K.failures out.old) (K.failures out.new) }
+    ensures wire_rose { result ≡ WIRE_FAILED → HasRisen (W.failures wire.old) (W.failures wire.new) }
+    ensures wire_same { result ≡ DONE → W.failures wire.new ≡ W.failures wire.old }
+    ensures wire_never_falls { W.failures wire.old ≤ W.failures wire.new }
 {
-    one_replay();
-    one_decoding();
-    one_check();
-    one_audit();
+    replay_is_unique();
+    decoding_is_unique();
+    checked_table_is_unique();
+    audit_answer_is_unique();
     match command {
         Command::Replay => replay_text(alloc, text, out, wire),
         Command::Decode => decode_to(alloc, text, out),
@@ -162,7 +166,7 @@ fn run<K: Sink, W: Sink>(
 
 // The command that the words name; `None` if they name none.
 fn command_of(words: &[String]) -> Option<Command>
-    ensures some { IfSome result (λ command. Names words.now command) }
+    ensures some { IfSome result (λ command. IsNamedCommand words.now command) }
     ensures none { IfNone result (IsCommand words.now → ⊥) }
 {
     match words {
@@ -192,20 +196,20 @@ fn command_named(word: &str) -> Option<Command>
 fn replay_text<K: Sink, W: Sink>(alloc: Global, text: &[u8], out: &mut K, wire: &mut W) -> u8
     ensures statuses { result ≤ WIRE_FAILED }
     ensures some { (result ≢ NO_COMMAND) × (result ≢ INPUT_FAILED) }
-    ensures done { result ≡ DONE → RunsText text.now
+    ensures done { result ≡ DONE → HasReplayedText text.now
         (K.written out.old) (K.written out.new) (W.written wire.old) (W.written wire.new) }
-    ensures faulty { result ≡ FAULTY_INPUT → RefusesScript text.now (K.written out.old) (K.written out.new) }
-    ensures broken { result ≡ WIRE_FAILED → BreaksText text.now
+    ensures faulty { result ≡ FAULTY_INPUT → HasRejectedScript text.now (K.written out.old) (K.written out.new) }
+    ensures broken { result ≡ WIRE_FAILED → HasReplayedToFailure text.now
         (K.written out.old) (K.written out.new) (W.written wire.old) (W.written wire.new) }
-    ensures cut_short { (result ≡ NO_MEMORY) ⊎ (result ≡ OUTPUT_FAILED) → StopsText text.now
+    ensures cut_short { (result ≡ NO_MEMORY) ⊎ (result ≡ OUTPUT_FAILED) → HasStoppedReplay text.now
         (K.written out.old) (K.written out.new) (W.written wire.old) (W.written wire.new) }
     ensures unsent { (result ≡ FAULTY_INPUT) ⊎ HasScriptFault text.now → wire.new ≡ wire.old }
-    ensures out_cause { HasCause (result ≡ OUTPUT_FAILED) (K.faults out.old) (K.faults out.new) }
-    ensures wire_rose { result ≡ WIRE_FAILED → Rose (W.faults wire.old) (W.faults wire.new) }
-    ensures wire_same { result ≡ DONE → W.faults wire.new ≡ W.faults wire.old }
-    ensures wire_never_falls { W.faults wire.old ≤ W.faults wire.new }
+    ensures out_cause { HasCause (result ≡ OUTPUT_FAILED) (K.failures out.old) (K.failures out.new) }
+    ensures wire_rose { result ≡ WIRE_FAILED → HasRisen (W.failures wire.old) (W.failures wire.new) }
+    ensures wire_same { result ≡ DONE → W.failures wire.new ≡ W.failures wire.old }
+    ensures wire_never_falls { W.failures wire.old ≤ W.failures wire.new }
 {
-    one_script();
+    replay_script_or_fault();
     match read_script(alloc, text) {
         Ok(script) => {
             let status = replay(alloc, &script, out, wire);
@@ -213,7 +217,7 @@ fn replay_text<K: Sink, W: Sink>(alloc: Global, text: &[u8], out: &mut K, wire: 
             status
         }
         Err(ScriptFault::At { line, reason }) => {
-            refuse(alloc, line, reason.word().as_bytes(), out)
+            write_fault(alloc, line, reason.word().as_bytes(), out)
         }
         Err(ScriptFault::Memory) => NO_MEMORY,
     }
@@ -225,21 +229,21 @@ fn replay<K: Sink, W: Sink>(alloc: Global, script: &Script, out: &mut K, wire: &
     ensures statuses { result ≤ WIRE_FAILED }
     ensures some { (result ≢ NO_COMMAND) × (result ≢ INPUT_FAILED) }
     ensures sound { result ≢ FAULTY_INPUT }
-    ensures done { result ≡ DONE → Replays script.now (K.written out.old) (K.written out.new)
+    ensures done { result ≡ DONE → IsFullRun script.now (K.written out.old) (K.written out.new)
         (W.written wire.old) (W.written wire.new) }
-    ensures broken { result ≡ WIRE_FAILED → Breaks script.now (K.written out.old) (K.written out.new)
+    ensures broken { result ≡ WIRE_FAILED → IsBrokenRun script.now (K.written out.old) (K.written out.new)
         (W.written wire.old) (W.written wire.new) }
-    ensures stopped { (result ≡ NO_MEMORY) ⊎ (result ≡ OUTPUT_FAILED) → Stops script.now
+    ensures stopped { (result ≡ NO_MEMORY) ⊎ (result ≡ OUTPUT_FAILED) → IsStoppedRun script.now
         (K.written out.old) (K.written out.new) (W.written wire.old) (W.written wire.new) }
-    ensures out_cause { HasCause (result ≡ OUTPUT_FAILED) (K.faults out.old) (K.faults out.new) }
-    ensures wire_rose { result ≡ WIRE_FAILED → Rose (W.faults wire.old) (W.faults wire.new) }
-    ensures wire_same { result ≡ DONE → W.faults wire.new ≡ W.faults wire.old }
-    ensures wire_never_falls { W.faults wire.old ≤ W.faults wire.new }
+    ensures out_cause { HasCause (result ≡ OUTPUT_FAILED) (K.failures out.old) (K.failures out.new) }
+    ensures wire_rose { result ≡ WIRE_FAILED → HasRisen (W.failures wire.old) (W.failures wire.new) }
+    ensures wire_same { result ≡ DONE → W.failures wire.new ≡ W.failures wire.old }
+    ensures wire_never_falls { W.failures wire.old ≤ W.failures wire.new }
 {
     match run_script(alloc, script, out, wire) {
         Ok(()) => DONE,
-        Err(Stop::Memory) => NO_MEMORY,
-        Err(Stop::Out) => OUTPUT_FAILED,
-        Err(Stop::Wire) => WIRE_FAILED,
+        Err(ReplayError::Memory) => NO_MEMORY,
+        Err(ReplayError::Out) => OUTPUT_FAILED,
+        Err(ReplayError::Wire) => WIRE_FAILED,
     }
 }

@@ -5,7 +5,7 @@
 //! that of [`run_command`]:
 //!
 //! - `replay`: at status 0 a history follows the script that was read, and its audit, the pending calls and
-//!   its frames were written. By [`one_replay`] the history is legal and spelled by its loads.
+//!   its frames were written. By [`replay_is_unique`] the history is legal and spelled by its loads.
 //! - `decode`: at status 0 a line was written for each frame, with the encoding of the message that its
 //!   payload means.
 //! - `check`: at status 0 the table's text was written, for the proto file or the set of files that was read.
@@ -23,11 +23,11 @@ mod run;
 mod top;
 
 pub use command::run_still;
-pub use replay::one_replay;
+pub use replay::replay_is_unique;
 pub use run::{FABRIC_FAILED, LINK_FAILED};
 pub use text_commands::{
-    DONE, FAULTY_INPUT, INPUT_FAILED, NO_COMMAND, NO_MEMORY, OUTPUT_FAILED, Spot, WIRE_FAILED,
-    one_audit, one_check, one_decoding,
+    DONE, FAULTY_INPUT, FaultLocation, INPUT_FAILED, NO_COMMAND, NO_MEMORY, OUTPUT_FAILED,
+    WIRE_FAILED, audit_answer_is_unique, checked_table_is_unique, decoding_is_unique,
 };
 pub use top::run_command;
 

@@ -3,26 +3,26 @@
 ghost use Rattle.std.specs.Prelude.{◌≡◌, ◌≢◌, ◌⊎◌, ◌≤◌, ◌++◌, ◌∷◌, List, ℕ, Option, Some, true, false, codes, decimal, IfOk, IfSome, IfNone, IsTrue, OnOk};
 ghost use Rattle.std.specs.List.{concat};
 ghost use Rattle.std.specs.Io.KnownBytes.{Appends};
-ghost use Rattle.mrpc_base.specs.Faults.{HasCause};
+ghost use Rattle.mrpc_base.specs.Failures.{HasCause};
 ghost use Rattle.run_plan.specs.Plans.{IsPlan};
 ghost use Rattle.run_plan.specs.declared.plan.Plan.{Plan as ThePlan};
 ghost use Rattle.scenario.specs.Scenarios.{HasFault, IsTextOf};
-ghost use Rattle.scenario.specs.declared.fault.Entry.{Entry};
+ghost use Rattle.scenario.specs.declared.fault.FaultyEntry.{FaultyEntry};
 ghost use Rattle.scenario.specs.declared.fault.ScenarioReason.{ScenarioReason};
 ghost use Rattle.telemetry.specs.Totals.{IsTotals, sums_of};
-ghost use Rattle.mrpc_base.specs.InputReading.{IsInput};
-ghost use Rattle.text_commands.specs.FaultLines.{WritesFront};
-ghost use Rattle.mrpc_top.specs.Runs.{HasPlan, HasRunFault, IsCallCount, NamesRun, StopsRun, WritesRefusal, WritesRun, drill_line};
-ghost use Rattle.mrpc_top.specs.Told.{IsPlanOf, WritesLine, WritesLineFront};
+ghost use Rattle.mrpc_base.specs.WholeInput.{IsInput};
+ghost use Rattle.text_commands.specs.FaultLines.{HasWrittenPrefix};
+ghost use Rattle.mrpc_top.specs.Runs.{HasPlan, HasRunFault, IsCallCount, IsNamedRun, HasStoppedRun, HasWrittenFault, HasWrittenReport, drill_line};
+ghost use Rattle.mrpc_top.specs.RunPlans.{IsPlanOf, HasWrittenLine, HasWrittenLinePrefix};
 
 use crate::discard;
 use drill::{MAX_CALLS, drill_plan, drills_add_up, drills_are_bound};
-use mrpc_base::{Clock, Fabric, Gate, INPUT_LIMIT, Input, Sink, Source, read_input, write_all};
+use mrpc_base::{Clock, Fabric, Gate, InputResult, MAX_INPUT, Sink, Source, read_input, write_all};
 use mrpc_table::{Bytes, Decimal, Memory, number_of};
-use run_driver::{Counted, Run, count_plan, serve_plan};
+use run_driver::{RunCounts, RunReport, count_plan, serve_plan};
 use run_plan::Plan;
 use scenario::ScenarioFault;
-use scenario_laws::{a_said_plan_is_sound, one_scenario};
+use scenario_laws::{parsed_plan_is_valid, scenario_is_unique};
 use scenario_reader::read_scenario;
 use service::ServeFault;
 use std::alloc::Global;
@@ -30,7 +30,8 @@ use std::sync::Wait;
 use std::thread::Threads;
 use telemetry::{Totals, totals_are_counts};
 use text_commands::{
-    DONE, FAULTY_INPUT, INPUT_FAILED, NO_COMMAND, NO_MEMORY, OUTPUT_FAILED, WIRE_FAILED, refuse,
+    DONE, FAULTY_INPUT, INPUT_FAILED, NO_COMMAND, NO_MEMORY, OUTPUT_FAILED, WIRE_FAILED,
+    write_fault,
 };
 
 /// A link failed during the run.
@@ -41,7 +42,7 @@ pub const FABRIC_FAILED: u8 = 7;
 
 // What to run.
 #[derive(Clone, Copy)]
-pub(crate) enum Running {
+pub(crate) enum RunTarget {
     // The scenario of the input.
     Scenario,
     // The drill, with this number of calls of each client.
@@ -49,9 +50,9 @@ pub(crate) enum Running {
 }
 
 // What the words name to run; `None` if they name neither a run nor a drill.
-pub(crate) fn running_of(words: &[String]) -> Option<Running>
-    ensures some { IfSome result (λ running. NamesRun words.now running) }
-    ensures none { IfNone result ((running : Running) → NamesRun words.now running → ⊥) }
+pub(crate) fn run_target_of(words: &[String]) -> Option<RunTarget>
+    ensures some { IfSome result (λ running. IsNamedRun words.now running) }
+    ensures none { IfNone result ((running : RunTarget) → IsNamedRun words.now running → ⊥) }
 {
     match words {
         [word] => scenario_of(word.as_str()),
@@ -60,18 +61,18 @@ pub(crate) fn running_of(words: &[String]) -> Option<Running>
     }
 }
 
-fn scenario_of(word: &str) -> Option<Running>
-    ensures some { IfSome result (λ running. (running ≡ Running.Scenario) × (word.now ≡ codes "run")) }
+fn scenario_of(word: &str) -> Option<RunTarget>
+    ensures some { IfSome result (λ running. (running ≡ RunTarget.Scenario) × (word.now ≡ codes "run")) }
     ensures none { IfNone result (word.now ≢ codes "run") }
 {
     if word == "run" {
-        return Some(Running::Scenario);
+        return Some(RunTarget::Scenario);
     }
     None
 }
 
-fn drill_of(word: &str, number: &str) -> Option<Running>
-    ensures some { IfSome result (λ running. (calls : ℕ) × (running ≡ Running.Drill calls)
+fn drill_of(word: &str, number: &str) -> Option<RunTarget>
+    ensures some { IfSome result (λ running. (calls : ℕ) × (running ≡ RunTarget.Drill calls)
         × (word.now ≡ codes "drill") × IsCallCount number.now calls) }
     ensures none { IfNone result ((calls : ℕ) → word.now ≡ codes "drill" → IsCallCount number.now calls → ⊥) }
 {
@@ -79,7 +80,7 @@ fn drill_of(word: &str, number: &str) -> Option<Running>
         return None;
     }
     match calls_of(number) {
-        Some(calls) => Some(Running::Drill(calls)),
+        Some(calls) => Some(RunTarget::Drill(calls)),
         None => None,
     }
 }
@@ -104,39 +105,41 @@ fn calls_of(number: &str) -> Option<u64>
 pub(crate) fn run_named<R: Threads + Wait + Sync, S: Source, K: Sink, F: Fabric, C: Clock, G: Gate>(
     rt: &R,
     alloc: Global,
-    running: Running,
+    running: RunTarget,
     input: &mut S,
     out: &mut K,
     fabric: &mut F,
     clock: &C,
     gate: &G,
 ) -> u8
-    requires few { (calls : ℕ) → running ≡ Running.Drill calls → calls ≤ MAX_CALLS }
+    requires few { (calls : ℕ) → running ≡ RunTarget.Drill calls → calls ≤ MAX_CALLS }
     ensures statuses { result ≤ FABRIC_FAILED }
     ensures some { result ≢ NO_COMMAND }
-    ensures done { result ≡ DONE → WritesRun C.Clock F.L.Link F.pair clock.now (F.back fabric.old) (F.back fabric.new)
+    ensures done { result ≡ DONE → HasWrittenReport C.Clock F.L.Link F.pair clock.now (F.back fabric.old)
+        (F.back fabric.new)
         false running (S.left input.old) (K.written out.old) (K.written out.new) }
-    ensures link { result ≡ LINK_FAILED → WritesRun C.Clock F.L.Link F.pair clock.now (F.back fabric.old)
+    ensures link { result ≡ LINK_FAILED → HasWrittenReport C.Clock F.L.Link F.pair clock.now (F.back fabric.old)
         (F.back fabric.new) true running (S.left input.old) (K.written out.old) (K.written out.new) }
-    ensures faulty { result ≡ FAULTY_INPUT → WritesRefusal running (S.left input.old) (S.left input.new)
+    ensures faulty { result ≡ FAULTY_INPUT → HasWrittenFault running (S.left input.old) (S.left input.new)
         (K.written out.old) (K.written out.new) }
     ensures refused { (text : List ℕ) → S.left input.old ≡ Some text → HasRunFault running text
         → (result ≢ DONE) × (result ≢ LINK_FAILED) × (result ≢ FABRIC_FAILED) × (fabric.new ≡ fabric.old) }
-    ensures cut_short { (result ≡ NO_MEMORY) ⊎ (result ≡ OUTPUT_FAILED) → StopsRun C.Clock F.L.Link F.pair clock.now
+    ensures cut_short { (result ≡ NO_MEMORY) ⊎ (result ≡ OUTPUT_FAILED)
+        → HasStoppedRun C.Clock F.L.Link F.pair clock.now
         (F.back fabric.old) (F.back fabric.new) running (S.left input.old) (S.left input.new)
         (K.written out.old) (K.written out.new) }
     ensures unopened { result ≡ FABRIC_FAILED → HasPlan running (S.left input.old) × (out.new ≡ out.old) }
     ensures unread { result ≡ INPUT_FAILED → out.new ≡ out.old }
     ensures unrun { (result ≡ FAULTY_INPUT) ⊎ (result ≡ INPUT_FAILED) → fabric.new ≡ fabric.old }
     ensures away { (result ≡ DONE) ⊎ (result ≡ LINK_FAILED) → F.away fabric.new ≡ F.away fabric.old }
-    ensures drilled { (calls : ℕ) → running ≡ Running.Drill calls → input.new ≡ input.old }
-    ensures input_cause { HasCause (result ≡ INPUT_FAILED) (S.faults input.old) (S.faults input.new) }
-    ensures out_cause { HasCause (result ≡ OUTPUT_FAILED) (K.faults out.old) (K.faults out.new) }
-    ensures fabric_cause { HasCause (result ≡ FABRIC_FAILED) (F.faults fabric.old) (F.faults fabric.new) }
+    ensures drilled { (calls : ℕ) → running ≡ RunTarget.Drill calls → input.new ≡ input.old }
+    ensures input_cause { HasCause (result ≡ INPUT_FAILED) (S.failures input.old) (S.failures input.new) }
+    ensures out_cause { HasCause (result ≡ OUTPUT_FAILED) (K.failures out.old) (K.failures out.new) }
+    ensures fabric_cause { HasCause (result ≡ FABRIC_FAILED) (F.failures fabric.old) (F.failures fabric.new) }
 {
     match running {
-        Running::Scenario => run_input(rt, alloc, input, out, fabric, clock, gate),
-        Running::Drill(calls) => run_drill(rt, alloc, calls, out, fabric, clock, gate),
+        RunTarget::Scenario => run_input(rt, alloc, input, out, fabric, clock, gate),
+        RunTarget::Drill(calls) => run_drill(rt, alloc, calls, out, fabric, clock, gate),
     }
 }
 
@@ -152,30 +155,32 @@ fn run_input<R: Threads + Wait + Sync, S: Source, K: Sink, F: Fabric, C: Clock, 
 ) -> u8
     ensures statuses { result ≤ FABRIC_FAILED }
     ensures some { result ≢ NO_COMMAND }
-    ensures done { result ≡ DONE → WritesRun C.Clock F.L.Link F.pair clock.now (F.back fabric.old) (F.back fabric.new)
-        false Running.Scenario (S.left input.old) (K.written out.old) (K.written out.new) }
-    ensures link { result ≡ LINK_FAILED → WritesRun C.Clock F.L.Link F.pair clock.now (F.back fabric.old)
-        (F.back fabric.new) true Running.Scenario (S.left input.old) (K.written out.old) (K.written out.new) }
-    ensures faulty { result ≡ FAULTY_INPUT → WritesRefusal Running.Scenario (S.left input.old) (S.left input.new)
+    ensures done { result ≡ DONE → HasWrittenReport C.Clock F.L.Link F.pair clock.now (F.back fabric.old)
+        (F.back fabric.new)
+        false RunTarget.Scenario (S.left input.old) (K.written out.old) (K.written out.new) }
+    ensures link { result ≡ LINK_FAILED → HasWrittenReport C.Clock F.L.Link F.pair clock.now (F.back fabric.old)
+        (F.back fabric.new) true RunTarget.Scenario (S.left input.old) (K.written out.old) (K.written out.new) }
+    ensures faulty { result ≡ FAULTY_INPUT → HasWrittenFault RunTarget.Scenario (S.left input.old) (S.left input.new)
         (K.written out.old) (K.written out.new) }
-    ensures refused { (text : List ℕ) → S.left input.old ≡ Some text → HasRunFault Running.Scenario text
+    ensures refused { (text : List ℕ) → S.left input.old ≡ Some text → HasRunFault RunTarget.Scenario text
         → (result ≢ DONE) × (result ≢ LINK_FAILED) × (result ≢ FABRIC_FAILED) × (fabric.new ≡ fabric.old) }
-    ensures cut_short { (result ≡ NO_MEMORY) ⊎ (result ≡ OUTPUT_FAILED) → StopsRun C.Clock F.L.Link F.pair clock.now
-        (F.back fabric.old) (F.back fabric.new) Running.Scenario (S.left input.old) (S.left input.new)
+    ensures cut_short { (result ≡ NO_MEMORY) ⊎ (result ≡ OUTPUT_FAILED)
+        → HasStoppedRun C.Clock F.L.Link F.pair clock.now
+        (F.back fabric.old) (F.back fabric.new) RunTarget.Scenario (S.left input.old) (S.left input.new)
         (K.written out.old) (K.written out.new) }
-    ensures unopened { result ≡ FABRIC_FAILED → HasPlan Running.Scenario (S.left input.old) × (out.new ≡ out.old) }
+    ensures unopened { result ≡ FABRIC_FAILED → HasPlan RunTarget.Scenario (S.left input.old) × (out.new ≡ out.old) }
     ensures unread { result ≡ INPUT_FAILED → out.new ≡ out.old }
     ensures unrun { (result ≡ FAULTY_INPUT) ⊎ (result ≡ INPUT_FAILED) → fabric.new ≡ fabric.old }
     ensures away { (result ≡ DONE) ⊎ (result ≡ LINK_FAILED) → F.away fabric.new ≡ F.away fabric.old }
-    ensures input_cause { HasCause (result ≡ INPUT_FAILED) (S.faults input.old) (S.faults input.new) }
-    ensures out_cause { HasCause (result ≡ OUTPUT_FAILED) (K.faults out.old) (K.faults out.new) }
-    ensures fabric_cause { HasCause (result ≡ FABRIC_FAILED) (F.faults fabric.old) (F.faults fabric.new) }
+    ensures input_cause { HasCause (result ≡ INPUT_FAILED) (S.failures input.old) (S.failures input.new) }
+    ensures out_cause { HasCause (result ≡ OUTPUT_FAILED) (K.failures out.old) (K.failures out.new) }
+    ensures fabric_cause { HasCause (result ≡ FABRIC_FAILED) (F.failures fabric.old) (F.failures fabric.new) }
 {
     match read_input(alloc, input) {
-        Input::Whole(text) => run_scenario(rt, alloc, &text, out, fabric, clock, gate),
-        Input::TooLong => refuse(alloc, INPUT_LIMIT as u64, b"Input", out),
-        Input::Failed => INPUT_FAILED,
-        Input::Memory => NO_MEMORY,
+        InputResult::Whole(text) => run_scenario(rt, alloc, &text, out, fabric, clock, gate),
+        InputResult::TooLong => write_fault(alloc, MAX_INPUT as u64, b"Input", out),
+        InputResult::Failed => INPUT_FAILED,
+        InputResult::Memory => NO_MEMORY,
     }
 }
 
@@ -191,33 +196,35 @@ fn run_scenario<R: Threads + Wait + Sync, K: Sink, F: Fabric, C: Clock, G: Gate>
 ) -> u8
     ensures statuses { result ≤ FABRIC_FAILED }
     ensures some { (result ≢ NO_COMMAND) × (result ≢ INPUT_FAILED) }
-    ensures done { (left : Option (List ℕ)) → IsInput left text.now → result ≡ DONE → WritesRun C.Clock F.L.Link F.pair
-        clock.now (F.back fabric.old) (F.back fabric.new) false Running.Scenario left
+    ensures done { (left : Option (List ℕ)) → IsInput left text.now → result ≡ DONE
+        → HasWrittenReport C.Clock F.L.Link F.pair
+        clock.now (F.back fabric.old) (F.back fabric.new) false RunTarget.Scenario left
         (K.written out.old) (K.written out.new) }
-    ensures link { (left : Option (List ℕ)) → IsInput left text.now → result ≡ LINK_FAILED → WritesRun C.Clock F.L.Link
-        F.pair clock.now (F.back fabric.old) (F.back fabric.new) true Running.Scenario left
+    ensures link { (left : Option (List ℕ)) → IsInput left text.now → result ≡ LINK_FAILED
+        → HasWrittenReport C.Clock F.L.Link
+        F.pair clock.now (F.back fabric.old) (F.back fabric.new) true RunTarget.Scenario left
         (K.written out.old) (K.written out.new) }
     ensures faulty { (left left' : Option (List ℕ)) → IsInput left text.now → result ≡ FAULTY_INPUT
-        → WritesRefusal Running.Scenario left left' (K.written out.old) (K.written out.new) }
-    ensures refused { (at : Entry) (reason : ScenarioReason) → HasFault text.now at reason
+        → HasWrittenFault RunTarget.Scenario left left' (K.written out.old) (K.written out.new) }
+    ensures refused { (at : FaultyEntry) (reason : ScenarioReason) → HasFault text.now at reason
         → (result ≢ DONE) × (result ≢ LINK_FAILED) × (result ≢ FABRIC_FAILED) × (fabric.new ≡ fabric.old) }
     ensures cut_short { (left left' : Option (List ℕ)) → IsInput left text.now
-        → (result ≡ NO_MEMORY) ⊎ (result ≡ OUTPUT_FAILED) → StopsRun C.Clock F.L.Link F.pair clock.now
-        (F.back fabric.old) (F.back fabric.new) Running.Scenario left left' (K.written out.old) (K.written out.new) }
+        → (result ≡ NO_MEMORY) ⊎ (result ≡ OUTPUT_FAILED) → HasStoppedRun C.Clock F.L.Link F.pair clock.now
+        (F.back fabric.old) (F.back fabric.new) RunTarget.Scenario left left' (K.written out.old) (K.written out.new) }
     ensures unopened { result ≡ FABRIC_FAILED → ((plan : ThePlan) × IsTextOf text.now plan) × (out.new ≡ out.old) }
     ensures unrun { result ≡ FAULTY_INPUT → fabric.new ≡ fabric.old }
     ensures away { (result ≡ DONE) ⊎ (result ≡ LINK_FAILED) → F.away fabric.new ≡ F.away fabric.old }
-    ensures out_cause { HasCause (result ≡ OUTPUT_FAILED) (K.faults out.old) (K.faults out.new) }
-    ensures fabric_cause { HasCause (result ≡ FABRIC_FAILED) (F.faults fabric.old) (F.faults fabric.new) }
+    ensures out_cause { HasCause (result ≡ OUTPUT_FAILED) (K.failures out.old) (K.failures out.new) }
+    ensures fabric_cause { HasCause (result ≡ FABRIC_FAILED) (F.failures fabric.old) (F.failures fabric.new) }
 {
-    a_said_plan_is_sound();
-    one_scenario();
+    parsed_plan_is_valid();
+    scenario_is_unique();
     match read_scenario(alloc, text) {
         Ok(plan) => {
-            let status = run_and_tell(
+            let status = run_and_report(
                 rt,
                 alloc,
-                Running::Scenario,
+                RunTarget::Scenario,
                 &plan,
                 out,
                 fabric,
@@ -228,7 +235,7 @@ fn run_scenario<R: Threads + Wait + Sync, K: Sink, F: Fabric, C: Clock, G: Gate>
             status
         }
         Err(ScenarioFault::At { entry, reason }) => {
-            refuse(alloc, entry.number(), reason.word().as_bytes(), out)
+            write_fault(alloc, entry.number(), reason.word().as_bytes(), out)
         }
         Err(ScenarioFault::Memory) => NO_MEMORY,
     }
@@ -247,26 +254,27 @@ fn run_drill<R: Threads + Wait + Sync, K: Sink, F: Fabric, C: Clock, G: Gate>(
     requires { calls ≤ MAX_CALLS }
     ensures statuses { result ≤ FABRIC_FAILED }
     ensures some { (result ≢ NO_COMMAND) × (result ≢ FAULTY_INPUT) × (result ≢ INPUT_FAILED) }
-    ensures done { (left : Option (List ℕ)) → result ≡ DONE → WritesRun C.Clock F.L.Link F.pair clock.now
-        (F.back fabric.old) (F.back fabric.new) false (Running.Drill calls) left
+    ensures done { (left : Option (List ℕ)) → result ≡ DONE → HasWrittenReport C.Clock F.L.Link F.pair clock.now
+        (F.back fabric.old) (F.back fabric.new) false (RunTarget.Drill calls) left
         (K.written out.old) (K.written out.new) }
-    ensures link { (left : Option (List ℕ)) → result ≡ LINK_FAILED → WritesRun C.Clock F.L.Link F.pair clock.now
-        (F.back fabric.old) (F.back fabric.new) true (Running.Drill calls) left
+    ensures link { (left : Option (List ℕ)) → result ≡ LINK_FAILED → HasWrittenReport C.Clock F.L.Link F.pair clock.now
+        (F.back fabric.old) (F.back fabric.new) true (RunTarget.Drill calls) left
         (K.written out.old) (K.written out.new) }
     ensures cut_short { (left left' : Option (List ℕ)) → (result ≡ NO_MEMORY) ⊎ (result ≡ OUTPUT_FAILED)
-        → StopsRun C.Clock F.L.Link F.pair clock.now (F.back fabric.old) (F.back fabric.new) (Running.Drill calls)
+        → HasStoppedRun C.Clock F.L.Link F.pair clock.now (F.back fabric.old) (F.back fabric.new)
+        (RunTarget.Drill calls)
         left left' (K.written out.old) (K.written out.new) }
     ensures unopened { result ≡ FABRIC_FAILED → out.new ≡ out.old }
     ensures away { (result ≡ DONE) ⊎ (result ≡ LINK_FAILED) → F.away fabric.new ≡ F.away fabric.old }
-    ensures out_cause { HasCause (result ≡ OUTPUT_FAILED) (K.faults out.old) (K.faults out.new) }
-    ensures fabric_cause { HasCause (result ≡ FABRIC_FAILED) (F.faults fabric.old) (F.faults fabric.new) }
+    ensures out_cause { HasCause (result ≡ OUTPUT_FAILED) (K.failures out.old) (K.failures out.new) }
+    ensures fabric_cause { HasCause (result ≡ FABRIC_FAILED) (F.failures fabric.old) (F.failures fabric.new) }
 {
     match drill_plan(alloc, calls) {
         Ok(plan) => {
-            let status = run_and_tell(
+            let status = run_and_report(
                 rt,
                 alloc,
-                Running::Drill(calls),
+                RunTarget::Drill(calls),
                 &plan,
                 out,
                 fabric,
@@ -281,10 +289,10 @@ fn run_drill<R: Threads + Wait + Sync, K: Sink, F: Fabric, C: Clock, G: Gate>(
 }
 
 // Runs a plan, and writes its report.
-fn run_and_tell<R: Threads + Wait + Sync, K: Sink, F: Fabric, C: Clock, G: Gate>(
+fn run_and_report<R: Threads + Wait + Sync, K: Sink, F: Fabric, C: Clock, G: Gate>(
     rt: &R,
     alloc: Global,
-    running: Running,
+    running: RunTarget,
     plan: &Plan,
     out: &mut K,
     fabric: &mut F,
@@ -294,35 +302,36 @@ fn run_and_tell<R: Threads + Wait + Sync, K: Sink, F: Fabric, C: Clock, G: Gate>
     requires plan { IsPlan plan.now }
     ensures statuses { result ≤ FABRIC_FAILED }
     ensures some { (result ≢ NO_COMMAND) × (result ≢ FAULTY_INPUT) × (result ≢ INPUT_FAILED) }
-    ensures done { (left : Option (List ℕ)) → IsPlanOf running left plan.now → result ≡ DONE → WritesRun C.Clock
+    ensures done { (left : Option (List ℕ)) → IsPlanOf running left plan.now → result ≡ DONE → HasWrittenReport C.Clock
         F.L.Link F.pair clock.now (F.back fabric.old) (F.back fabric.new) false running left
         (K.written out.old) (K.written out.new) }
-    ensures link { (left : Option (List ℕ)) → IsPlanOf running left plan.now → result ≡ LINK_FAILED → WritesRun C.Clock
+    ensures link { (left : Option (List ℕ)) → IsPlanOf running left plan.now → result ≡ LINK_FAILED
+        → HasWrittenReport C.Clock
         F.L.Link F.pair clock.now (F.back fabric.old) (F.back fabric.new) true running left
         (K.written out.old) (K.written out.new) }
     ensures cut_short { (left left' : Option (List ℕ)) → IsPlanOf running left plan.now
-        → (result ≡ NO_MEMORY) ⊎ (result ≡ OUTPUT_FAILED) → StopsRun C.Clock F.L.Link F.pair clock.now
+        → (result ≡ NO_MEMORY) ⊎ (result ≡ OUTPUT_FAILED) → HasStoppedRun C.Clock F.L.Link F.pair clock.now
         (F.back fabric.old) (F.back fabric.new) running left left' (K.written out.old) (K.written out.new) }
     ensures unopened { result ≡ FABRIC_FAILED → out.new ≡ out.old }
     ensures away { (result ≡ DONE) ⊎ (result ≡ LINK_FAILED) → F.away fabric.new ≡ F.away fabric.old }
-    ensures out_cause { HasCause (result ≡ OUTPUT_FAILED) (K.faults out.old) (K.faults out.new) }
-    ensures fabric_cause { HasCause (result ≡ FABRIC_FAILED) (F.faults fabric.old) (F.faults fabric.new) }
+    ensures out_cause { HasCause (result ≡ OUTPUT_FAILED) (K.failures out.old) (K.failures out.new) }
+    ensures fabric_cause { HasCause (result ≡ FABRIC_FAILED) (F.failures fabric.old) (F.failures fabric.new) }
 {
     totals_are_counts();
     drills_add_up::<C, F::L>();
     drills_are_bound::<C, F::L>();
     match running {
-        Running::Scenario => match serve_plan(rt, alloc, plan, fabric, clock, gate) {
+        RunTarget::Scenario => match serve_plan(rt, alloc, plan, fabric, clock, gate) {
             Ok(run) => {
-                let status = tell_run(&run, out);
+                let status = write_report(&run, out);
                 discard(run);
                 status
             }
             Err(fault) => status_of(fault),
         },
-        Running::Drill(calls) => match count_plan(rt, alloc, plan, fabric, clock, gate) {
+        RunTarget::Drill(calls) => match count_plan(rt, alloc, plan, fabric, clock, gate) {
             Ok(counted) => {
-                let status = tell_counts(alloc, calls, &counted, out);
+                let status = write_drill_line(alloc, calls, &counted, out);
                 discard(counted);
                 status
             }
@@ -332,7 +341,7 @@ fn run_and_tell<R: Threads + Wait + Sync, K: Sink, F: Fabric, C: Clock, G: Gate>
 }
 
 // Writes the report of a run.
-fn tell_run<K: Sink>(run: &Run, out: &mut K) -> u8
+fn write_report<K: Sink>(run: &RunReport, out: &mut K) -> u8
     ensures statuses { result ≤ WIRE_FAILED }
     ensures some { (result ≢ NO_COMMAND) × (result ≢ FAULTY_INPUT) × (result ≢ INPUT_FAILED) }
     ensures memory { result ≢ NO_MEMORY }
@@ -341,27 +350,27 @@ fn tell_run<K: Sink>(run: &Run, out: &mut K) -> u8
     ensures link { result ≡ LINK_FAILED → (run.now.failed ≡ true)
         × Appends (K.written out.old) (K.written out.new) (concat run.now.parts.items) }
     ensures front { result ≡ OUTPUT_FAILED
-        → WritesFront (K.written out.old) (K.written out.new) (concat run.now.parts.items) }
-    ensures cause { HasCause (result ≡ OUTPUT_FAILED) (K.faults out.old) (K.faults out.new) }
+        → HasWrittenPrefix (K.written out.old) (K.written out.new) (concat run.now.parts.items) }
+    ensures cause { HasCause (result ≡ OUTPUT_FAILED) (K.failures out.old) (K.failures out.new) }
 {
-    told(write_parts(out, run.parts.as_slice()), run.failed)
+    report_status(write_parts(out, run.parts.as_slice()), run.failed)
 }
 
 // Writes the line of a drill.
-fn tell_counts<K: Sink>(alloc: Global, calls: u64, counted: &Counted, out: &mut K) -> u8
+fn write_drill_line<K: Sink>(alloc: Global, calls: u64, counted: &RunCounts, out: &mut K) -> u8
     ensures statuses { result ≤ WIRE_FAILED }
     ensures some { (result ≢ NO_COMMAND) × (result ≢ FAULTY_INPUT) × (result ≢ INPUT_FAILED) }
     ensures done { result ≡ DONE → (counted.now.failed ≡ false)
-        × WritesLine calls counted.now.totals (K.written out.old) (K.written out.new) }
+        × HasWrittenLine calls counted.now.totals (K.written out.old) (K.written out.new) }
     ensures link { result ≡ LINK_FAILED → (counted.now.failed ≡ true)
-        × WritesLine calls counted.now.totals (K.written out.old) (K.written out.new) }
+        × HasWrittenLine calls counted.now.totals (K.written out.old) (K.written out.new) }
     ensures front { result ≡ OUTPUT_FAILED
-        → WritesLineFront calls counted.now.totals (K.written out.old) (K.written out.new) }
+        → HasWrittenLinePrefix calls counted.now.totals (K.written out.old) (K.written out.new) }
     ensures silent { result ≡ NO_MEMORY → out.new ≡ out.old }
-    ensures cause { HasCause (result ≡ OUTPUT_FAILED) (K.faults out.old) (K.faults out.new) }
+    ensures cause { HasCause (result ≡ OUTPUT_FAILED) (K.failures out.old) (K.failures out.new) }
 {
     match drill_line(alloc, calls, &counted.totals) {
-        Ok(line) => told(write_all(out, line.as_slice()), counted.failed),
+        Ok(line) => report_status(write_all(out, line.as_slice()), counted.failed),
         Err(Memory) => NO_MEMORY,
     }
 }
@@ -401,8 +410,8 @@ fn append_count(line: &mut Bytes, word: &[u8], count: u64) -> Result<(), Memory>
 // Writes the parts of a report in order, and returns whether the sink took them.
 fn write_parts<K: Sink>(out: &mut K, parts: &[Bytes]) -> bool
     ensures done { IsTrue result → Appends (K.written out.old) (K.written out.new) (concat parts.now) }
-    ensures front { result ≡ false → WritesFront (K.written out.old) (K.written out.new) (concat parts.now) }
-    ensures cause { HasCause (result ≡ false) (K.faults out.old) (K.faults out.new) }
+    ensures front { result ≡ false → HasWrittenPrefix (K.written out.old) (K.written out.new) (concat parts.now) }
+    ensures cause { HasCause (result ≡ false) (K.failures out.old) (K.failures out.new) }
 {
     for part in parts {
         if !write_all(out, part.as_slice()) {
@@ -413,7 +422,7 @@ fn write_parts<K: Sink>(out: &mut K, parts: &[Bytes]) -> bool
 }
 
 // The status of a run, given whether its whole report was written and whether a link failed.
-fn told(whole: bool, failed: bool) -> u8
+fn report_status(whole: bool, failed: bool) -> u8
     ensures statuses { (result ≡ DONE) ⊎ ((result ≡ LINK_FAILED) ⊎ (result ≡ OUTPUT_FAILED)) }
     ensures done { result ≡ DONE → (whole ≡ true) × (failed ≡ false) }
     ensures link { result ≡ LINK_FAILED → (whole ≡ true) × (failed ≡ true) }

@@ -1,16 +1,16 @@
 //! The top call: from the words of a command line to their effects.
 
 ghost use Rattle.std.specs.Prelude.{◌≡◌, ◌≢◌, ◌↔◌, ◌⊎◌, ◌≤◌, List, ℕ, Some, true, false};
-ghost use Rattle.mrpc_base.specs.Faults.{HasCause, Rose};
-ghost use Rattle.mrpc_top.specs.Command.{HasFault, IsBroken, IsCommand, IsCutShort, IsDone, IsRefused, IsReplay, Names};
-ghost use Rattle.mrpc_top.specs.Runs.{HasPlan, HasRunFault, IsRunning, NamesRun, StopsRun, WritesRefusal, WritesRun};
+ghost use Rattle.mrpc_base.specs.Failures.{HasCause, HasRisen};
+ghost use Rattle.mrpc_top.specs.Command.{HasInputFault, IsFailedReplay, IsCommand, IsCutShort, IsSuccess, IsRejected, IsReplay, IsNamedCommand};
+ghost use Rattle.mrpc_top.specs.Runs.{HasPlan, HasRunFault, IsRunCommand, IsNamedRun, HasStoppedRun, HasWrittenFault, HasWrittenReport};
 ghost use Rattle.mrpc_top.specs.declared.command.Command.{Command};
 ghost use Rattle.mrpc_top.specs.declared.command.Command.TheVariants.{Replay};
-ghost use Rattle.mrpc_top.specs.declared.run.Running.{Running};
-ghost use Rattle.mrpc_top.specs.declared.run.Running.TheVariants.{Drill};
+ghost use Rattle.mrpc_top.specs.declared.run.RunTarget.{RunTarget};
+ghost use Rattle.mrpc_top.specs.declared.run.RunTarget.TheVariants.{Drill};
 
 use crate::command::run_still;
-use crate::run::{FABRIC_FAILED, LINK_FAILED, run_named, running_of};
+use crate::run::{FABRIC_FAILED, LINK_FAILED, run_named, run_target_of};
 use mrpc_base::{Clock, Fabric, Gate, Sink, Source};
 use std::alloc::Global;
 use std::sync::Wait;
@@ -46,76 +46,82 @@ pub fn run_command<
     ensures statuses { result ≤ FABRIC_FAILED }
 
     // Which words are a command. For all others nothing is read or written.
-    ensures words { (result ≡ NO_COMMAND) ↔ ((IsCommand words.now.items ⊎ IsRunning words.now.items) → ⊥) }
+    ensures words { (result ≡ NO_COMMAND) ↔ ((IsCommand words.now.items ⊎ IsRunCommand words.now.items) → ⊥) }
     ensures untouched { result ≡ NO_COMMAND → (input.new ≡ input.old) × (out.new ≡ out.old) × (wire.new ≡ wire.old) }
 
     // A command that runs no connections: its input is valid or has a fault, and its result was written.
-    ensures done { (command : Command) → Names words.now.items command → result ≡ DONE → IsDone command
+    ensures done { (command : Command) → IsNamedCommand words.now.items command → result ≡ DONE → IsSuccess command
         (S.left input.old) (K.written out.old) (K.written out.new) (W.written wire.old) (W.written wire.new) }
-    ensures faulty { (command : Command) → Names words.now.items command → result ≡ FAULTY_INPUT → IsRefused command
+    ensures faulty { (command : Command) → IsNamedCommand words.now.items command → result ≡ FAULTY_INPUT
+        → IsRejected command
         (S.left input.old) (S.left input.new) (K.written out.old) (K.written out.new) }
-    ensures refused { (command : Command) (text : List ℕ) → Names words.now.items command → S.left input.old ≡ Some text
-        → HasFault command text → (result ≢ DONE) × (result ≢ WIRE_FAILED) }
+    ensures refused { (command : Command) (text : List ℕ) → IsNamedCommand words.now.items command
+        → S.left input.old ≡ Some text
+        → HasInputFault command text → (result ≢ DONE) × (result ≢ WIRE_FAILED) }
 
     // An input of such a command without a fault is worked on, unless a device fails or it runs out of
     // memory.
-    ensures complete { (command : Command) (text : List ℕ) → Names words.now.items command
-        → S.left input.old ≡ Some text → (HasFault command text → ⊥)
-        → (Rose (S.faults input.old) (S.faults input.new) → ⊥) → (Rose (K.faults out.old) (K.faults out.new) → ⊥)
-        → (Rose (W.faults wire.old) (W.faults wire.new) → ⊥) → (result ≡ DONE) ⊎ (result ≡ NO_MEMORY) }
+    ensures complete { (command : Command) (text : List ℕ) → IsNamedCommand words.now.items command
+        → S.left input.old ≡ Some text → (HasInputFault command text → ⊥)
+        → (HasRisen (S.failures input.old) (S.failures input.new) → ⊥)
+        → (HasRisen (K.failures out.old) (K.failures out.new) → ⊥)
+        → (HasRisen (W.failures wire.old) (W.failures wire.new) → ⊥) → (result ≡ DONE) ⊎ (result ≡ NO_MEMORY) }
 
     // Only a replay sends frames on the wire, and none for an input that has a fault.
     ensures unsent { (result ≡ FAULTY_INPUT) ⊎ (IsReplay words.now.items → ⊥) → wire.new ≡ wire.old }
     ensures sound_alone { (text : List ℕ) → IsReplay words.now.items → S.left input.old ≡ Some text
-        → HasFault Replay text → wire.new ≡ wire.old }
-    ensures broken { IsCommand words.now.items → result ≡ WIRE_FAILED → IsReplay words.now.items × IsBroken
+        → HasInputFault Replay text → wire.new ≡ wire.old }
+    ensures broken { IsCommand words.now.items → result ≡ WIRE_FAILED → IsReplay words.now.items × IsFailedReplay
         (S.left input.old) (K.written out.old) (K.written out.new) (W.written wire.old) (W.written wire.new) }
 
     // If a command ends early, because it is out of memory or the output failed, its output is a prefix of
     // what it may write.
-    ensures cut_short { (command : Command) → Names words.now.items command
+    ensures cut_short { (command : Command) → IsNamedCommand words.now.items command
         → (result ≡ NO_MEMORY) ⊎ (result ≡ OUTPUT_FAILED) → IsCutShort command (S.left input.old) (S.left input.new)
         (K.written out.old) (K.written out.new) (W.written wire.old) (W.written wire.new) }
 
     // The run did what a run does, and wrote its report: at `DONE` no link failed, at `LINK_FAILED` one did.
-    ensures ran { (running : Running) → NamesRun words.now.items running → result ≡ DONE → WritesRun C.Clock F.L.Link
+    ensures ran { (running : RunTarget) → IsNamedRun words.now.items running → result ≡ DONE
+        → HasWrittenReport C.Clock F.L.Link
         F.pair clock.now (F.back fabric.old) (F.back fabric.new) false running (S.left input.old)
         (K.written out.old) (K.written out.new) }
-    ensures ran_on { (running : Running) → NamesRun words.now.items running → result ≡ LINK_FAILED → WritesRun C.Clock
+    ensures ran_on { (running : RunTarget) → IsNamedRun words.now.items running → result ≡ LINK_FAILED
+        → HasWrittenReport C.Clock
         F.L.Link F.pair clock.now (F.back fabric.old) (F.back fabric.new) true running (S.left input.old)
         (K.written out.old) (K.written out.new) }
     // An input that has a fault isn't run, and only its first fault is written.
-    ensures not_run { (running : Running) → NamesRun words.now.items running → result ≡ FAULTY_INPUT
-        → WritesRefusal running (S.left input.old) (S.left input.new) (K.written out.old) (K.written out.new) }
-    ensures never_run { (running : Running) (text : List ℕ) → NamesRun words.now.items running
+    ensures not_run { (running : RunTarget) → IsNamedRun words.now.items running → result ≡ FAULTY_INPUT
+        → HasWrittenFault running (S.left input.old) (S.left input.new) (K.written out.old) (K.written out.new) }
+    ensures never_run { (running : RunTarget) (text : List ℕ) → IsNamedRun words.now.items running
         → S.left input.old ≡ Some text → HasRunFault running text
         → (result ≢ DONE) × (result ≢ LINK_FAILED) × (result ≢ FABRIC_FAILED) × (fabric.new ≡ fabric.old) }
     // If a run ends early, its output is a prefix of what it may write.
-    ensures stopped { (running : Running) → NamesRun words.now.items running
-        → (result ≡ NO_MEMORY) ⊎ (result ≡ OUTPUT_FAILED) → StopsRun C.Clock F.L.Link F.pair clock.now
+    ensures stopped { (running : RunTarget) → IsNamedRun words.now.items running
+        → (result ≡ NO_MEMORY) ⊎ (result ≡ OUTPUT_FAILED) → HasStoppedRun C.Clock F.L.Link F.pair clock.now
         (F.back fabric.old) (F.back fabric.new) running (S.left input.old) (S.left input.new)
         (K.written out.old) (K.written out.new) }
     // If a link couldn't be opened, nothing is written.
-    ensures unopened { (running : Running) → NamesRun words.now.items running → result ≡ FABRIC_FAILED
+    ensures unopened { (running : RunTarget) → IsNamedRun words.now.items running → result ≡ FABRIC_FAILED
         → HasPlan running (S.left input.old) × (out.new ≡ out.old) }
-    ensures drilled { (calls : ℕ) → NamesRun words.now.items (Drill calls) → input.new ≡ input.old }
+    ensures drilled { (calls : ℕ) → IsNamedRun words.now.items (Drill calls) → input.new ≡ input.old }
 
     // Only a run touches the fabric, and only if its input has no fault. A run that ended returned all links
     // that it opened.
-    ensures unrun { ((result ≡ FAULTY_INPUT) ⊎ (result ≡ INPUT_FAILED)) ⊎ (IsRunning words.now.items → ⊥)
+    ensures unrun { ((result ≡ FAULTY_INPUT) ⊎ (result ≡ INPUT_FAILED)) ⊎ (IsRunCommand words.now.items → ⊥)
         → fabric.new ≡ fabric.old }
     ensures away { (result ≡ DONE) ⊎ (result ≡ LINK_FAILED) → F.away fabric.new ≡ F.away fabric.old }
 
     // Each device's failure has its own status.
-    ensures input_cause { HasCause (result ≡ INPUT_FAILED) (S.faults input.old) (S.faults input.new) }
-    ensures out_cause { HasCause (result ≡ OUTPUT_FAILED) (K.faults out.old) (K.faults out.new) }
-    ensures wire_rose { IsCommand words.now.items → result ≡ WIRE_FAILED → Rose (W.faults wire.old) (W.faults wire.new) }
-    ensures wire_same { result ≡ DONE → W.faults wire.new ≡ W.faults wire.old }
-    ensures wire_never_falls { W.faults wire.old ≤ W.faults wire.new }
-    ensures fabric_cause { HasCause (result ≡ FABRIC_FAILED) (F.faults fabric.old) (F.faults fabric.new) }
+    ensures input_cause { HasCause (result ≡ INPUT_FAILED) (S.failures input.old) (S.failures input.new) }
+    ensures out_cause { HasCause (result ≡ OUTPUT_FAILED) (K.failures out.old) (K.failures out.new) }
+    ensures wire_rose { IsCommand words.now.items → result ≡ WIRE_FAILED
+        → HasRisen (W.failures wire.old) (W.failures wire.new) }
+    ensures wire_same { result ≡ DONE → W.failures wire.new ≡ W.failures wire.old }
+    ensures wire_never_falls { W.failures wire.old ≤ W.failures wire.new }
+    ensures fabric_cause { HasCause (result ≡ FABRIC_FAILED) (F.failures fabric.old) (F.failures fabric.new) }
     ensures unread { result ≡ INPUT_FAILED → (out.new ≡ out.old) × (wire.new ≡ wire.old) }
 {
-    match running_of(words) {
+    match run_target_of(words) {
         Some(running) => run_named(rt, alloc, running, input, out, fabric, clock, gate),
         None => run_still(alloc, words, input, out, wire),
     }

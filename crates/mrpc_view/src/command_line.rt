@@ -1,7 +1,7 @@
 //! The words of the command line.
 
 ghost use Rattle.std.specs.Prelude.{◌≡◌, ◌↔◌, IsSome};
-ghost use Rattle.mrpc_view.specs.CommandLine.{Asks, AsksAlone};
+ghost use Rattle.mrpc_view.specs.CommandLine.{IsProgramOption, IsLoneProgramOption};
 
 use std::env;
 use std::env::Env;
@@ -9,7 +9,7 @@ use std::io::ErrorKind;
 
 // What a command line asks of the program itself.
 #[derive(Clone, Copy)]
-pub(crate) enum Asked {
+pub(crate) enum ProgramOption {
     // The usage text.
     Help,
     // The version.
@@ -43,23 +43,23 @@ pub(crate) fn words<R: Env + AllocGlobal>(rt: &R) -> Result<Vec<String>, WordsFa
 }
 
 // What a command line with only `--help` or `--version` asks for; `None` for any other.
-pub(crate) fn asked_alone(words: &[String]) -> Option<Asked>
-    ensures asked { IsSome result ↔ AsksAlone words.now }
+pub(crate) fn lone_option(words: &[String]) -> Option<ProgramOption>
+    ensures asked { IsSome result ↔ IsLoneProgramOption words.now }
 {
     match words {
-        [word] => asked_by(word.as_str()),
+        [word] => option_of(word.as_str()),
         _ => None,
     }
 }
 
 // What the word asks for.
-fn asked_by(word: &str) -> Option<Asked>
-    ensures { IsSome result ↔ Asks word.now }
+fn option_of(word: &str) -> Option<ProgramOption>
+    ensures { IsSome result ↔ IsProgramOption word.now }
 {
     if word == "--help" {
-        Some(Asked::Help)
+        Some(ProgramOption::Help)
     } else if word == "--version" {
-        Some(Asked::Version)
+        Some(ProgramOption::Version)
     } else {
         None
     }

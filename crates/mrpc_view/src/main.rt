@@ -7,7 +7,7 @@
 mod command_line;
 mod usage;
 
-use command_line::{Asked, WordsFault, asked_alone, words};
+use command_line::{ProgramOption, WordsFault, lone_option, words};
 use mrpc_base::{Sink, Source, write_all};
 use std::alloc::Global;
 use std::env::Env;
@@ -42,7 +42,7 @@ where
         Err(WordsFault::NotText) => return NO_COMMAND,
         Err(WordsFault::Memory) => return NO_MEMORY,
     };
-    if let Some(asked) = asked_alone(&words) {
+    if let Some(asked) = lone_option(&words) {
         return answer(rt.alloc(), asked, out);
     }
     let status = run_view(rt.alloc(), &words, input, out, error);
@@ -53,10 +53,10 @@ where
 }
 
 // Writes what the command line asks of the program itself, and returns the status.
-fn answer<K: Sink>(alloc: Global, asked: Asked, out: &mut K) -> u8 {
+fn answer<K: Sink>(alloc: Global, asked: ProgramOption, out: &mut K) -> u8 {
     let written = match asked {
-        Asked::Version => write_all(out, VERSION.as_bytes()),
-        Asked::Help => match usage(alloc) {
+        ProgramOption::Version => write_all(out, VERSION.as_bytes()),
+        ProgramOption::Help => match usage(alloc) {
             Ok(text) => write_all(out, text.as_bytes()),
             Err(_) => return NO_MEMORY,
         },

@@ -9,15 +9,15 @@ use Rattle.proto_ast.specs.declared.file.EnumDecl.{EnumDecl}
 use Rattle.proto_ast.specs.declared.file.RpcDecl.{RpcDecl}
 use Rattle.proto_ast.specs.declared.file.ServiceDecl.{ServiceDecl}
 use Rattle.proto_ast.specs.declared.joined.Head.{Head}
-use Rattle.proto_ast.specs.declared.joined.Home.{Home}
-use Rattle.proto_ast.specs.declared.joined.Home.TheVariants as home
-use Rattle.proto_ast.specs.Joined.{Joined, home_in, package_at, package_in}
+use Rattle.proto_ast.specs.declared.joined.Enclosing.{Enclosing}
+use Rattle.proto_ast.specs.declared.joined.Enclosing.TheVariants as home
+use Rattle.proto_ast.specs.Joined.{Joined, enclosing_in, package_at, package_in}
 use Rattle.schema_symbols.specs.Scopes
 use Rattle.mrpc_table.specs.declared.limits.TheConstants.{MAX_FULL_NAME}
-use Rattle.schema_symbols.specs.Scopes.{text_of, IsScope, of_file, of_message, Sort, Declares, IsFront}
+use Rattle.schema_symbols.specs.Scopes.{text_of, IsScope, of_file, of_message, DeclKind, IsDeclarationOf, IsPackagePrefix}
 use Rattle.schema_validation.specs.Methods.{rpcs_of}
-use Rattle.schema_validation.specs.Offences
-use Rattle.schema_validation.specs.Offences.{IsTwice, IsLongInFull}
+use Rattle.schema_validation.specs.Violations
+use Rattle.schema_validation.specs.Violations.{IsDuplicate, IsLongInFull}
 use Rattle.package_laws.proofs.Lists.{in_list, at_in, none_at}
 
 -- ---- the same declaration, in another file
@@ -80,16 +80,16 @@ pub record AreAlike (J K : Joined) : Type 0 where
 
 -- ---- scopes
 
-pub data HomesAlike (J K : Joined) : Home → Home → Type 0 where
+pub data HomesAlike (J K : Joined) : Enclosing → Enclosing → Type 0 where
   files : (j k : ℕ) → j < length J.heads → k < length K.heads → HomesAlike J K (home.File j) (home.File k)
   message : (i : ℕ) → HomesAlike J K (home.Message i) (home.Message i)
 
 pub homes_alike : {J K : Joined} (j k : ℕ) (p : Option ℕ) → j < length J.heads → k < length K.heads
-    → HomesAlike J K (home_in j p) (home_in k p)
+    → HomesAlike J K (enclosing_in j p) (enclosing_in k p)
 homes_alike j k None l n = files j k l n
 homes_alike j k (Some i) l n = message i
 
-pub scope_alike : {J K : Joined} {h g : Home} {s : List (List ℕ)} → AreAlike J K → IsScope J h s → HomesAlike J K h g
+pub scope_alike : {J K : Joined} {h g : Enclosing} {s : List (List ℕ)} → AreAlike J K → IsScope J h s → HomesAlike J K h g
     → IsScope K g s
 scope_alike {J} {K} a (of_file j) (files j' k l n) =
     subst (λ (s : List (List ℕ)). IsScope K (home.File k) s) (sym (a.packages j k l n)) (of_file k)
@@ -103,8 +103,8 @@ message_scope_alike {i} a up = scope_alike a up (message i)
 
 -- ---- declarations
 
-pub declares_alike : {J K : Joined} {j : ℕ} {sort : Sort} {full : List (List ℕ)} {span : Span} → AreAlike J K
-    → Declares J j sort full span → (k : ℕ) × Declares K k sort full span
+pub declares_alike : {J K : Joined} {j : ℕ} {sort : DeclKind} {full : List (List ℕ)} {span : Span} → AreAlike J K
+    → IsDeclarationOf J j sort full span → (k : ℕ) × IsDeclarationOf K k sort full span
 declares_alike {J} {K} a (Scopes.message m c up) =
     let t = a.messages c.0 m (at_in J.messages m c) in
     let u = scope_alike a up (homes_alike m.file t.file m.parent t.own t.there) in
@@ -119,7 +119,7 @@ declares_alike {J} {K} {span} a (Scopes.service s c) =
     let t = a.services c.0 s (at_in J.services s c) in
     let n = service_with t.file s in (
       t.file,
-      subst (λ (p : List (List ℕ)). Declares K t.file Scopes.no_type (p ++ s.name.name ∷ []) s.name.span)
+      subst (λ (p : List (List ℕ)). IsDeclarationOf K t.file Scopes.no_type (p ++ s.name.name ∷ []) s.name.span)
           (sym (a.packages s.file t.file t.own t.there)) (Scopes.service n (in_list K.services c.0 n t.at)),
     )
 declares_alike {J} {K} a (Scopes.value e v c d up) =
@@ -139,8 +139,8 @@ declares_alike {J} {K} a (Scopes.oneof m o c d up) =
     (t.file, Scopes.oneof n o (in_list K.messages c.0 n t.at) d u)
 
 -- a declaration is in a file that exists
-pub declared_in : {J K : Joined} {j : ℕ} {sort : Sort} {full : List (List ℕ)} {span : Span} → AreAlike J K
-    → Declares J j sort full span → j < length J.heads
+pub declared_in : {J K : Joined} {j : ℕ} {sort : DeclKind} {full : List (List ℕ)} {span : Span} → AreAlike J K
+    → IsDeclarationOf J j sort full span → j < length J.heads
 declared_in {J} a (Scopes.message m c up) = (a.messages c.0 m (at_in J.messages m c)).own
 declared_in {J} a (Scopes.enum e c up) = (a.enums c.0 e (at_in J.enums e c)).own
 declared_in {J} a (Scopes.service s c) = (a.services c.0 s (at_in J.services s c)).own
@@ -153,7 +153,7 @@ declared_in {J} a (Scopes.oneof m o c d up) = (a.messages c.0 m (at_in J.message
 no_package : (J : Joined) (k : ℕ) → length J.heads ≤ k → package_at J k ≡ []
 no_package J k l = ap package_in (none_at J.heads k l)
 
-pub front_alike : {J K : Joined} {full : List (List ℕ)} → AreAlike J K → IsFront J full → IsFront K full
+pub front_alike : {J K : Joined} {full : List (List ℕ)} → AreAlike J K → IsPackagePrefix J full → IsPackagePrefix K full
 front_alike {J} {K} {full} a front = elim (cases_lt front.file (length J.heads)) [
   | inl there ↦ record {
     file = 0;
@@ -167,27 +167,27 @@ front_alike {J} {K} {full} a front = elim (cases_lt front.file (length J.heads))
   }
 ]
 
-pub twice_alike : {J K : Joined} {span : Span} → AreAlike J K → IsTwice J span → IsTwice K span
-twice_alike a (Offences.declared j k x y full earlier d e l) =
+pub twice_alike : {J K : Joined} {span : Span} → AreAlike J K → IsDuplicate J span → IsDuplicate K span
+twice_alike a (Violations.declared j k x y full earlier d e l) =
     let u = declares_alike a d in
     let v = declares_alike a e in
-    Offences.declared u.0 v.0 x y full earlier u.1 v.1 l
-twice_alike a (Offences.a_package k sort full d typ front) =
+    Violations.declared u.0 v.0 x y full earlier u.1 v.1 l
+twice_alike a (Violations.a_package k sort full d typ front) =
     let u = declares_alike a d in
-    Offences.a_package u.0 sort full u.1 typ (front_alike a front)
-twice_alike {J} {K} a (Offences.two_rpcs s r x c d e same l is) =
+    Violations.a_package u.0 sort full u.1 typ (front_alike a front)
+twice_alike {J} {K} a (Violations.two_rpcs s r x c d e same l is) =
     let t = a.services c.0 s (at_in J.services s c) in
     let n = service_with t.file s in
-    Offences.two_rpcs n r x (in_list K.services c.0 n t.at) d e same l is
+    Violations.two_rpcs n r x (in_list K.services c.0 n t.at) d e same l is
 
 pub long_alike : {J K : Joined} {span : Span} → AreAlike J K → IsLongInFull J span → IsLongInFull K span
-long_alike a (Offences.a_type k sort full d typ long) =
+long_alike a (Violations.a_type k sort full d typ long) =
     let u = declares_alike a d in
-    Offences.a_type u.0 sort full u.1 typ long
-long_alike {J} {K} {span} a (Offences.a_service s c long is) =
+    Violations.a_type u.0 sort full u.1 typ long
+long_alike {J} {K} {span} a (Violations.a_service s c long is) =
     let t = a.services c.0 s (at_in J.services s c) in
     let n = service_with t.file s in
-    Offences.a_service n (in_list K.services c.0 n t.at)
+    Violations.a_service n (in_list K.services c.0 n t.at)
     (subst (λ (p : List (List ℕ)). MAX_FULL_NAME < length (text_of (p ++ s.name.name ∷ [])))
     (a.packages s.file t.file t.own t.there) long)
     is

@@ -4,7 +4,7 @@ use Rattle.std.specs.Prelude.{Contains, slice_get}
 use Rattle.std.specs.Option.{option_map}
 use Rattle.std.proofs.lemmas.Option.{slice_get_within, get_or_from_slice_get, same_Some, none-some, slice_get_read, slice_get-map}
 use Rattle.std.proofs.lemmas.List.{length-append}
-use Rattle.schema_validation.specs.Those.{AreThoseInOrder, none, next}
+use Rattle.schema_validation.specs.Correspondence.{AreCorrespondingInOrder, none, next}
 
 -- ---- elements
 
@@ -39,9 +39,9 @@ mapped_to f xs i x e = slice_get-map f xs i ∙ ap (option_map f) e
 
 -- one list may be replaced by another of the same length, if its elements correspond one by one
 pub exchanged : {X Z Y : Type 0} (R : X → Y → Type 0) (S : Z → Y → Type 0) {xs : List X} {ys : List Y} (zs : List Z)
-    → AreThoseInOrder R xs ys → length zs ≡ length xs
+    → AreCorrespondingInOrder R xs ys → length zs ≡ length xs
     → ((i : ℕ) (x : X) (z : Z) → slice_get xs i ≡ Some x → slice_get zs i ≡ Some z → (y : Y) → R x y → S z y)
-    → AreThoseInOrder S zs ys
+    → AreCorrespondingInOrder S zs ys
 exchanged R S [] none l change = none
 exchanged R S (z ∷ zs) none l change = absurd (omega arith)
 exchanged R S [] (next r rest) l change = absurd (omega arith)

@@ -8,12 +8,12 @@ use Rattle.proto_ast.specs.declared.file.Span.{Span}
 use Rattle.proto_ast.specs.declared.file.Import.{Import}
 use Rattle.proto_ast.specs.declared.file.File.{File}
 use Rattle.proto_ast.specs.Joined.{Joined, alone, package_at}
-use Rattle.schema_validation.specs.Offences
-use Rattle.schema_validation.specs.Offences.{IsTwice, IsOffence}
+use Rattle.schema_validation.specs.Violations
+use Rattle.schema_validation.specs.Violations.{IsDuplicate, IsFileViolation}
 use Rattle.schema_validation.specs.declared.reason.ResolveReason.{ResolveReason}
 use Rattle.schema_validation.specs.declared.reason.ResolveReason.TheVariants.{DuplicateName}
-use Rattle.schema_resolve.specs.Resolving.{IsClean, Resolves, ResolvesTogether}
-use Rattle.package_laws.specs.OnePackage.{Refers, of_field, of_rpc, IsOnePackage}
+use Rattle.schema_resolve.specs.Resolving.{HasNoViolation, Resolves, AreResolvedTogether}
+use Rattle.package_laws.specs.OnePackage.{IsReferenceIn, of_field, of_rpc, IsOnePackage}
 use Rattle.package_laws.proofs.Lists.{at_in}
 use Rattle.package_laws.proofs.Alike.{message_with, service_with, AreAlike, message_scope_alike, twice_alike}
 use Rattle.package_laws.proofs.Judged.{NamesSame}
@@ -22,7 +22,7 @@ use Rattle.package_laws.proofs.OneFile.{alike_into, alike_back}
 use Rattle.package_laws.proofs.Looking.{names_into, names_back}
 
 module _ (F : Joined) (G : File) (formed : IsFormed F) (ordered : IsOrdered F) (one : IsOnePackage F G)
-    (once : (span : Span) → IsTwice F span → ⊥) where
+    (once : (span : Span) → IsDuplicate F span → ⊥) where
   abbrev A : Joined
   A = alone G
 
@@ -34,14 +34,14 @@ module _ (F : Joined) (G : File) (formed : IsFormed F) (ordered : IsOrdered F) (
 
   -- ---- references
 
-  forth : {file : ℕ} {scope : List (List ℕ)} {name : List ℕ} → Refers F file scope name
+  forth : {file : ℕ} {scope : List (List ℕ)} {name : List ℕ} → IsReferenceIn F file scope name
       → NamesSame F file scope A 0 scope name
   forth refers = record {
     into = λ sort full n. names_into F G formed one ordered once sort full refers n;
     back = λ sort full n. names_back F G formed one sort full refers n;
   }
 
-  homeward : {file : ℕ} {scope : List (List ℕ)} {name : List ℕ} → Refers F file scope name
+  homeward : {file : ℕ} {scope : List (List ℕ)} {name : List ℕ} → IsReferenceIn F file scope name
       → NamesSame A 0 scope F file scope name
   homeward refers = record {
     into = λ sort full n. names_back F G formed one sort full refers n;
@@ -94,16 +94,16 @@ module _ (F : Joined) (G : File) (formed : IsFormed F) (ordered : IsOrdered F) (
 
 -- ---- tables
 
-no_import : {G : File} {q : ResolveReason} {span : Span} → G.imports ≡ [] → IsClean (alone G) → IsOffence G q span → ⊥
-no_import {q} {span} none clean (Offences.offends o) = clean q span o
-no_import none clean (Offences.has_import x at is) =
+no_import : {G : File} {q : ResolveReason} {span : Span} → G.imports ≡ [] → HasNoViolation (alone G) → IsFileViolation G q span → ⊥
+no_import {q} {span} none clean (Violations.offends o) = clean q span o
+no_import none clean (Violations.has_import x at is) =
     none-some x (sym (ap (λ (xs : List Import). slice_get xs 0) none) ∙ at)
 
 pub resolved_alone : (F : Joined) (G : File) (T : Table) → IsFormed F → IsOrdered F → IsOnePackage F G
-    → ResolvesTogether F T → Resolves G T
+    → AreResolvedTogether F T → Resolves G T
 resolved_alone F G T formed ordered one r =
-    let once : (span : Span) → IsTwice F span → ⊥ =
-    λ span t. r.clean DuplicateName span (Offences.twice span t (refl, refl)) in
+    let once : (span : Span) → IsDuplicate F span → ⊥ =
+    λ span t. r.clean DuplicateName span (Violations.twice span t (refl, refl)) in
     let into = alike_into F G one.file formed in
     let back = alike_back F G one.file formed in
     record {
@@ -113,13 +113,13 @@ resolved_alone F G T formed ordered one r =
     }
 
 pub resolved_together : (F : Joined) (G : File) (T : Table) → IsFormed F → IsOrdered F → IsOnePackage F G
-    → Resolves G T → ResolvesTogether F T
+    → Resolves G T → AreResolvedTogether F T
 resolved_together F G T formed ordered one r =
     let into = alike_into F G one.file formed in
     let back = alike_back F G one.file formed in
-    let clean : IsClean (alone G) = λ q span o. r.clean q span (Offences.offends o) in
-    let once : (span : Span) → IsTwice F span → ⊥ =
-    λ span t. clean DuplicateName span (Offences.twice span (twice_alike into t) (refl, refl)) in
+    let clean : HasNoViolation (alone G) = λ q span o. r.clean q span (Violations.offends o) in
+    let once : (span : Span) → IsDuplicate F span → ⊥ =
+    λ span t. clean DuplicateName span (Violations.twice span (twice_alike into t) (refl, refl)) in
     record {
       table = table_alike back into (back_same F G formed ordered one once) r.table;
       clean = clean_alike into (into_same F G formed ordered one once) clean;

@@ -7,7 +7,7 @@ use Rattle.std.proofs.lemmas.Option.{same_Some, none-some}
 use Rattle.std.proofs.lemmas.List.Elements.{All-from_recursion}
 use Rattle.mrpc_table.specs.Names.{parts_of}
 use Rattle.mrpc_table.specs.declared.words.Decimal.TheVariants.{Small}
-use Rattle.proto_ast.specs.Joined.{Joined, Sees, alone, home_of, package_at}
+use Rattle.proto_ast.specs.Joined.{Joined, CanSee, alone, enclosing_of, package_at}
 use Rattle.proto_ast.specs.declared.file.Span.{Span}
 use Rattle.proto_ast.specs.declared.file.Word.{Word}
 use Rattle.proto_ast.specs.declared.file.FieldLabel.TheVariants.{Plain}
@@ -18,10 +18,10 @@ use Rattle.proto_ast.specs.declared.file.RpcDecl.{RpcDecl}
 use Rattle.proto_ast.specs.declared.file.ServiceDecl.{ServiceDecl}
 use Rattle.proto_ast.specs.declared.file.File.{File}
 use Rattle.proto_ast.specs.declared.joined.Head.{Head}
-use Rattle.proto_ast.specs.declared.joined.Home.TheVariants as home
+use Rattle.proto_ast.specs.declared.joined.Enclosing.TheVariants as home
 use Rattle.schema_symbols.specs.Scopes
-use Rattle.schema_symbols.specs.Scopes.{IsScope, Sort, is_type, Declares, Means, absolute, relative}
-use Rattle.package_laws.specs.OnePackage.{IsOneFile, NoTypeIsAPart, FieldRefers, its_type, its_key, its_value, its_outer_key, Refers, of_field, of_rpc, SeesItsTypes, IsOnePackage}
+use Rattle.schema_symbols.specs.Scopes.{IsScope, DeclKind, is_type, IsDeclarationOf, IsMeaningOf, absolute, relative}
+use Rattle.package_laws.specs.OnePackage.{IsOneFile, HasNoTypeNamedAsPart, IsFieldReference, its_type, its_key, its_value, its_outer_key, IsReferenceIn, of_field, of_rpc, CanSeeItsTypes, IsOnePackage}
 use Rattle.package_laws.proofs.Lists.{at_in, last_same}
 use Rattle.package_laws.proofs.Looking.{file_scope}
 
@@ -134,7 +134,7 @@ not_p : (name : List ℕ) → (name ≡ codes "A") ⊎ (name ≡ codes "B") → 
 not_p name (inl e) p = let h : ◌≡◌ {A = ℕ} 112 65 = cc in omega arith
 not_p name (inr e) p = let h : ◌≡◌ {A = ℕ} 112 66 = cc in omega arith
 
-no_type_is_a_part : NoTypeIsAPart both
+no_type_is_a_part : HasNoTypeNamedAsPart both
 no_type_is_a_part = record {
   messages = λ m c top part.
       let k = package_one c.0 m (at_in both.messages m c) in
@@ -152,24 +152,24 @@ data IsOne (file : ℕ) (full : List (List ℕ)) : Type 0 where
   is_b : file ≡ 1 → full ≡ codes "p" ∷ codes "B" ∷ [] → IsOne file full
 
 message_one : (m : MessageDecl) (outer : List (List ℕ)) (i : ℕ) → slice_get both.messages i ≡ Some m
-    → IsScope both (home_of m) outer → IsOne m.file (outer ++ m.name.name ∷ [])
+    → IsScope both (enclosing_of m) outer → IsOne m.file (outer ++ m.name.name ∷ [])
 message_one m outer zero e up =
     let s : decl_a 0 ≡ m = same_Some (decl_a 0) m e in
     let u : IsScope both (home.File 0) outer =
-    subst (λ (x : MessageDecl). IsScope both (home_of x) outer) (sym s) up in
+    subst (λ (x : MessageDecl). IsScope both (enclosing_of x) outer) (sym s) up in
     let o : outer ≡ codes "p" ∷ [] = file_scope u in
     subst (λ (x : MessageDecl). IsOne x.file (outer ++ x.name.name ∷ [])) s
     (is_a refl (ap (λ (p : List (List ℕ)). p ++ codes "A" ∷ []) o))
 message_one m outer (suc zero) e up =
     let s : decl_b 1 ≡ m = same_Some (decl_b 1) m e in
     let u : IsScope both (home.File 1) outer =
-    subst (λ (x : MessageDecl). IsScope both (home_of x) outer) (sym s) up in
+    subst (λ (x : MessageDecl). IsScope both (enclosing_of x) outer) (sym s) up in
     let o : outer ≡ codes "p" ∷ [] = file_scope u in
     subst (λ (x : MessageDecl). IsOne x.file (outer ++ x.name.name ∷ [])) s
     (is_b refl (ap (λ (p : List (List ℕ)). p ++ codes "B" ∷ []) o))
 message_one m outer (suc (suc i)) e up = absurd (none-some m e)
 
-declared_one : {k : ℕ} {sort : Sort} {full : List (List ℕ)} {span : Span} → Declares both k sort full span
+declared_one : {k : ℕ} {sort : DeclKind} {full : List (List ℕ)} {span : Span} → IsDeclarationOf both k sort full span
     → is_type sort ≡ true → IsOne k full
 declared_one (Scopes.message m {outer} c up) typ = message_one m outer c.0 (at_in both.messages m c) up
 declared_one (Scopes.enum e c up) typ = absurd (none-some e (at_in both.enums e c))
@@ -178,10 +178,10 @@ declared_one (Scopes.value e v c d up) typ = absurd cc
 declared_one (Scopes.field m f c d up) typ = absurd cc
 declared_one (Scopes.oneof m o c d up) typ = absurd cc
 
-sees_own : Sees both 0 0
+sees_own : CanSee both 0 0
 sees_own = record { head = head_a; at = refl; among = (0, omega arith, refl) }
 
-sees_both : (other : ℕ) → other ≤ 1 → Sees both 1 other
+sees_both : (other : ℕ) → other ≤ 1 → CanSee both 1 other
 sees_both zero l = record { head = head_b; at = refl; among = (1, omega arith, refl) }
 sees_both (suc zero) l = record { head = head_b; at = refl; among = (0, omega arith, refl) }
 sees_both (suc (suc other)) l = absurd (omega arith)
@@ -198,7 +198,7 @@ data IsReference (file : ℕ) (name : List ℕ) : Type 0 where
 named_same : (w v : Word) → Named w ≡ Named v → w ≡ v
 named_same w v e = cc
 
-field_name : {f : FieldDecl} {name : List ℕ} → f.kind ≡ Named (word (codes "A") 24) → FieldRefers f name
+field_name : {f : FieldDecl} {name : List ℕ} → f.kind ≡ Named (word (codes "A") 24) → IsFieldReference f name
     → name ≡ codes "A"
 field_name is (its_type w e) = ap (λ (x : Word). x.name) (named_same w (word (codes "A") 24) (sym e ∙ is))
 field_name is (its_key key value e) = absurd cc
@@ -210,7 +210,7 @@ field_a f zero e = ap (λ (x : FieldDecl). x.kind) (sym (same_Some (field (codes
 field_a f (suc j) e = absurd (none-some f e)
 
 message_reference : (i : ℕ) (m : MessageDecl) (f : FieldDecl) (name : List ℕ) → slice_get both.messages i ≡ Some m
-    → Contains m.fields f → FieldRefers f name → IsReference m.file name
+    → Contains m.fields f → IsFieldReference f name → IsReference m.file name
 message_reference zero m f name e c r =
     let s : decl_a 0 ≡ m = same_Some (decl_a 0) m e in
     let d : Contains (decl_a 0).fields f = subst (λ (x : MessageDecl). Contains x.fields f) (sym s) c in
@@ -224,13 +224,13 @@ service_reference : (i : ℕ) (s : ServiceDecl) → slice_get both.services i �
 service_reference zero s e = ap (λ (x : ServiceDecl). x.file) (sym (same_Some (service_s 1) s e))
 service_reference (suc i) s e = absurd (none-some s e)
 
-reference : {file : ℕ} {scope : List (List ℕ)} {name : List ℕ} → Refers both file scope name → IsReference file name
+reference : {file : ℕ} {scope : List (List ℕ)} {name : List ℕ} → IsReferenceIn both file scope name → IsReference file name
 reference {name} (of_field i m f e is up c r) =
     subst (λ (k : ℕ). IsReference k name) is (message_reference i m f name e c r)
 reference (of_rpc s r c is d e n) = of_b (sym is ∙ service_reference c.0 s (at_in both.services s c))
 
 -- a name with one part is the last part of its full name
-means_last : {scope full : List (List ℕ)} {name : List ℕ} → name ≡ codes "A" → Means (alone one) 0 scope name full
+means_last : {scope full : List (List ℕ)} {name : List ℕ} → name ≡ codes "A" → IsMeaningOf (alone one) 0 scope name full
     → (front : List (List ℕ)) × (full ≡ front ++ codes "A" ∷ [])
 means_last is (absolute name) = absurd (let h : ◌≡◌ {A = ℕ} 46 65 = cc in omega arith)
 means_last is (relative name first {others} {decisive} cuts apart decides) =
@@ -244,16 +244,16 @@ of_a front (is_b k e) last =
     let cut = (last_same (codes "p" ∷ []) front (codes "B") (codes "A") (sym e ∙ last)).1 in
     absurd (let h : ◌≡◌ {A = ℕ} 66 65 = cc in omega arith)
 
-sees_its_types : SeesItsTypes both one
+sees_its_types : CanSeeItsTypes both one
 sees_its_types = record {
   sees = λ file other scope full name sort own span refers names d typ.
       let k = declared_one d typ in
       elim (reference refers) [
-        | of_b is ↦ subst (λ (n : ℕ). Sees both n other) (sym is) (sees_both other (one_small k))
+        | of_b is ↦ subst (λ (n : ℕ). CanSee both n other) (sym is) (sees_both other (one_small k))
         | to_a is e ↦
             let l = means_last e names.means in
             let z : other ≡ 0 = of_a l.0 k l.1 in
-            subst (λ (n : ℕ). Sees both n other) (sym is) (subst (λ (n : ℕ). Sees both 0 n) (sym z) sees_own)
+            subst (λ (n : ℕ). CanSee both n other) (sym is) (subst (λ (n : ℕ). CanSee both 0 n) (sym z) sees_own)
       ];
 }
 

@@ -18,19 +18,19 @@ use Rattle.proto_ast.specs.declared.file.MessageDecl.{MessageDecl}
 use Rattle.proto_ast.specs.declared.file.EnumDecl.{EnumDecl}
 use Rattle.proto_ast.specs.declared.file.RpcDecl.{RpcDecl}
 use Rattle.proto_ast.specs.declared.file.ServiceDecl.{ServiceDecl}
-use Rattle.proto_ast.specs.declared.joined.Home.TheVariants as home
+use Rattle.proto_ast.specs.declared.joined.Enclosing.TheVariants as home
 use Rattle.proto_ast.specs.Joined.{Joined, package_at}
 use Rattle.schema_symbols.specs.Scopes
 use Rattle.schema_symbols.specs.Scopes.{IsScope, of_message, text_of}
 use Rattle.schema_validation.specs.Methods.{rpcs_of}
-use Rattle.schema_validation.specs.Those.{AreThose}
+use Rattle.schema_validation.specs.Correspondence.{AreCorresponding}
 use Rattle.schema_validation.specs.Lines
-use Rattle.schema_validation.specs.Lines.{HasLine, PassesAt}
-use Rattle.schema_validation.specs.Offences
-use Rattle.schema_validation.specs.Offences.{Offends}
+use Rattle.schema_validation.specs.Lines.{HasLine, IsPastTextLimit}
+use Rattle.schema_validation.specs.Violations
+use Rattle.schema_validation.specs.Violations.{IsViolated}
 use Rattle.schema_validation.specs.declared.reason.ResolveReason.{ResolveReason}
 use Rattle.schema_resolve.specs.Tables.{IsFieldOf, IsMessageOf, IsEnumOf, IsMethodOf, IsTableOf}
-use Rattle.schema_resolve.specs.Resolving.{IsClean}
+use Rattle.schema_resolve.specs.Resolving.{HasNoViolation}
 use Rattle.package_laws.specs.OnePackage.{its_input, its_output}
 use Rattle.package_laws.proofs.Lists.{in_list, at_in, exchanged}
 use Rattle.package_laws.proofs.Alike.{message_with, enum_with, service_with, AreAlike, homes_alike, scope_alike, message_scope_alike, twice_alike, long_alike}
@@ -85,7 +85,7 @@ line_alike {J} {K} {span} a same (Lines.of_method s r i {input} {output} at take
     ((own.names r.input.name its_input).into Scopes.a_message input takes)
     ((own.names r.output.name its_output).into Scopes.a_message output gives))
 
-passes_alike : {J K : Joined} {span : Span} → AreAlike J K → ReferSame J K → PassesAt J span → PassesAt K span
+passes_alike : {J K : Joined} {span : Span} → AreAlike J K → ReferSame J K → IsPastTextLimit J span → IsPastTextLimit K span
 passes_alike {J} {K} a same p = record {
   lines = p.lines;
   are = All-weaker (λ (l : Span × List ℕ). HasLine J l.0 l.1) (λ (l : Span × List ℕ). HasLine K l.0 l.1)
@@ -102,44 +102,44 @@ passes_alike {J} {K} a same p = record {
 -- this reason, at some span
 pub record OffendsToo (K : Joined) (q : ResolveReason) : Type 0 where
   pub span : Span
-  pub offends : Offends K q span
+  pub offends : IsViolated K q span
 
-offends_alike : {J K : Joined} {q : ResolveReason} {span : Span} → AreAlike J K → ReferSame J K → Offends J q span
+offends_alike : {J K : Joined} {q : ResolveReason} {span : Span} → AreAlike J K → ReferSame J K → IsViolated J q span
     → OffendsToo K q
-offends_alike {span} a same (Offences.of_message i m {scope} at up o) =
+offends_alike {span} a same (Violations.of_message i m {scope} at up o) =
     let t = a.messages i m at in
     record {
       span = span;
-      offends = Offences.of_message i (message_with t.file m) t.at (message_scope_alike a up)
+      offends = Violations.of_message i (message_with t.file m) t.at (message_scope_alike a up)
           (message_offends_same (same.messages i t.file m scope at t.at up) o);
     }
-offends_alike {span} a same (Offences.of_enum i e at o) =
+offends_alike {span} a same (Violations.of_enum i e at o) =
     let t = a.enums i e at in
-    record { span = span; offends = Offences.of_enum i (enum_with t.file e) t.at (enum_offends_same {k = t.file} o) }
-offends_alike {span} a same (Offences.of_service i s at o) =
+    record { span = span; offends = Violations.of_enum i (enum_with t.file e) t.at (enum_offends_same {k = t.file} o) }
+offends_alike {span} a same (Violations.of_service i s at o) =
     let t = a.services i s at in
-    record { span = span; offends = Offences.of_service i (service_with t.file s) t.at o }
-offends_alike {span} a same (Offences.of_method i s r at o) =
+    record { span = span; offends = Violations.of_service i (service_with t.file s) t.at o }
+offends_alike {span} a same (Violations.of_method i s r at o) =
     let t = a.rpcs i s r at in
     record {
       span = span;
-      offends = Offences.of_method i (service_with t.file s) r t.at
+      offends = Violations.of_method i (service_with t.file s) r t.at
           (method_offends_same (same.rpcs t.file s r t.ours t.theirs t.its) o);
     }
-offends_alike a same (Offences.of_package k h w at is long why) =
+offends_alike a same (Violations.of_package k h w at is long why) =
     let t = a.words k h w at is in
     record {
       span = t.word.span;
-      offends = Offences.of_package t.file t.head t.word t.at t.is (ap is_short_full t.same ∙ long) (why.0, refl);
+      offends = Violations.of_package t.file t.head t.word t.at t.is (ap is_short_full t.same ∙ long) (why.0, refl);
     }
-offends_alike {span} a same (Offences.twice at o is) =
-    record { span = span; offends = Offences.twice at (twice_alike a o) is }
-offends_alike {span} a same (Offences.long_in_full at o is) =
-    record { span = span; offends = Offences.long_in_full at (long_alike a o) is }
-offends_alike {span} a same (Offences.long_text at o is) =
-    record { span = span; offends = Offences.long_text at (passes_alike a same o) is }
+offends_alike {span} a same (Violations.twice at o is) =
+    record { span = span; offends = Violations.twice at (twice_alike a o) is }
+offends_alike {span} a same (Violations.long_in_full at o is) =
+    record { span = span; offends = Violations.long_in_full at (long_alike a o) is }
+offends_alike {span} a same (Violations.long_text at o is) =
+    record { span = span; offends = Violations.long_text at (passes_alike a same o) is }
 
-pub clean_alike : {J K : Joined} → AreAlike J K → ReferSame J K → IsClean K → IsClean J
+pub clean_alike : {J K : Joined} → AreAlike J K → ReferSame J K → HasNoViolation K → HasNoViolation J
 clean_alike a same clean q span o =
     let t = offends_alike a same o in
     clean q t.span t.offends
@@ -189,7 +189,7 @@ enum_alike k e c a l n is = record {
 }
 
 messages_alike : {J K : Joined} {T : Table} → AreAlike J K → AreAlike K J → ReferSame J K
-    → AreThose (IsMessageOf T J) J.messages T.messages → AreThose (IsMessageOf T K) K.messages T.messages
+    → AreCorresponding (IsMessageOf T J) J.messages T.messages → AreCorresponding (IsMessageOf T K) K.messages T.messages
 messages_alike {J} {K} {T} a b same those = record {
   each = λ m c.
       let at : slice_get K.messages c.0 ≡ Some m = at_in K.messages m c in
@@ -205,8 +205,8 @@ messages_alike {J} {K} {T} a b same those = record {
       (n, in_list K.messages m.1.0 n u.at, message_alike m.1.0 u.file m.0 t a same at u.at u.own u.there m.2);
 }
 
-enums_alike : {J K : Joined} (T : Table) → AreAlike J K → AreAlike K J → AreThose (IsEnumOf J) J.enums T.enums
-    → AreThose (IsEnumOf K) K.enums T.enums
+enums_alike : {J K : Joined} (T : Table) → AreAlike J K → AreAlike K J → AreCorresponding (IsEnumOf J) J.enums T.enums
+    → AreCorresponding (IsEnumOf K) K.enums T.enums
 enums_alike {J} {K} T a b those = record {
   each = λ e c.
       let at : slice_get K.enums c.0 ≡ Some e = at_in K.enums e c in

@@ -1,6 +1,6 @@
 -- Files of one package that read as one file with all their declarations.
 use Rattle.std.specs.Prelude.{◌≡◌, ℕ, ◌<◌, true, List, [], length, map, option_map, Some, None, slice_get, All, Contains}
-use Rattle.proto_ast.specs.Joined.{Joined, Sees, alone, package_at}
+use Rattle.proto_ast.specs.Joined.{Joined, CanSee, alone, package_at}
 use Rattle.proto_ast.specs.declared.file.Word.{Word}
 use Rattle.proto_ast.specs.declared.file.Span.{Span}
 use Rattle.proto_ast.specs.declared.file.FieldType.TheVariants.{Named, Map, NestedMap}
@@ -10,8 +10,8 @@ use Rattle.proto_ast.specs.declared.file.EnumDecl.{EnumDecl}
 use Rattle.proto_ast.specs.declared.file.RpcDecl.{RpcDecl}
 use Rattle.proto_ast.specs.declared.file.ServiceDecl.{ServiceDecl}
 use Rattle.proto_ast.specs.declared.file.File.{File}
-use Rattle.proto_ast.specs.declared.joined.Home.TheVariants as home
-use Rattle.schema_symbols.specs.Scopes.{IsScope, Sort, is_type, Declares, Names}
+use Rattle.proto_ast.specs.declared.joined.Enclosing.TheVariants as home
+use Rattle.schema_symbols.specs.Scopes.{IsScope, DeclKind, is_type, IsDeclarationOf, IsReferenceTo}
 
 -- ---- one file
 
@@ -38,40 +38,42 @@ pub record IsOneFile (F : Joined) (G : File) : Type 0 where
 
 -- No type at the top level of a file has the name of a part of the file's package. In a file that doesn't see the
 -- type, the name would mean a package.
-pub record NoTypeIsAPart (F : Joined) : Type 0 where
+pub record HasNoTypeNamedAsPart (F : Joined) : Type 0 where
   pub messages : (m : MessageDecl) → Contains F.messages m → m.parent ≡ None
       → Contains (package_at F m.file) m.name.name → ⊥
   pub enums : (e : EnumDecl) → Contains F.enums e → e.parent ≡ None → Contains (package_at F e.file) e.name.name → ⊥
 
 -- the types that a field names
-pub data FieldRefers (f : FieldDecl) : List ℕ → Type 0 where
-  its_type : (w : Word) → f.kind ≡ Named w → FieldRefers f w.name
-  its_key : (key value : Word) → f.kind ≡ Map key value → FieldRefers f key.name
-  its_value : (key value : Word) → f.kind ≡ Map key value → FieldRefers f value.name
-  its_outer_key : (key : Word) → f.kind ≡ NestedMap key → FieldRefers f key.name
+pub data IsFieldReference (f : FieldDecl) : List ℕ → Type 0 where
+  its_type : (w : Word) → f.kind ≡ Named w → IsFieldReference f w.name
+  its_key : (key value : Word) → f.kind ≡ Map key value → IsFieldReference f key.name
+  its_value : (key value : Word) → f.kind ≡ Map key value → IsFieldReference f value.name
+  its_outer_key : (key : Word) → f.kind ≡ NestedMap key → IsFieldReference f key.name
 
 -- the types that an rpc names
-pub data RpcRefers (r : RpcDecl) : List ℕ → Type 0 where
-  its_input : RpcRefers r r.input.name
-  its_output : RpcRefers r r.output.name
+pub data IsRpcReference (r : RpcDecl) : List ℕ → Type 0 where
+  its_input : IsRpcReference r r.input.name
+  its_output : IsRpcReference r r.output.name
 
 -- a file refers to a name in a scope: a field in that of its message, an rpc in that of the package
-pub data Refers (F : Joined) (file : ℕ) (scope : List (List ℕ)) (name : List ℕ) : Type 0 where
+pub data IsReferenceIn (F : Joined) (file : ℕ) (scope : List (List ℕ)) (name : List ℕ) : Type 0 where
   of_field : (i : ℕ) (m : MessageDecl) (f : FieldDecl) → slice_get F.messages i ≡ Some m → m.file ≡ file
-      → IsScope F (home.Message i) scope → Contains m.fields f → FieldRefers f name → Refers F file scope name
+      → IsScope F (home.Message i) scope → Contains m.fields f → IsFieldReference f name
+      → IsReferenceIn F file scope name
   of_rpc : (s : ServiceDecl) (r : RpcDecl) → Contains F.services s → s.file ≡ file → Contains s.rpcs r
-      → scope ≡ package_at F file → RpcRefers r name → Refers F file scope name
+      → scope ≡ package_at F file → IsRpcReference r name → IsReferenceIn F file scope name
 
 -- Each file sees the files that declare the types which its references name in the one file.
-pub record SeesItsTypes (F : Joined) (G : File) : Type 0 where
-  pub sees : (file other : ℕ) (scope full : List (List ℕ)) (name : List ℕ) (sort own : Sort) (span : Span)
-      → Refers F file scope name → Names (alone G) 0 scope name sort full → Declares F other own full span
-      → is_type own ≡ true → Sees F file other
+pub record CanSeeItsTypes (F : Joined) (G : File) : Type 0 where
+  pub sees : (file other : ℕ) (scope full : List (List ℕ)) (name : List ℕ) (sort own : DeclKind) (span : Span)
+      → IsReferenceIn F file scope name → IsReferenceTo (alone G) 0 scope name sort full
+      → IsDeclarationOf F other own full span
+      → is_type own ≡ true → CanSee F file other
 
 -- ---- one package
 
 -- The files are of one package, which reads as this one file.
 pub record IsOnePackage (F : Joined) (G : File) : Type 0 where
   pub file : IsOneFile F G
-  pub apart : NoTypeIsAPart F
-  pub sees : SeesItsTypes F G
+  pub apart : HasNoTypeNamedAsPart F
+  pub sees : CanSeeItsTypes F G

@@ -12,7 +12,7 @@ use Rattle.std.specs.BTreeMap.{is_at, insert_entry}
 use Rattle.std.proofs.lemmas.Map.Text.{is_eq-slice_cmp}
 use Rattle.std.proofs.lemmas.Slice.Eq.{bytes_eq-Decides}
 use Rattle.policy_access.specs.Faults.{is_among}
-use Rattle.policy_access.specs.Names.{has_name, Holds}
+use Rattle.policy_access.specs.Names.{contains_name, AreKnownNames}
 use Rattle.policy_access.specs.declared.names.SeenNames.{SeenNames}
 
 abbrev by_items : Vec ℕ → Vec ℕ → Ordering
@@ -79,8 +79,8 @@ is_among-push name (n ∷ ns) last = ap (λ b. bytes_eq name n || b) (is_among-p
 
 -- one more name
 pub holds-push : (old new : SeenNames) (names : List (List ℕ)) (name : List ℕ)
-    → ((q : List ℕ) → has_name new q ≡ (bytes_eq q name || has_name old q)) → Holds old names
-    → Holds new (names ++ name ∷ [])
+    → ((q : List ℕ) → contains_name new q ≡ (bytes_eq q name || contains_name old q)) → AreKnownNames old names
+    → AreKnownNames new (names ++ name ∷ [])
 holds-push old new names name added h = record {
   found = λ q. added q ∙ ap (λ b. bytes_eq q name || b) (h.found q) ∙ sym (is_among-push q names name);
 }

@@ -10,25 +10,25 @@ use Rattle.std.proofs.lemmas.Option.{slice_get_within, slice_get_read, get_or_fr
 use Rattle.std.proofs.lemmas.Bool.{cases_lt}
 use Rattle.mrpc_table.specs.Valid.{AreDistinct}
 use Rattle.mrpc_table.specs.declared.table.Table.{Table}
-use Rattle.mrpc_table.specs.PolicyLines.{order_of}
-use Rattle.policy_access.specs.Faults.{is_rule_name, is_among, names_of, has_default, named, is_default, IsAgainst, IsAgainstAt, at_line, no_default, behind_default, IsFirstFault, IsFaultOf}
-use Rattle.policy_access.specs.Lines.{line_of}
-use Rattle.policy_access.specs.Reading.{names_in, AreRead, DefaultAt}
-use Rattle.policy_access.specs.Said.{said_in, reason_behind}
-use Rattle.mrpc_table.specs.PolicyLines.{SayEach}
-use Rattle.policy_access.specs.Texts.{said_rule, IsTextOf}
+use Rattle.mrpc_table.specs.PolicyLines.{rule_reason_rank}
+use Rattle.policy_access.specs.Faults.{is_rule_name, is_among, names_of_lines, has_default, name_in_line, is_default_text, IsAgainst, IsAgainstAt, at_line, no_default, after_default, IsFirstFault, IsFaultOf}
+use Rattle.policy_access.specs.Lines.{access_line_of}
+use Rattle.policy_access.specs.Reading.{names_of_rules, AreRead, IsDefaultAt}
+use Rattle.policy_access.specs.LineContent.{judged_line, reason_after_default}
+use Rattle.mrpc_table.specs.PolicyLines.{AreParsed}
+use Rattle.policy_access.specs.Texts.{rule_of_line, IsTextOf}
 use Rattle.policy_access.specs.Verdict.{AccessPolicy}
-use Rattle.policy_access.specs.declared.line.Line.{Line}
-use Rattle.policy_access.specs.declared.line.Line.TheVariants as forms
+use Rattle.policy_access.specs.declared.line.PolicyLine.{PolicyLine}
+use Rattle.policy_access.specs.declared.line.PolicyLine.TheVariants as forms
 use Rattle.policy_access.specs.declared.rule.Rule.{Rule}
-use Rattle.policy_access.specs.Names.{Holds}
+use Rattle.policy_access.specs.Names.{AreKnownNames}
 use Rattle.policy_access.specs.declared.names.SeenNames.{SeenNames}
 use Rattle.mrpc_table.specs.declared.policy_lines.RuleFault.{RuleFault}
 use Rattle.mrpc_table.specs.declared.policy_lines.RuleFault.TheVariants as fault
 use Rattle.mrpc_table.specs.declared.policy_lines.RuleReason.{RuleReason}
 use Rattle.mrpc_table.specs.declared.policy_lines.RuleReason.TheVariants as reason
-use Rattle.policy_access.specs.declared.read.Said.{Said}
-use Rattle.policy_access.specs.declared.read.Said.TheVariants as said
+use Rattle.policy_access.specs.declared.read.LineContent.{LineContent}
+use Rattle.policy_access.specs.declared.read.LineContent.TheVariants as said
 use Rattle.policy_access.proofs.NameLemmas.{bytes_same}
 use Rattle.policy_access.proofs.Judging.{refused_line, taken_line, default_line, only_behind, taken_says, names_of-said, has_default-said, said-push}
 
@@ -69,14 +69,14 @@ same_line : (o : Option (List ℕ)) (a b : List ℕ) → o ≡ Some a → o ≡ 
 same_line o a b e d = cc
 
 pub here-to : (T : Table) (lines : List (List ℕ)) (i : ℕ) (rules : List Rule) (line : List ℕ) (q : RuleReason) → AreRead T lines i rules → slice_get lines i ≡ Some line
-    → IsAgainstAt T lines i q → IsAgainst T (names_in rules) false line q
+    → IsAgainstAt T lines i q → IsAgainst T (names_of_rules rules) false line q
 here-to T lines i rules line q read at (at_line other e a) =
     let same = same_line (slice_get lines i) other line e at in
     rw (← names_of-said T (take i lines) rules read.said, ← has_default-said T (take i lines) rules read.said, ← same) a
 here-to T lines i rules line q read at (no_default e d w) = absurd (omega (arith, slice_get_within lines i line at, e))
 
 pub here-from : (T : Table) (lines : List (List ℕ)) (i : ℕ) (rules : List Rule) (line : List ℕ) (q : RuleReason) → AreRead T lines i rules → slice_get lines i ≡ Some line
-    → IsAgainst T (names_in rules) false line q → IsAgainstAt T lines i q
+    → IsAgainst T (names_of_rules rules) false line q → IsAgainstAt T lines i q
 here-from T lines i rules line q read at a =
     at_line line at (rw (names_of-said T (take i lines) rules read.said, has_default-said T (take i lines) rules read.said) a)
 
@@ -90,33 +90,33 @@ take_next lines i line at =
     take_more lines i line (slice_get_within lines i line at) ∙ ap (λ (l : List ℕ). take i lines ++ l ∷ []) (get_or_from_slice_get lines i line line at)
 
 pub read-push : (T : Table) (lines : List (List ℕ)) (i : ℕ) (rules : List Rule) (line : List ℕ) (rule : Rule) → AreRead T lines i rules → slice_get lines i ≡ Some line
-    → said_in T (names_in rules) (line_of line) ≡ Ok (said.Rule rule) → AreRead T lines (i + 1) (rules ++ rule ∷ [])
+    → judged_line T (names_of_rules rules) (access_line_of line) ≡ Ok (said.Rule rule) → AreRead T lines (i + 1) (rules ++ rule ∷ [])
 read-push T lines i rules line rule read at e =
-    let taken = taken_line T (names_in rules) line rule (line_of line) refl e in
+    let taken = taken_line T (names_of_rules rules) line rule (access_line_of line) refl e in
     let next : take (i + 1) lines ≡ take i lines ++ line ∷ [] = take_next lines i line at in
     let name : taken.spelled.name ≡ rule.name = ap (λ (r : Rule). r.name) (sym taken.good.is) in
     let good_name : is_rule_name rule.name ≡ true = subst (λ (n : List ℕ). is_rule_name n ≡ true) name taken.good.name in
-    let fresh : is_among rule.name (names_in rules) ≡ false = subst (λ (n : List ℕ). is_among n (names_in rules) ≡ false) name taken.good.fresh in
+    let fresh : is_among rule.name (names_of_rules rules) ≡ false = subst (λ (n : List ℕ). is_among n (names_of_rules rules) ≡ false) name taken.good.fresh in
     record {
       within = omega (arith, slice_get_within lines i line at);
       count = omega (arith, length-append rules (rule ∷ []), read.count);
       few = omega (arith, taken.good.few, length-map rules (λ (r : Rule). r.name), read.count);
-      said = subst (λ (ls : List (List ℕ)). SayEach (said_rule T) ls (rules ++ rule ∷ [])) (sym next)
-          (said-push T (take i lines) rules line rule read.said (taken_says T (names_in rules) line rule taken));
+      said = subst (λ (ls : List (List ℕ)). AreParsed (rule_of_line T) ls (rules ++ rule ∷ [])) (sym next)
+          (said-push T (take i lines) rules line rule read.said (taken_says T (names_of_rules rules) line rule taken));
       named = All-push (λ (r : Rule). IsTrue (is_rule_name r.name)) rules rule read.named good_name;
       distinct = subst (λ (ns : List (List ℕ)). AreDistinct ns) (sym (map_push (λ (r : Rule). r.name) rules rule))
-          (AreDistinct-push (names_in rules) rule.name read.distinct (absent (names_in rules) rule.name fresh));
+          (AreDistinct-push (names_of_rules rules) rule.name read.distinct (absent (names_of_rules rules) rule.name fresh));
       clean = λ j q lt. below_or_at i (λ k. IsAgainstAt T lines k q → ⊥) (λ k less. read.clean k q less)
-          (λ a. let only = only_behind T (names_in rules) false line (said.Rule rule) q (line_of line) refl e
+          (λ a. let only = only_behind T (names_of_rules rules) false line (said.Rule rule) q (access_line_of line) refl e
           (here-to T lines i rules line q read at a) in let clash : false ≡ true = only.0 in absurd cc) j lt;
     }
 
 -- ---- the first fault, and the end
 
 pub fault-here : (T : Table) (lines : List (List ℕ)) (i : ℕ) (rules : List Rule) (line : List ℕ) (q : RuleReason) → AreRead T lines i rules → slice_get lines i ≡ Some line
-    → said_in T (names_in rules) (line_of line) ≡ Err q → IsFirstFault T lines (i + 1) q
+    → judged_line T (names_of_rules rules) (access_line_of line) ≡ Err q → IsFirstFault T lines (i + 1) q
 fault-here T lines i rules line q read at e =
-    let f = refused_line T (names_in rules) line q (line_of line) refl e in
+    let f = refused_line T (names_of_rules rules) line q (access_line_of line) refl e in
     let same : i ≡ i + 1 - 1 = omega arith in
     record {
       counted = omega arith;
@@ -127,54 +127,54 @@ fault-here T lines i rules line q read at e =
 
 -- names and default, right after the default's line
 names-behind : (T : Table) (lines : List (List ℕ)) (i : ℕ) (rules : List Rule) (line : List ℕ) (allow : Bool) → AreRead T lines i rules → slice_get lines i ≡ Some line
-    → line_of line ≡ Some (forms.Default allow) → names_of (take (i + 1) lines) ≡ names_in rules
+    → access_line_of line ≡ Some (forms.Default allow) → names_of_lines (take (i + 1) lines) ≡ names_of_rules rules
 names-behind T lines i rules line allow read at is =
-    let unnamed : names_of (line ∷ []) ≡ [] = rw is refl in
+    let unnamed : names_of_lines (line ∷ []) ≡ [] = rw is refl in
     rw (take_next lines i line at)
-    (filter_map-append named (take i lines) (line ∷ []) ∙ ap (λ (ns : List (List ℕ)). names_of (take i lines) ++ ns)
-    unnamed ∙ append-nil (names_of (take i lines)) ∙ names_of-said T (take i lines) rules read.said)
+    (filter_map-append name_in_line (take i lines) (line ∷ []) ∙ ap (λ (ns : List (List ℕ)). names_of_lines (take i lines) ++ ns)
+    unnamed ∙ append-nil (names_of_lines (take i lines)) ∙ names_of-said T (take i lines) rules read.said)
 
 pub default-behind : (T : Table) (lines : List (List ℕ)) (i : ℕ) (line : List ℕ) (allow : Bool) → slice_get lines i ≡ Some line
-    → line_of line ≡ Some (forms.Default allow) → has_default (take (i + 1) lines) ≡ true
+    → access_line_of line ≡ Some (forms.Default allow) → has_default (take (i + 1) lines) ≡ true
 default-behind T lines i line allow at is =
     let here : has_default (line ∷ []) ≡ true = rw is refl in
-    rw (take_next lines i line at) (list_any-append is_default (take i lines) (line ∷ []) ∙ or_true (has_default (take i lines)) (has_default (line ∷ [])) here)
+    rw (take_next lines i line at) (list_any-append is_default_text (take i lines) (line ∷ []) ∙ or_true (has_default (take i lines)) (has_default (line ∷ [])) here)
 
-is_line : (T : Table) (names : List (List ℕ)) (s : Said) (l : Option Line) → said_in T names l ≡ Ok s → (k : Line) × (l ≡ Some k)
+is_line : (T : Table) (names : List (List ℕ)) (s : LineContent) (l : Option PolicyLine) → judged_line T names l ≡ Ok s → (k : PolicyLine) × (l ≡ Some k)
 is_line T names s None e = absurd cc
 is_line T names s (Some k) e = (k, refl)
 
-behind-first : (T : Table) (names : List (List ℕ)) (line : List ℕ) (r : Result Said RuleReason) → said_in T names (line_of line) ≡ r
-    → (IsAgainst T names true line (reason_behind r)) × ((p : RuleReason) → order_of p < order_of (reason_behind r) → IsAgainst T names true line p → ⊥)
-behind-first T names line (Err q) e = let f = refused_line T names line q (line_of line) refl e in (f.against true, f.first true)
+behind-first : (T : Table) (names : List (List ℕ)) (line : List ℕ) (r : Result LineContent RuleReason) → judged_line T names (access_line_of line) ≡ r
+    → (IsAgainst T names true line (reason_after_default r)) × ((p : RuleReason) → rule_reason_rank p < rule_reason_rank (reason_after_default r) → IsAgainst T names true line p → ⊥)
+behind-first T names line (Err q) e = let f = refused_line T names line q (access_line_of line) refl e in (f.against true, f.first true)
 behind-first T names line (Ok s) e =
-    let l = is_line T names s (line_of line) e in
-    (behind_default l.0 l.1 refl refl, λ p lt a. let only = only_behind T names true line s p (line_of line) refl e a in omega (arith, ap order_of only.1))
+    let l = is_line T names s (access_line_of line) e in
+    (after_default l.0 l.1 refl refl, λ p lt a. let only = only_behind T names true line s p (access_line_of line) refl e a in omega (arith, ap rule_reason_rank only.1))
 
 pub fault-behind : (T : Table) (lines : List (List ℕ)) (i : ℕ) (rules : List Rule) (line next : List ℕ) (allow : Bool) → AreRead T lines i rules → slice_get lines i ≡ Some line
-    → said_in T (names_in rules) (line_of line) ≡ Ok (said.Default allow) → slice_get lines (i + 1) ≡ Some next
-    → IsFirstFault T lines (i + 2) (reason_behind (said_in T (names_in rules) (line_of next)))
+    → judged_line T (names_of_rules rules) (access_line_of line) ≡ Ok (said.Default allow) → slice_get lines (i + 1) ≡ Some next
+    → IsFirstFault T lines (i + 2) (reason_after_default (judged_line T (names_of_rules rules) (access_line_of next)))
 fault-behind T lines i rules line next allow read at e at_next =
-    let is = default_line T (names_in rules) line allow (line_of line) refl e in
+    let is = default_line T (names_of_rules rules) line allow (access_line_of line) refl e in
     let names = names-behind T lines i rules line allow read at is in
     let ended = default-behind T lines i line allow at is in
-    let q = reason_behind (said_in T (names_in rules) (line_of next)) in
-    let f = behind-first T (names_in rules) next (said_in T (names_in rules) (line_of next)) refl in
+    let q = reason_after_default (judged_line T (names_of_rules rules) (access_line_of next)) in
+    let f = behind-first T (names_of_rules rules) next (judged_line T (names_of_rules rules) (access_line_of next)) refl in
     let same : i + 1 ≡ i + 2 - 1 = omega arith in
     record {
       counted = omega arith;
       here = subst (λ (k : ℕ). IsAgainstAt T lines k q) same (at_line next at_next (rw (names, ended) f.0));
       first_reason = λ p lt a. next_first p lt (subst (λ (k : ℕ). IsAgainstAt T lines k p) (sym same) a);
       none_before = λ j p lt. below_or_at i (λ k. IsAgainstAt T lines k p → ⊥) (λ k less. read.clean k p less)
-          (λ a. let only = only_behind T (names_in rules) false line (said.Default allow) p (line_of line) refl e
+          (λ a. let only = only_behind T (names_of_rules rules) false line (said.Default allow) p (access_line_of line) refl e
           (here-to T lines i rules line p read at a) in let clash : false ≡ true = only.0 in
           absurd cc) j (omega arith);
     }
   where
-    next_first : (p : RuleReason) → order_of p < order_of (reason_behind (said_in T (names_in rules) (line_of next))) → IsAgainstAt T lines (i + 1) p → ⊥
+    next_first : (p : RuleReason) → rule_reason_rank p < rule_reason_rank (reason_after_default (judged_line T (names_of_rules rules) (access_line_of next))) → IsAgainstAt T lines (i + 1) p → ⊥
     next_first p lt (at_line other d a) =
-        let is = default_line T (names_in rules) line allow (line_of line) refl e in
-        let f = behind-first T (names_in rules) next (said_in T (names_in rules) (line_of next)) refl in
+        let is = default_line T (names_of_rules rules) line allow (access_line_of line) refl e in
+        let f = behind-first T (names_of_rules rules) next (judged_line T (names_of_rules rules) (access_line_of next)) refl in
         let here = same_line (slice_get lines (i + 1)) other next d at_next in
         f.1 p lt (rw (← names-behind T lines i rules line allow read at is, ← default-behind T lines i line allow at is, ← here) a)
     next_first p lt (no_default d w o) = absurd (omega (arith, slice_get_within lines (i + 1) next at_next, d))
@@ -191,18 +191,18 @@ fault-end T lines rules read =
       none_before = λ j p lt. read.clean j p (omega arith);
     }
   where
-    end_first : (p : RuleReason) → order_of p < 5 → IsAgainstAt T lines (length lines) p → ⊥
+    end_first : (p : RuleReason) → rule_reason_rank p < 5 → IsAgainstAt T lines (length lines) p → ⊥
     end_first p lt (at_line line e a) = omega (arith, slice_get_within lines (length lines) line e)
-    end_first p lt (no_default e d w) = omega (arith, ap order_of w)
+    end_first p lt (no_default e d w) = omega (arith, ap rule_reason_rank w)
 
 pub text-end : (T : Table) (lines : List (List ℕ)) (i : ℕ) (rules : List Rule) (line : List ℕ) (allow : Bool) → AreRead T lines i rules → slice_get lines i ≡ Some line
-    → said_in T (names_in rules) (line_of line) ≡ Ok (said.Default allow) → length lines ≤ i + 1 → IsTextOf T lines (record { rules = rules; allow = allow })
+    → judged_line T (names_of_rules rules) (access_line_of line) ≡ Ok (said.Default allow) → length lines ≤ i + 1 → IsTextOf T lines (record { rules = rules; allow = allow })
 text-end T lines i rules line allow read at e last = record {
   rule_lines = take i lines;
   default_line = line;
   whole = sym (take_all (i + 1) lines last) ∙ take_next lines i line at;
   rules = read.said;
-  default = default_line T (names_in rules) line allow (line_of line) refl e;
+  default = default_line T (names_of_rules rules) line allow (access_line_of line) refl e;
   few = omega (arith, read.count, read.few);
   named = read.named;
   distinct = read.distinct;
@@ -224,25 +224,25 @@ abbrev policy_with : List Rule → Bool → AccessPolicy
 policy_with rules allow = record { rules = rules; allow = allow }
 
 pub text-at : (T : Table) (lines : List (List ℕ)) (i : ℕ) (rules : List Rule) (allow : Bool) (policy : AccessPolicy)
-    → AreRead T lines i rules → DefaultAt T lines i rules allow → length lines ≤ i + 1
+    → AreRead T lines i rules → IsDefaultAt T lines i rules allow → length lines ≤ i + 1
     → policy.rules ≡ rules → policy.allow ≡ allow → IsTextOf T lines policy
 text-at T lines i rules allow policy read d last er ea =
     subst (λ (p : AccessPolicy). IsTextOf T lines p) (ap (λ (rs : List Rule). policy_with rs allow) (sym er) ∙ ap (λ (a : Bool). policy_with policy.rules a) (sym ea))
     (text-end T lines i rules d.0 allow read d.1 d.2 last)
 
 pub fault-next : (T : Table) (lines : List (List ℕ)) (i : ℕ) (rules : List Rule) (allow : Bool) (next : List ℕ)
-    (q : RuleReason) (e : RuleFault) → AreRead T lines i rules → DefaultAt T lines i rules allow
+    (q : RuleReason) (e : RuleFault) → AreRead T lines i rules → IsDefaultAt T lines i rules allow
     → i + 1 < length lines → next ≡ get_or lines (i + 1) next
-    → q ≡ reason_behind (said_in T (names_in rules) (line_of next)) → e ≡ fault.At (i + 1 + 1) q
+    → q ≡ reason_after_default (judged_line T (names_of_rules rules) (access_line_of next)) → e ≡ fault.At (i + 1 + 1) q
     → IsFaultOf T lines e
 fault-next T lines i rules allow next q e read d within at is stands =
     let two : i + 2 ≡ i + 1 + 1 = omega arith in
-    rw (stands, is) (subst (λ (n : ℕ). IsFirstFault T lines n (reason_behind (said_in T (names_in rules) (line_of next)))) two
+    rw (stands, is) (subst (λ (n : ℕ). IsFirstFault T lines n (reason_after_default (judged_line T (names_of_rules rules) (access_line_of next)))) two
     (fault-behind T lines i rules d.0 next allow read d.1 d.2 (slice_get_read lines (length lines) (i + 1) next refl within at)))
 
 pub fault-first : (T : Table) (lines : List (List ℕ)) (i : ℕ) (rules : List Rule) (line : List ℕ) (q : RuleReason)
     (e : RuleFault) → AreRead T lines i rules → i < length lines → line ≡ get_or lines i line
-    → said_in T (names_in rules) (line_of line) ≡ Err q → e ≡ fault.At (i + 1) q → IsFaultOf T lines e
+    → judged_line T (names_of_rules rules) (access_line_of line) ≡ Err q → e ≡ fault.At (i + 1) q → IsFaultOf T lines e
 fault-first T lines i rules line q e read within at is stands =
     rw stands (fault-here T lines i rules line q read (slice_get_read lines (length lines) i line refl within at) is)
 
@@ -252,18 +252,18 @@ pub fault-last : (T : Table) (lines : List (List ℕ)) (rules : List Rule) (i : 
 fault-last T lines rules i e read all stands = rw stands (fault-end T lines rules (subst (λ (k : ℕ). AreRead T lines k rules) all read))
 
 pub default-at : (T : Table) (lines : List (List ℕ)) (i : ℕ) (rules : List Rule) (line : List ℕ) (allow : Bool) → i < length lines → line ≡ get_or lines i line
-    → said_in T (names_in rules) (line_of line) ≡ Ok (said.Default allow) → DefaultAt T lines i rules allow
+    → judged_line T (names_of_rules rules) (access_line_of line) ≡ Ok (said.Default allow) → IsDefaultAt T lines i rules allow
 default-at T lines i rules line allow within at is = (line, slice_get_read lines (length lines) i line refl within at, is)
 
 pub read-next : (T : Table) (lines : List (List ℕ)) (i : ℕ) (rules more : List Rule) (line : List ℕ) (rule : Rule)
     → AreRead T lines i rules → i < length lines → line ≡ get_or lines i line
-    → said_in T (names_in rules) (line_of line) ≡ Ok (said.Rule rule) → more ≡ rules ++ rule ∷ [] → AreRead T lines (i + 1) more
+    → judged_line T (names_of_rules rules) (access_line_of line) ≡ Ok (said.Rule rule) → more ≡ rules ++ rule ∷ [] → AreRead T lines (i + 1) more
 read-next T lines i rules more line rule read within at is pushed =
     subst (λ (rs : List Rule). AreRead T lines (i + 1) rs) (sym pushed) (read-push T lines i rules line rule read (slice_get_read lines (length lines) i line refl within at) is)
 
 pub names-next : (rules more : List Rule) (rule : Rule) (names : SeenNames) → more ≡ rules ++ rule ∷ []
-    → Holds names (names_in rules ++ rule.name ∷ []) → Holds names (names_in more)
+    → AreKnownNames names (names_of_rules rules ++ rule.name ∷ []) → AreKnownNames names (names_of_rules more)
 names-next rules more rule names pushed h = rw (pushed, map_push (λ (r : Rule). r.name) rules rule) h
 
-abbrev pub says_so : Said → Result Said RuleReason
+abbrev pub says_so : LineContent → Result LineContent RuleReason
 says_so s = Ok s

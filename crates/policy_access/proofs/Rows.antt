@@ -8,10 +8,10 @@ use Rattle.mrpc_table.specs.declared.table.Label.TheVariants.{Plain, Optional, M
 use Rattle.policy_access.specs.Conditions.{is_met}
 use Rattle.policy_access.specs.Verdict.{AccessPolicy, verdict, rule_name}
 use Rattle.mrpc_table.specs.declared.call.Call.{Call}
-use Rattle.mrpc_table.specs.declared.call.Sort.TheVariants.{Request}
+use Rattle.mrpc_table.specs.declared.call.CallKind.TheVariants.{Request}
 use Rattle.policy_access.specs.declared.verdict.Verdict.{Verdict}
 use Rattle.policy_access.specs.declared.rule.Rule.{Rule}
-use Rattle.policy_access.specs.declared.rule.About.TheVariants.{Every, Calls as OfCalls}
+use Rattle.policy_access.specs.declared.rule.CallSelector.TheVariants.{Every, Calls as OfCalls}
 use Rattle.policy_access.specs.declared.rule.Operand.TheVariants.{Number, Run}
 use Rattle.policy_access.specs.declared.rule.Condition.TheVariants.{Present, Compares}
 use Rattle.policy_access.specs.declared.rule.Comparison.TheVariants.{Equal, NotEqual, Less, Greater, Starts}

@@ -12,27 +12,27 @@ use Rattle.std.proofs.lemmas.Grind.{common_steps}
 use Rattle.std.specs.Str.{bytes_eq}
 use Rattle.mrpc_table.specs.Valid.{AreDistinct}
 use Rattle.mrpc_table.specs.declared.table.Table.{Table}
-use Rattle.mrpc_table.specs.PolicyLines.{order_of}
+use Rattle.mrpc_table.specs.PolicyLines.{rule_reason_rank}
 use Rattle.policy_access.specs.Faults.{is_rule_name, is_among, has_default, IsAgainstAt, at_line, no_default, IsFirstFault, IsFaultOf}
-use Rattle.policy_access.specs.Lines.{line_of}
-use Rattle.policy_access.specs.Reading.{names_in, AreRead}
-use Rattle.policy_access.specs.Rules.{about_in}
-use Rattle.policy_access.specs.Said.{said_in, judged_rule, reason_behind}
-use Rattle.mrpc_table.specs.PolicyLines.{SayEach}
-use Rattle.policy_access.specs.Texts.{said_rule, with_about, IsTextOf}
+use Rattle.policy_access.specs.Lines.{access_line_of}
+use Rattle.policy_access.specs.Reading.{names_of_rules, AreRead}
+use Rattle.policy_access.specs.Rules.{selector_in}
+use Rattle.policy_access.specs.LineContent.{judged_line, judged_rule, reason_after_default}
+use Rattle.mrpc_table.specs.PolicyLines.{AreParsed}
+use Rattle.policy_access.specs.Texts.{rule_of_line, with_selector, IsTextOf}
 use Rattle.policy_access.specs.Verdict.{AccessPolicy}
-use Rattle.policy_access.specs.declared.line.Line.{Line}
-use Rattle.policy_access.specs.declared.line.Line.TheVariants as forms
+use Rattle.policy_access.specs.declared.line.PolicyLine.{PolicyLine}
+use Rattle.policy_access.specs.declared.line.PolicyLine.TheVariants as forms
 use Rattle.policy_access.specs.declared.line.RuleLine.{RuleLine}
-use Rattle.policy_access.specs.declared.rule.About.{About}
+use Rattle.policy_access.specs.declared.rule.CallSelector.{CallSelector}
 use Rattle.policy_access.specs.declared.rule.Rule.{Rule}
-use Rattle.policy_access.specs.declared.fault.PartReason.{PartReason}
+use Rattle.policy_access.specs.declared.fault.SelectorReason.{SelectorReason}
 use Rattle.mrpc_table.specs.declared.policy_lines.RuleFault.{RuleFault}
 use Rattle.mrpc_table.specs.declared.policy_lines.RuleFault.TheVariants as fault
 use Rattle.mrpc_table.specs.declared.policy_lines.RuleReason.{RuleReason}
 use Rattle.mrpc_table.specs.declared.policy_lines.RuleReason.TheVariants as reason
-use Rattle.policy_access.specs.declared.read.Said.{Said}
-use Rattle.policy_access.specs.declared.read.Said.TheVariants as saids
+use Rattle.policy_access.specs.declared.read.LineContent.{LineContent}
+use Rattle.policy_access.specs.declared.read.LineContent.TheVariants as saids
 use Rattle.policy_access.proofs.NameLemmas.{same_bytes}
 use Rattle.policy_access.proofs.Judging.{says, said-same, length-said, only_behind}
 use Rattle.policy_access.proofs.ReadLemmas.{here-to, read-push, read-nothing, default-behind, says_so, fault-here, fault-behind, fault-end, text-end}
@@ -44,7 +44,7 @@ reason_at n =
     if n == 0 then reason.Word else if n == 1 then reason.Number else if n == 2 then reason.Name
     else if n == 3 then reason.Known else if n == 4 then reason.Path else reason.Default
 
-reason_at-order : (q : RuleReason) → reason_at (order_of q) ≡ q
+reason_at-order : (q : RuleReason) → reason_at (rule_reason_rank q) ≡ q
 unfolding reason_at
 reason_at-order reason.Word = refl
 reason_at-order reason.Number = refl
@@ -53,15 +53,15 @@ reason_at-order reason.Known = refl
 reason_at-order reason.Path = refl
 reason_at-order reason.Default = refl
 
-same_order : (p q : RuleReason) → order_of p ≡ order_of q → p ≡ q
+same_order : (p q : RuleReason) → rule_reason_rank p ≡ rule_reason_rank q → p ≡ q
 same_order p q e = sym (reason_at-order p) ∙ ap reason_at e ∙ reason_at-order q
 
 not_before : (T : Table) (lines : List (List ℕ)) (m n : ℕ) (r q : RuleReason) → IsFirstFault T lines m r → IsFirstFault T lines n q → n ≤ m
 not_before T lines m n r q f g =
     elim (cases_lt m n) [ inl less ↦ let lt : m - 1 + 1 < n = omega (arith, f.counted) in absurd (g.none_before (m - 1) r lt f.here) | inr more ↦ more ]
 
-not_earlier : (T : Table) (lines : List (List ℕ)) (m : ℕ) (r q : RuleReason) → IsFirstFault T lines m r → IsFirstFault T lines m q → order_of q ≤ order_of r
-not_earlier T lines m r q f g = elim (cases_lt (order_of r) (order_of q)) [ inl less ↦ absurd (g.first_reason r less f.here) | inr more ↦ more ]
+not_earlier : (T : Table) (lines : List (List ℕ)) (m : ℕ) (r q : RuleReason) → IsFirstFault T lines m r → IsFirstFault T lines m q → rule_reason_rank q ≤ rule_reason_rank r
+not_earlier T lines m r q f g = elim (cases_lt (rule_reason_rank r) (rule_reason_rank q)) [ inl less ↦ absurd (g.first_reason r less f.here) | inr more ↦ more ]
 
 pub one-fault : (T : Table) (lines : List (List ℕ)) (m n : ℕ) (r q : RuleReason) → IsFirstFault T lines m r → IsFirstFault T lines n q → (m ≡ n) × (r ≡ q)
 one-fault T lines m n r q f g =
@@ -83,7 +83,7 @@ snoc_same (a ∷ xs) (b ∷ ys) x y e =
     let rest = snoc_same xs ys x y tail in
     (ap (λ z. z ∷ xs) head ∙ ap (λ zs. b ∷ zs) rest.0, rest.1)
 
-same_default : (o : Option Line) (a b : Bool) → o ≡ Some (forms.Default a) → o ≡ Some (forms.Default b) → a ≡ b
+same_default : (o : Option PolicyLine) (a b : Bool) → o ≡ Some (forms.Default a) → o ≡ Some (forms.Default b) → a ≡ b
 same_default o a b e d = cc
 
 abbrev policy_with : List Rule → Bool → AccessPolicy
@@ -92,9 +92,9 @@ policy_with rules allow = record { rules = rules; allow = allow }
 pub one-policy : (T : Table) (lines : List (List ℕ)) (p q : AccessPolicy) → IsTextOf T lines p → IsTextOf T lines q → p ≡ q
 one-policy T lines p q t u =
     let cut = snoc_same t.rule_lines u.rule_lines t.default_line u.default_line (sym t.whole ∙ u.whole) in
-    let rules : p.rules ≡ q.rules = said-same T t.rule_lines p.rules q.rules t.rules (subst (λ (ls : List (List ℕ)). SayEach (said_rule T) ls q.rules) (sym cut.0) u.rules) in
-    let allow : p.allow ≡ q.allow = same_default (line_of t.default_line) p.allow q.allow t.default
-    (subst (λ (l : List ℕ). line_of l ≡ Some (forms.Default q.allow)) (sym cut.1) u.default) in
+    let rules : p.rules ≡ q.rules = said-same T t.rule_lines p.rules q.rules t.rules (subst (λ (ls : List (List ℕ)). AreParsed (rule_of_line T) ls q.rules) (sym cut.0) u.rules) in
+    let allow : p.allow ≡ q.allow = same_default (access_line_of t.default_line) p.allow q.allow t.default
+    (subst (λ (l : List ℕ). access_line_of l ≡ Some (forms.Default q.allow)) (sym cut.1) u.default) in
     ap (λ (rs : List Rule). policy_with rs p.allow) rules ∙ ap (λ (a : Bool). policy_with q.rules a) allow
 
 -- ---- a text has no fault
@@ -121,19 +121,19 @@ among-distinct (a ∷ xs) ys x d =
 few_is : (n : ℕ) → n < 64 → nat_le 64 n ≡ false
 few_is n lt = grind (arith, common_steps)
 
-judged : (r : RuleLine) (many : Bool) (a : Result About PartReason) (about : About) (name known : Bool) → many ≡ false → a ≡ Ok about → name ≡ true → known ≡ false
-    → result_map_both saids.Rule (λ (q : RuleReason). q) (judged_rule many a name known r) ≡ Ok (saids.Rule (with_about r about))
+judged : (r : RuleLine) (many : Bool) (a : Result CallSelector SelectorReason) (about : CallSelector) (name known : Bool) → many ≡ false → a ≡ Ok about → name ≡ true → known ≡ false
+    → result_map_both saids.Rule (λ (q : RuleReason). q) (judged_rule many a name known r) ≡ Ok (saids.Rule (with_selector r about))
 judged r many a about name known em ea en ek = rw (em, ea, en, ek) refl
 
 -- a line of a rule with a new name is accepted
-pub said-ok : (T : Table) (names : List (List ℕ)) (line : List ℕ) (rule : Rule) → said_rule T line ≡ Some rule
+pub said-ok : (T : Table) (names : List (List ℕ)) (line : List ℕ) (rule : Rule) → rule_of_line T line ≡ Some rule
     → length names < 64 → is_rule_name rule.name ≡ true → is_among rule.name names ≡ false
-    → said_in T names (line_of line) ≡ Ok (saids.Rule rule)
+    → judged_line T names (access_line_of line) ≡ Ok (saids.Rule rule)
 said-ok T names line rule e few good fresh =
-    let s = says T line rule (line_of line) refl e in
+    let s = says T line rule (access_line_of line) refl e in
     let name : rule.name ≡ s.0.name = ap (λ (x : Rule). x.name) s.4 in
     rw (s.2)
-    (judged s.0 (nat_le 64 (length names)) (about_in T s.0.about) s.1 (is_rule_name s.0.name) (is_among s.0.name names) (few_is (length names) few) s.3
+    (judged s.0 (nat_le 64 (length names)) (selector_in T s.0.about) s.1 (is_rule_name s.0.name) (is_among s.0.name names) (few_is (length names) few) s.3
     (subst (λ (n : List ℕ). is_rule_name n ≡ true) name good) (subst (λ (n : List ℕ). is_among n names ≡ false) name fresh)
     ∙ ap (λ (x : Rule). says_so (saids.Rule x)) (sym s.4))
 
@@ -150,8 +150,8 @@ next_drop (a ∷ xs) zero x ys e = cc
 next_drop (a ∷ xs) (suc i) x ys e = next_drop xs i x ys e
 
 rest-read : (T : Table) (lines rest : List (List ℕ)) (last : List ℕ) (i : ℕ) (front rs : List Rule)
-    → AreRead T lines i front → drop i lines ≡ rest ++ last ∷ [] → SayEach (said_rule T) rest rs → i + length rs ≤ 64
-    → All (λ (r : Rule). IsTrue (is_rule_name r.name)) rs → AreDistinct (names_in front ++ names_in rs) → AreRead T lines (i + length rest) (front ++ rs)
+    → AreRead T lines i front → drop i lines ≡ rest ++ last ∷ [] → AreParsed (rule_of_line T) rest rs → i + length rs ≤ 64
+    → All (λ (r : Rule). IsTrue (is_rule_name r.name)) rs → AreDistinct (names_of_rules front ++ names_of_rules rs) → AreRead T lines (i + length rest) (front ++ rs)
 rest-read T lines [] last i front [] read here said few good fresh =
     let z : i ≡ i + 0 = omega arith in
     subst (λ (k : ℕ). AreRead T lines k (front ++ [])) z (subst (λ (rs : List Rule). AreRead T lines i rs) (sym (append-nil front)) read)
@@ -159,15 +159,15 @@ rest-read T lines [] last i front (r ∷ rs) read here said few good fresh = abs
 rest-read T lines (line ∷ rest) last i front [] read here said few good fresh = absurd said
 rest-read T lines (line ∷ rest) last i front (r ∷ rs) read here said few good fresh =
     let at = at_drop lines i line (rest ++ last ∷ []) here in
-    let count : length (names_in front) ≡ i = length-map front (λ (x : Rule). x.name) ∙ read.count in
-    let small : length (names_in front) < 64 = omega (arith, count) in
-    let taken = said-ok T (names_in front) line r said.0 small
+    let count : length (names_of_rules front) ≡ i = length-map front (λ (x : Rule). x.name) ∙ read.count in
+    let small : length (names_of_rules front) < 64 = omega (arith, count) in
+    let taken = said-ok T (names_of_rules front) line r said.0 small
     (All-head (λ (x : Rule). IsTrue (is_rule_name x.name)) r rs good)
-    (among-distinct (names_in front) (names_in rs) r.name fresh) in
+    (among-distinct (names_of_rules front) (names_of_rules rs) r.name fresh) in
     let next = read-push T lines i front line r read at taken in
     let drop_next : drop (i + 1) lines ≡ rest ++ last ∷ [] = rw add-one (next_drop lines i line (rest ++ last ∷ []) here) in
-    let names : names_in (front ++ r ∷ []) ++ names_in rs ≡ names_in front ++ r.name ∷ names_in rs =
-    rw (map_push (λ (x : Rule). x.name) front r) (append_assoc (names_in front) (r.name ∷ []) (names_in rs)) in
+    let names : names_of_rules (front ++ r ∷ []) ++ names_of_rules rs ≡ names_of_rules front ++ r.name ∷ names_of_rules rs =
+    rw (map_push (λ (x : Rule). x.name) front r) (append_assoc (names_of_rules front) (r.name ∷ []) (names_of_rules rs)) in
     let all = rest-read T lines rest last (i + 1) (front ++ r ∷ []) rs next drop_next said.1 (omega arith)
     (All-tail (λ (x : Rule). IsTrue (is_rule_name x.name)) r rs good)
     (subst (λ (ns : List (List ℕ)). AreDistinct ns) (sym names) fresh) in
@@ -178,13 +178,13 @@ at_last : {X : Type 0} (xs : List X) (x : X) → slice_get (xs ++ x ∷ []) (len
 at_last [] x = refl
 at_last (a ∷ xs) x = at_last xs x
 
-default_ok : (T : Table) (names : List (List ℕ)) (l : Option Line) (allow : Bool) → l ≡ Some (forms.Default allow) → said_in T names l ≡ Ok (saids.Default allow)
+default_ok : (T : Table) (names : List (List ℕ)) (l : Option PolicyLine) (allow : Bool) → l ≡ Some (forms.Default allow) → judged_line T names l ≡ Ok (saids.Default allow)
 default_ok T names l allow e = rw e refl
 
 -- lines that were read up to a default at their end have no fault
 clean : (T : Table) (lines : List (List ℕ)) (n : ℕ) (rules : List Rule) (last : List ℕ) (allow : Bool)
     → AreRead T lines n rules → slice_get lines n ≡ Some last → length lines ≡ n + 1
-    → line_of last ≡ Some (forms.Default allow) → (j : ℕ) (q : RuleReason) → IsAgainstAt T lines j q → ⊥
+    → access_line_of last ≡ Some (forms.Default allow) → (j : ℕ) (q : RuleReason) → IsAgainstAt T lines j q → ⊥
 clean T lines n rules last allow read at long is j q a =
     elim (cases_lt j n) [
       | inl less ↦ read.clean j q less a
@@ -197,8 +197,8 @@ clean T lines n rules last allow read at long is j q a =
   where
     at_default : IsAgainstAt T lines n q → ⊥
     at_default b =
-        let only = only_behind T (names_in rules) false last (saids.Default allow) q (line_of last) refl
-        (default_ok T (names_in rules) (line_of last) allow is) (here-to T lines n rules last q read at b) in
+        let only = only_behind T (names_of_rules rules) false last (saids.Default allow) q (access_line_of last) refl
+        (default_ok T (names_of_rules rules) (access_line_of last) allow is) (here-to T lines n rules last q read at b) in
         let clash : false ≡ true = only.0 in absurd cc
 
     beyond : n < j → IsAgainstAt T lines j q → ⊥
@@ -247,22 +247,22 @@ rest-either T lines [] i front read here =
     let all : i ≡ length lines = omega (arith, read.within, no_more lines i here) in
     inr (length lines + 1, reason.Default, fault-end T lines front (subst (λ (k : ℕ). AreRead T lines k front) all read))
 rest-either T lines (line ∷ rest) i front read here =
-    go (λ rule more. rest-either T lines rest (i + 1) (front ++ rule ∷ []) more (rw add-one (next_drop lines i line rest here))) (said_in T (names_in front) (line_of line)) refl
+    go (λ rule more. rest-either T lines rest (i + 1) (front ++ rule ∷ []) more (rw add-one (next_drop lines i line rest here))) (judged_line T (names_of_rules front) (access_line_of line)) refl
   where
     at : slice_get lines i ≡ Some line
     at = at_drop lines i line rest here
 
-    behind : (allow : Bool) (more : List (List ℕ)) → rest ≡ more → said_in T (names_in front) (line_of line) ≡ Ok (saids.Default allow) → TextOrFault T lines
+    behind : (allow : Bool) (more : List (List ℕ)) → rest ≡ more → judged_line T (names_of_rules front) (access_line_of line) ≡ Ok (saids.Default allow) → TextOrFault T lines
     behind allow [] none is = inl (policy_with front allow, text-end T lines i front line allow read at is (no_more lines (i + 1) (rw add-one (next_drop lines i line rest here) ∙ none)))
     behind allow (other ∷ more) some is =
         inr (
           i + 2,
-          reason_behind (said_in T (names_in front) (line_of other)),
+          reason_after_default (judged_line T (names_of_rules front) (access_line_of other)),
           fault-behind T lines i front line other allow read at is (at_drop lines (i + 1) other more (rw add-one (next_drop lines i line rest here) ∙ some)),
         )
 
     go : ((rule : Rule) → AreRead T lines (i + 1) (front ++ rule ∷ []) → TextOrFault T lines)
-        → (r : Result Said RuleReason) → said_in T (names_in front) (line_of line) ≡ r → TextOrFault T lines
+        → (r : Result LineContent RuleReason) → judged_line T (names_of_rules front) (access_line_of line) ≡ r → TextOrFault T lines
     go on (Err q) is = inr (i + 1, q, fault-here T lines i front line q read at is)
     go on (Ok (saids.Default allow)) is = behind allow rest refl is
     go on (Ok (saids.Rule rule)) is = on rule (read-push T lines i front line rule read at is)

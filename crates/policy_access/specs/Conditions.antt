@@ -6,9 +6,9 @@ use Rattle.std.specs.Str.{bytes_eq}
 use Rattle.mrpc_table.specs.Node.{Node, Item, number, run}
 use Rattle.mrpc_table.specs.Words.{rank}
 use Rattle.mrpc_table.specs.declared.table.Kind.{Kind}
-use Rattle.mrpc_table.specs.PathTrees.{content_behind}
+use Rattle.mrpc_table.specs.PathTrees.{content_at_path}
 use Rattle.mrpc_table.specs.declared.path.Path.{Path}
-use Rattle.policy_access.specs.Paths.{item_behind}
+use Rattle.policy_access.specs.Paths.{item_at_path}
 use Rattle.policy_access.specs.declared.rule.Operand.{Operand}
 use Rattle.policy_access.specs.declared.rule.Operand.TheVariants.{Number, Run}
 use Rattle.policy_access.specs.declared.rule.Condition.{Condition}
@@ -33,9 +33,9 @@ is_greater k (Number n) (number m) = nat_lt (rank k n) (rank k m)
 is_greater k _ _ = false
 
 -- the bytes of the rule are a prefix of its bytes
-abbrev pub begins : Operand → Item → Bool
-begins (Run prefix) (run bytes) = starts_with nat_eq bytes prefix
-begins _ _ = false
+abbrev pub has_prefix : Operand → Item → Bool
+has_prefix (Run prefix) (run bytes) = starts_with nat_eq bytes prefix
+has_prefix _ _ = false
 
 -- the comparison of a value of a kind with that of the rule
 abbrev pub compares : Comparison → Kind → Operand → Item → Bool
@@ -43,12 +43,12 @@ compares Equal k v i = is_equal v i
 compares NotEqual k v i = not (is_equal v i)
 compares Less k v i = is_less k v i
 compares Greater k v i = is_greater k v i
-compares Starts k v i = begins v i
+compares Starts k v i = has_prefix v i
 
 -- a tree meets a condition: it has the field, or it has a value that passes the comparison
 abbrev pub is_met : Path → Condition → Node → Bool
-is_met path Present t = is_some (content_behind t path)
-is_met path (Compares c v) t = option_map_or (compares c path.kind v) (item_behind t path) false
+is_met path Present t = is_some (content_at_path t path)
+is_met path (Compares c v) t = option_map_or (compares c path.kind v) (item_at_path t path) false
 
 abbrev pub meets : Node → Test → Bool
 meets t test = is_met test.path test.condition t

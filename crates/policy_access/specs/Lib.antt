@@ -4,7 +4,7 @@ pub mod Lines
 pub mod Names
 pub mod Paths
 pub mod Rules
-pub mod Said
+pub mod LineContent
 pub mod Texts
 pub mod Values
 pub mod Verdict

@@ -3,18 +3,18 @@ use Rattle.std.specs.Prelude.{ℕ, ◌==◌, Bool, true, false, ◌||◌, if◌t
 use Rattle.std.specs.List.{join_with_byte}
 use Rattle.std.specs.Str.{bytes_eq}
 use Rattle.mrpc_table.specs.Lines.{words_of}
-use Rattle.mrpc_table.specs.declared.call.Sort.{Sort}
-use Rattle.mrpc_table.specs.declared.call.Sort.TheVariants.{Request, Reply}
+use Rattle.mrpc_table.specs.declared.call.CallKind.{CallKind}
+use Rattle.mrpc_table.specs.declared.call.CallKind.TheVariants.{Request, Reply}
 use Rattle.mrpc_table.specs.declared.words.Decimal.{Decimal}
 use Rattle.mrpc_table.specs.PathWords.{decimal_of, path_of}
 use Rattle.mrpc_table.specs.declared.path.PathWord.{PathWord}
 use Rattle.policy_access.specs.declared.rule.Comparison.{Comparison}
 use Rattle.policy_access.specs.declared.rule.Comparison.TheVariants.{Equal, NotEqual, Less, Greater, Starts}
-use Rattle.policy_access.specs.declared.line.Line.{Line}
-use Rattle.policy_access.specs.declared.line.Line.TheVariants.{Rule, Default}
+use Rattle.policy_access.specs.declared.line.PolicyLine.{PolicyLine}
+use Rattle.policy_access.specs.declared.line.PolicyLine.TheVariants.{Rule, Default}
 use Rattle.policy_access.specs.declared.line.RuleLine.{RuleLine}
-use Rattle.policy_access.specs.declared.line.AboutLine.{AboutLine}
-use Rattle.policy_access.specs.declared.line.AboutLine.TheVariants.{Every, Calls}
+use Rattle.policy_access.specs.declared.line.SelectorLine.{SelectorLine}
+use Rattle.policy_access.specs.declared.line.SelectorLine.TheVariants.{Every, Calls}
 use Rattle.policy_access.specs.declared.line.CallsLine.{CallsLine}
 use Rattle.policy_access.specs.declared.line.TestLine.{TestLine}
 use Rattle.policy_access.specs.declared.line.ConditionLine.{ConditionLine}
@@ -62,56 +62,56 @@ abbrev pub with_condition : List (List ℕ) → PathWord → Option TestLine
 with_condition words p = option_map (λ c. record { path = p; condition = c }) (condition_of_words words)
 
 -- `where PATH OP [VALUE]`
-abbrev pub test_of : List (List ℕ) → Option TestLine
-test_of (first ∷ path ∷ words) =
+abbrev pub test_line_of : List (List ℕ) → Option TestLine
+test_line_of (first ∷ path ∷ words) =
     if bytes_eq first (codes "where")
     then option_and_then (with_condition words) (path_of path)
     else None
-test_of _ = None
+test_line_of _ = None
 
 -- nothing, or a test
 abbrev pub optional_test : List (List ℕ) → Option (Option TestLine)
 optional_test [] = Some None
-optional_test (word ∷ words) = option_map Some (test_of (word ∷ words))
+optional_test (word ∷ words) = option_map Some (test_line_of (word ∷ words))
 
-abbrev pub calls_with : Decimal → Sort → List (List ℕ) → Option CallsLine
+abbrev pub calls_with : Decimal → CallKind → List (List ℕ) → Option CallsLine
 calls_with index sort words = option_map (λ t. record { index = index; sort = sort; test = t }) (optional_test words)
 
 -- after the index: an optional `reply`, then an optional test
-abbrev pub calls_of : Decimal → List (List ℕ) → Option CallsLine
-calls_of index [] = calls_with index Request []
-calls_of index (word ∷ words) =
+abbrev pub calls_line_of : Decimal → List (List ℕ) → Option CallsLine
+calls_line_of index [] = calls_with index Request []
+calls_line_of index (word ∷ words) =
     if bytes_eq word (codes "reply") then calls_with index Reply words
     else calls_with index Request (word ∷ words)
 
 -- nothing, or `method INDEX` and what follows it
-abbrev pub about_of : List (List ℕ) → Option AboutLine
-about_of [] = Some Every
-about_of (first ∷ index ∷ words) =
+abbrev pub selector_line_of : List (List ℕ) → Option SelectorLine
+selector_line_of [] = Some Every
+selector_line_of (first ∷ index ∷ words) =
     if bytes_eq first (codes "method")
-    then option_and_then (λ n. option_map Calls (calls_of n words)) (decimal_of index)
+    then option_and_then (λ n. option_map Calls (calls_line_of n words)) (decimal_of index)
     else None
-about_of _ = None
+selector_line_of _ = None
 
 -- after the first word of a line
-abbrev pub rule_of : List (List ℕ) → Option RuleLine
-rule_of (name ∷ verb ∷ words) =
+abbrev pub rule_line_of : List (List ℕ) → Option RuleLine
+rule_line_of (name ∷ verb ∷ words) =
     option_and_then
-    (λ a. option_map (λ about. record { name = name; allow = a; about = about }) (about_of words))
+    (λ a. option_map (λ about. record { name = name; allow = a; about = about }) (selector_line_of words))
     (allow_of verb)
-rule_of _ = None
+rule_line_of _ = None
 
-abbrev pub default_of : List (List ℕ) → Option Bool
-default_of (verb ∷ []) = allow_of verb
-default_of _ = None
+abbrev pub default_line_of : List (List ℕ) → Option Bool
+default_line_of (verb ∷ []) = allow_of verb
+default_line_of _ = None
 
-abbrev pub line_of_words : List (List ℕ) → Option Line
-line_of_words [] = None
-line_of_words (first ∷ words) =
-    if bytes_eq first (codes "rule") then option_map Rule (rule_of words)
-    else if bytes_eq first (codes "default") then option_map Default (default_of words)
+abbrev pub access_line_of_words : List (List ℕ) → Option PolicyLine
+access_line_of_words [] = None
+access_line_of_words (first ∷ words) =
+    if bytes_eq first (codes "rule") then option_map Rule (rule_line_of words)
+    else if bytes_eq first (codes "default") then option_map Default (default_line_of words)
     else None
 
 -- the parsed line; none if the line is malformed
-unfoldable pub line_of : List ℕ → Option Line
-line_of line = line_of_words (words_of line)
+unfoldable pub access_line_of : List ℕ → Option PolicyLine
+access_line_of line = access_line_of_words (words_of line)

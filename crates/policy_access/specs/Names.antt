@@ -6,9 +6,9 @@ use Rattle.std.specs.BTreeMap.{get_by}
 use Rattle.policy_access.specs.Faults.{is_among}
 use Rattle.policy_access.specs.declared.names.SeenNames.{SeenNames}
 
-abbrev pub has_name : SeenNames → List ℕ → Bool
-has_name s name = is_some (get_by (λ key. slice_cmp nat_cmp name key.items) s.names)
+abbrev pub contains_name : SeenNames → List ℕ → Bool
+contains_name s name = is_some (get_by (λ key. slice_cmp nat_cmp name key.items) s.names)
 
 -- these are the names
-pub record Holds (s : SeenNames) (names : List (List ℕ)) : Type 0 where
-  pub found : (name : List ℕ) → has_name s name ≡ is_among name names
+pub record AreKnownNames (s : SeenNames) (names : List (List ℕ)) : Type 0 where
+  pub found : (name : List ℕ) → contains_name s name ≡ is_among name names

@@ -6,7 +6,7 @@ use Rattle.mrpc_table.specs.declared.table.Kind.{Kind}
 use Rattle.mrpc_table.specs.declared.table.Kind.TheVariants.{Text, Octets, Message}
 use Rattle.mrpc_table.specs.declared.table.Label.{Label}
 use Rattle.mrpc_table.specs.declared.table.Label.TheVariants.{Plain}
-use Rattle.mrpc_table.specs.PathTrees.{item_in, message_behind}
+use Rattle.mrpc_table.specs.PathTrees.{item_in, message_at_path}
 use Rattle.mrpc_table.specs.declared.path.Path.{Path}
 
 -- the default of a kind: 0, the empty text or no bytes; a message has none
@@ -32,8 +32,8 @@ item_of_field k label None = unset_item k label
 item_of_field k label (Some c) = option_and_then compared_item (item_in c)
 
 -- the value at the end of a path; none if a message on the way is unset
-abbrev pub item_behind : Node → Path → Option Item
-item_behind t path =
+abbrev pub item_at_path : Node → Path → Option Item
+item_at_path t path =
     option_and_then
     (λ m. item_of_field path.kind path.label (content_at m path.number))
-    (message_behind t path.way)
+    (message_at_path t path.way)

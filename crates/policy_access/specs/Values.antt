@@ -11,21 +11,21 @@ use Rattle.mrpc_table.specs.declared.table.Kind.TheVariants.{Int32, Int64, Uint3
 use Rattle.policy_access.specs.declared.limits.TheConstants.{MAX_TEXT_VALUE}
 use Rattle.policy_access.specs.declared.rule.Operand.{Operand}
 use Rattle.policy_access.specs.declared.rule.Operand.TheVariants.{Number, Run}
-use Rattle.policy_access.specs.declared.fault.PartReason.{PartReason}
-use Rattle.policy_access.specs.declared.fault.PartReason.TheVariants as reason
+use Rattle.policy_access.specs.declared.fault.SelectorReason.{SelectorReason}
+use Rattle.policy_access.specs.declared.fault.SelectorReason.TheVariants as reason
 
 -- ---- numbers
 
 -- the absolute value of the smallest number of a kind
-abbrev pub depth_of : Kind → ℕ
-depth_of Int32 = 2 ^ 31
-depth_of Sint32 = 2 ^ 31
-depth_of Sfixed32 = 2 ^ 31
-depth_of (Choice i) = 2 ^ 31
-depth_of Int64 = 2 ^ 63
-depth_of Sint64 = 2 ^ 63
-depth_of Sfixed64 = 2 ^ 63
-depth_of _ = 0
+abbrev pub negative_limit_of : Kind → ℕ
+negative_limit_of Int32 = 2 ^ 31
+negative_limit_of Sint32 = 2 ^ 31
+negative_limit_of Sfixed32 = 2 ^ 31
+negative_limit_of (Choice i) = 2 ^ 31
+negative_limit_of Int64 = 2 ^ 63
+negative_limit_of Sint64 = 2 ^ 63
+negative_limit_of Sfixed64 = 2 ^ 63
+negative_limit_of _ = 0
 
 -- the smallest number above the range of a kind
 abbrev pub limit_of : Kind → ℕ
@@ -42,20 +42,20 @@ limit_of TheBool = 2
 limit_of _ = 2 ^ 64
 
 -- the word form of an unsigned number, and of one after a `-`; `-0` is 0
-abbrev pub positive_word : Kind → Decimal → Result Operand PartReason
+abbrev pub positive_word : Kind → Decimal → Result Operand SelectorReason
 positive_word k (Small n) = if nat_lt n (limit_of k) then Ok (Number n) else Err reason.Number
 positive_word k Large = Err reason.Number
 
-abbrev pub negative_word : Kind → Decimal → Result Operand PartReason
-negative_word k (Small n) = if nat_le n (depth_of k) then Ok (Number ((2 ^ 64 - n) % 2 ^ 64)) else Err reason.Number
+abbrev pub negative_word : Kind → Decimal → Result Operand SelectorReason
+negative_word k (Small n) = if nat_le n (negative_limit_of k) then Ok (Number ((2 ^ 64 - n) % 2 ^ 64)) else Err reason.Number
 negative_word k Large = Err reason.Number
 
 -- the value of digits; `Word` if they are malformed
-abbrev pub spelled : (Decimal → Result Operand PartReason) → Option ℕ → Result Operand PartReason
+abbrev pub spelled : (Decimal → Result Operand SelectorReason) → Option ℕ → Result Operand SelectorReason
 spelled form None = Err reason.Word
 spelled form (Some n) = form (in_64_bits n)
 
-abbrev pub number_value : Kind → List ℕ → Result Operand PartReason
+abbrev pub number_value : Kind → List ℕ → Result Operand SelectorReason
 number_value k [] = Err reason.Word
 number_value k (c ∷ cs) =
     if c == 45 then spelled (negative_word k) (number_of cs)
@@ -75,40 +75,40 @@ abbrev pub quoted_part : List (List ℕ) → Option (List ℕ)
 quoted_part ([] ∷ text ∷ [] ∷ []) = Some text
 quoted_part _ = None
 
-abbrev pub quoted : List ℕ → Option (List ℕ)
-quoted word = quoted_part (slice_split (λ c. c == 34) word)
+abbrev pub quoted_text : List ℕ → Option (List ℕ)
+quoted_text word = quoted_part (slice_split (λ c. c == 34) word)
 
-abbrev pub text_or_word : Option (List ℕ) → Result Operand PartReason
+abbrev pub text_or_word : Option (List ℕ) → Result Operand SelectorReason
 text_or_word None = Err reason.Word
 text_or_word (Some text) = if is_text text then Ok (Run text) else Err reason.Word
 
-abbrev pub text_value : List ℕ → Result Operand PartReason
-text_value word = text_or_word (quoted word)
+abbrev pub text_value : List ℕ → Result Operand SelectorReason
+text_value word = text_or_word (quoted_text word)
 
 -- a digit, or a letter from `a` to `f`
 abbrev pub is_lower_digit : ℕ → Bool
 is_lower_digit c = (nat_le 48 c && nat_le c 57) || (nat_le 97 c && nat_le c 102)
 
-abbrev pub run_or_word : Option (List ℕ) → Result Operand PartReason
+abbrev pub run_or_word : Option (List ℕ) → Result Operand SelectorReason
 run_or_word None = Err reason.Word
 run_or_word (Some bytes) = Ok (Run bytes)
 
 -- an `x`, and then two digits for each byte
-abbrev pub bytes_value : List ℕ → Result Operand PartReason
+abbrev pub bytes_value : List ℕ → Result Operand SelectorReason
 bytes_value [] = Err reason.Word
 bytes_value (c ∷ cs) =
     if (c == 120) && list_all is_lower_digit cs then run_or_word (result_ok (decode_of cs))
     else Err reason.Word
 
 -- the meaning of a value for a field of the kind: `Word` if it is malformed, `Number` if it is out of range
-abbrev pub operand_of : Kind → List ℕ → Result Operand PartReason
+abbrev pub operand_of : Kind → List ℕ → Result Operand SelectorReason
 operand_of Text word = text_value word
 operand_of Octets word = bytes_value word
 operand_of (Message i) word = Err reason.Word
 operand_of k word = number_value k word
 
 -- the value is malformed for a field of the kind
-abbrev pub is_word_fault : Result Operand PartReason → Bool
+abbrev pub is_word_fault : Result Operand SelectorReason → Bool
 is_word_fault (Err reason.Word) = true
 is_word_fault _ = false
 

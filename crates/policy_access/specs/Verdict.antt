@@ -1,13 +1,13 @@
 -- The verdict of an access policy on a call (this project's own rule language).
 use Rattle.std.specs.Prelude.{ℕ, ◌==◌, Bool, true, ◌&&◌, List, length, option_map, position, slice_get, unwrap_or, codes}
 use Rattle.std.specs.Option.{option_map_or}
-use Rattle.mrpc_table.specs.Calls.{is_of_sort}
+use Rattle.mrpc_table.specs.Calls.{is_of_call_kind}
 use Rattle.policy_access.specs.Conditions.{meets}
 use Rattle.mrpc_table.specs.declared.call.Call.{Call}
 use Rattle.policy_access.specs.declared.verdict.Verdict.{Verdict}
 use Rattle.policy_access.specs.declared.rule.Rule.{Rule}
-use Rattle.policy_access.specs.declared.rule.About.{About}
-use Rattle.policy_access.specs.declared.rule.About.TheVariants.{Every, Calls as OfCalls}
+use Rattle.policy_access.specs.declared.rule.CallSelector.{CallSelector}
+use Rattle.policy_access.specs.declared.rule.CallSelector.TheVariants.{Every, Calls as OfCalls}
 use Rattle.policy_access.specs.declared.rule.Calls.{Calls}
 
 -- an access policy: its rules in order, and whether it allows a call that no rule matches
@@ -18,16 +18,16 @@ pub record AccessPolicy : Type 0 where
 -- the call has the method and the kind (request or reply), and its tree meets the test, if there is one
 abbrev pub is_one_of : Calls → Call → Bool
 is_one_of calls call =
-    ((call.method == calls.method) && is_of_sort calls.sort call.number)
+    ((call.method == calls.method) && is_of_call_kind calls.sort call.number)
     && option_map_or (meets call.tree) calls.test true
 
 -- the rule selects the call
-abbrev pub is_about : About → Call → Bool
-is_about Every call = true
-is_about (OfCalls calls) call = is_one_of calls call
+abbrev pub selects : CallSelector → Call → Bool
+selects Every call = true
+selects (OfCalls calls) call = is_one_of calls call
 
 abbrev pub matches : Rule → Call → Bool
-matches rule call = is_about rule.about call
+matches rule call = selects rule.about call
 
 -- the index of the first rule that matches; the number of rules if none does
 abbrev pub deciding_rule : AccessPolicy → Call → ℕ

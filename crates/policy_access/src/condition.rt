@@ -4,14 +4,14 @@ ghost use Rattle.std.specs.Prelude.{◌≡◌, false, option_map, position};
 ghost use Rattle.std.specs.Option.{option_copied, option_map_or};
 ghost use Rattle.mrpc_table.specs.Node.{number, run};
 ghost use Rattle.mrpc_table.specs.View.{content_of};
-ghost use Rattle.mrpc_table.specs.PathTrees.{IsAscending};
+ghost use Rattle.mrpc_table.specs.PathTrees.{IsAscendingTree};
 ghost use Rattle.policy_access.specs.Paths.{default_item, unset_item, item_of_field};
 ghost use Rattle.policy_access.specs.Conditions.{compares, meets};
 ghost use Rattle.policy_access.specs.Verdict.{is_one_of, matches};
 
-use crate::rule::{About, Calls, Comparison, Condition, Operand, Rule, Test};
+use crate::rule::{CallSelector, Calls, Comparison, Condition, Operand, Rule, Test};
 use mrpc_table::{
-    Call, FieldValue, Kind, Label, Path, Tree, Value, message_behind, numbers_ascend,
+    Call, FieldValue, Kind, Label, Path, Tree, Value, message_at_path, numbers_ascend,
 };
 
 fn number_compares(comparison: Comparison, kind: Kind, wanted: &Operand, word: u64) -> bool
@@ -103,11 +103,11 @@ fn field_compares(
 
 // Whether the tree meets the test.
 fn meets(tree: &Tree, test: &Test) -> bool
-    requires { IsAscending tree.now }
+    requires { IsAscendingTree tree.now }
     ensures { result ≡ meets tree.now test.now }
 {
     let path = &test.path;
-    let Some(message) = message_behind(tree, path.way.as_slice()) else {
+    let Some(message) = message_at_path(tree, path.way.as_slice()) else {
         return false;
     };
     numbers_ascend();
@@ -121,7 +121,7 @@ fn meets(tree: &Tree, test: &Test) -> bool
 }
 
 fn is_one_of(calls: &Calls, call: &Call) -> bool
-    requires { IsAscending call.now.tree }
+    requires { IsAscendingTree call.now.tree }
     ensures { result ≡ is_one_of calls.now call.now }
 {
     if call.method != calls.method || !call.is_of(calls.sort) {
@@ -135,7 +135,7 @@ fn is_one_of(calls: &Calls, call: &Call) -> bool
 
 // The index of the first rule that matches.
 pub(crate) fn first_match(rules: &[Rule], call: &Call) -> Option<usize>
-    requires { IsAscending call.now.tree }
+    requires { IsAscendingTree call.now.tree }
     ensures { result ≡ position (λ rule. matches rule call.now) rules.now }
 {
     rules.iter().position(|rule| matches(rule, call))
@@ -143,11 +143,11 @@ pub(crate) fn first_match(rules: &[Rule], call: &Call) -> Option<usize>
 
 // Whether the rule matches the call. It takes time in proportion to the path and to the bytes that it compares.
 pub(crate) fn matches(rule: &Rule, call: &Call) -> bool
-    requires { IsAscending call.now.tree }
+    requires { IsAscendingTree call.now.tree }
     ensures { result ≡ matches rule.now call.now }
 {
     match &rule.about {
-        About::Every => true,
-        About::Calls(calls) => is_one_of(calls, call),
+        CallSelector::Every => true,
+        CallSelector::Calls(calls) => is_one_of(calls, call),
     }
 }

@@ -2,7 +2,7 @@
 
 ghost use Rattle.std.specs.Prelude.{◌≡◌, IfOk, map, take};
 
-use crate::rule::{About, Calls, Condition, Operand, Rule, Test};
+use crate::rule::{CallSelector, Calls, Condition, Operand, Rule, Test};
 use mrpc_table::{Memory, Sequence};
 use std::alloc::Global;
 
@@ -19,13 +19,13 @@ impl Rule {
     }
 }
 
-impl About {
-    fn copied(&self, alloc: Global) -> Result<About, Memory>
+impl CallSelector {
+    fn copied(&self, alloc: Global) -> Result<CallSelector, Memory>
         ensures { IfOk result (λ r. r ≡ self.now) }
     {
         match self {
-            About::Every => Ok(About::Every),
-            About::Calls(calls) => Ok(About::Calls(calls.copied(alloc)?)),
+            CallSelector::Every => Ok(CallSelector::Every),
+            CallSelector::Calls(calls) => Ok(CallSelector::Calls(calls.copied(alloc)?)),
         }
     }
 }

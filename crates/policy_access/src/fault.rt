@@ -2,7 +2,7 @@
 
 // The reason of a fault in the part of a rule that selects calls. Each is a `RuleReason`, too.
 #[derive(Clone, Copy)]
-pub(crate) enum PartReason {
+pub(crate) enum SelectorReason {
     // A malformed value.
     Word,
     // An index above 65535, or a value out of the range of its kind.

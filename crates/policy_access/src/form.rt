@@ -2,11 +2,11 @@
 
 ghost use Rattle.std.specs.Prelude.{◌≡◌, ◌∷◌, ℕ, List, [], Some, IfOk, IfSome, MatchOption};
 ghost use Rattle.mrpc_table.specs.Lines.{words_of};
-ghost use Rattle.policy_access.specs.Lines.{allow_of, comparison_of, value_of, condition_of, condition_of_words, test_of, calls_with, calls_of, about_of, rule_of, default_of, line_of, is_quoted};
+ghost use Rattle.policy_access.specs.Lines.{allow_of, comparison_of, value_of, condition_of, condition_of_words, test_line_of, calls_with, calls_line_of, selector_line_of, rule_line_of, default_line_of, access_line_of, is_quoted};
 
-use crate::line::{AboutLine, CallsLine, ConditionLine, Line, RuleLine, TestLine};
+use crate::line::{CallsLine, ConditionLine, PolicyLine, RuleLine, SelectorLine, TestLine};
 use crate::rule::Comparison;
-use mrpc_table::{Bytes, Decimal, Memory, PathWord, Sort, cut, is_word, number_of};
+use mrpc_table::{Bytes, CallKind, Decimal, Memory, PathWord, is_word, number_of, split_once};
 use std::alloc::Global;
 
 // The first of at least two words, and the remainder of the line.
@@ -16,7 +16,7 @@ fn next_word(line: &[u8]) -> Option<(&[u8], &[u8])>
         (words_of line.now ≡ line.now ∷ [])
         (λ p. words_of line.now ≡ p.0.now ∷ words_of p.1.now) }
 {
-    cut(line, b' ')
+    split_once(line, b' ')
 }
 
 fn allow_of(word: &[u8]) -> Option<bool>
@@ -97,7 +97,7 @@ fn condition_line(alloc: Global, line: &[u8]) -> Result<Option<ConditionLine>, M
 
 // `where PATH OP [VALUE]`
 fn test_line(alloc: Global, line: &[u8]) -> Result<Option<TestLine>, Memory>
-    ensures { IfOk result (λ t. t ≡ test_of (words_of line.now)) }
+    ensures { IfOk result (λ t. t ≡ test_line_of (words_of line.now)) }
 {
     let Some((first, rest)) = next_word(line) else {
         return Ok(None);
@@ -122,7 +122,7 @@ fn test_line(alloc: Global, line: &[u8]) -> Result<Option<TestLine>, Memory>
 fn tested_calls(
     alloc: Global,
     index: Decimal,
-    sort: Sort,
+    sort: CallKind,
     line: &[u8],
 ) -> Result<Option<CallsLine>, Memory>
     ensures { IfOk result (λ c. c ≡ calls_with index sort (words_of line.now)) }
@@ -137,7 +137,7 @@ fn tested_calls(
     }
 }
 
-fn all_calls(index: Decimal, sort: Sort) -> CallsLine
+fn all_calls(index: Decimal, sort: CallKind) -> CallsLine
     ensures { Some result ≡ calls_with index sort [] }
 {
     CallsLine {
@@ -149,23 +149,23 @@ fn all_calls(index: Decimal, sort: Sort) -> CallsLine
 
 // `[reply] [where ..]`, after the index.
 fn calls_line(alloc: Global, index: Decimal, line: &[u8]) -> Result<Option<CallsLine>, Memory>
-    ensures { IfOk result (λ c. c ≡ calls_of index (words_of line.now)) }
+    ensures { IfOk result (λ c. c ≡ calls_line_of index (words_of line.now)) }
 {
     match next_word(line) {
         Some((first, rest)) if is_word(first, b"reply") => tested_calls(
             alloc,
             index,
-            Sort::Reply,
+            CallKind::Reply,
             rest,
         ),
-        None if is_word(line, b"reply") => Ok(Some(all_calls(index, Sort::Reply))),
-        _ => tested_calls(alloc, index, Sort::Request, line),
+        None if is_word(line, b"reply") => Ok(Some(all_calls(index, CallKind::Reply))),
+        _ => tested_calls(alloc, index, CallKind::Request, line),
     }
 }
 
 // `method INDEX [reply] [where ..]`
-fn about_line(alloc: Global, line: &[u8]) -> Result<Option<AboutLine>, Memory>
-    ensures { IfOk result (λ a. a ≡ about_of (words_of line.now)) }
+fn selector_line(alloc: Global, line: &[u8]) -> Result<Option<SelectorLine>, Memory>
+    ensures { IfOk result (λ a. a ≡ selector_line_of (words_of line.now)) }
 {
     let Some((first, rest)) = next_word(line) else {
         return Ok(None);
@@ -176,7 +176,7 @@ fn about_line(alloc: Global, line: &[u8]) -> Result<Option<AboutLine>, Memory>
     let Some((index, rest)) = next_word(rest) else {
         return Ok(match number_of(rest) {
             None => None,
-            Some(index) => Some(AboutLine::Calls(all_calls(index, Sort::Request))),
+            Some(index) => Some(SelectorLine::Calls(all_calls(index, CallKind::Request))),
         });
     };
     let Some(index) = number_of(index) else {
@@ -184,13 +184,13 @@ fn about_line(alloc: Global, line: &[u8]) -> Result<Option<AboutLine>, Memory>
     };
     match calls_line(alloc, index, rest)? {
         None => Ok(None),
-        Some(calls) => Ok(Some(AboutLine::Calls(calls))),
+        Some(calls) => Ok(Some(SelectorLine::Calls(calls))),
     }
 }
 
 // `NAME allow|deny ..`
 fn rule_line(alloc: Global, line: &[u8]) -> Result<Option<RuleLine>, Memory>
-    ensures { IfOk result (λ r. r ≡ rule_of (words_of line.now)) }
+    ensures { IfOk result (λ r. r ≡ rule_line_of (words_of line.now)) }
 {
     let Some((name, rest)) = next_word(line) else {
         return Ok(None);
@@ -201,7 +201,7 @@ fn rule_line(alloc: Global, line: &[u8]) -> Result<Option<RuleLine>, Memory>
     let Some(allow) = allow_of(verb) else {
         return Ok(None);
     };
-    let Some(about) = about_line(alloc, rest)? else {
+    let Some(about) = selector_line(alloc, rest)? else {
         return Ok(None);
     };
     let name = Bytes::from_slice(alloc, name)?;
@@ -210,7 +210,7 @@ fn rule_line(alloc: Global, line: &[u8]) -> Result<Option<RuleLine>, Memory>
 
 // `NAME allow|deny` alone.
 fn every_call(alloc: Global, name: &[u8], verb: &[u8]) -> Result<Option<RuleLine>, Memory>
-    ensures { IfOk result (λ r. r ≡ rule_of (name.now ∷ verb.now ∷ [])) }
+    ensures { IfOk result (λ r. r ≡ rule_line_of (name.now ∷ verb.now ∷ [])) }
 {
     let Some(allow) = allow_of(verb) else {
         return Ok(None);
@@ -218,12 +218,12 @@ fn every_call(alloc: Global, name: &[u8], verb: &[u8]) -> Result<Option<RuleLine
     Ok(Some(RuleLine {
         name: Bytes::from_slice(alloc, name)?,
         allow,
-        about: AboutLine::Every,
+        about: SelectorLine::Every,
     }))
 }
 
 fn default_line(line: &[u8]) -> Option<bool>
-    ensures { result ≡ default_of (words_of line.now) }
+    ensures { result ≡ default_line_of (words_of line.now) }
 {
     match next_word(line) {
         Some(_) => None,
@@ -232,9 +232,9 @@ fn default_line(line: &[u8]) -> Option<bool>
 }
 
 // A parsed line, or `None` if the line is malformed.
-#[tactic(auto, unfolding(crate::specs::Lines::line_of))]
-pub(crate) fn line_of(alloc: Global, line: &[u8]) -> Result<Option<Line>, Memory>
-    ensures { IfOk result (λ l. l ≡ line_of line.now) }
+#[tactic(auto, unfolding(crate::specs::Lines::access_line_of))]
+pub(crate) fn access_line_of(alloc: Global, line: &[u8]) -> Result<Option<PolicyLine>, Memory>
+    ensures { IfOk result (λ l. l ≡ access_line_of line.now) }
 {
     let Some((first, rest)) = next_word(line) else {
         return Ok(None);
@@ -242,12 +242,12 @@ pub(crate) fn line_of(alloc: Global, line: &[u8]) -> Result<Option<Line>, Memory
     if is_word(first, b"rule") {
         match rule_line(alloc, rest)? {
             None => Ok(None),
-            Some(rule) => Ok(Some(Line::Rule(rule))),
+            Some(rule) => Ok(Some(PolicyLine::Rule(rule))),
         }
     } else if is_word(first, b"default") {
         match default_line(rest) {
             None => Ok(None),
-            Some(allow) => Ok(Some(Line::Default(allow))),
+            Some(allow) => Ok(Some(PolicyLine::Default(allow))),
         }
     } else {
         Ok(None)

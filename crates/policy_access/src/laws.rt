@@ -8,13 +8,13 @@ ghost use Rattle.policy_access.specs.Verdict.{AccessPolicy};
 ghost use Rattle.mrpc_table.specs.declared.policy_lines.RuleReason.{RuleReason};
 
 /// Lines are the text of at most one policy.
-pub fn one_policy()
+pub fn policy_is_unique()
     ensures { (T : Table) (lines : List (List ℕ)) (p q : AccessPolicy)
         → IsTextOf T lines p → IsTextOf T lines q → p ≡ q }
 {}
 
 /// Lines have at most one first fault.
-pub fn one_fault()
+pub fn first_fault_is_unique()
     ensures { (T : Table) (lines : List (List ℕ)) (m n : ℕ) (r q : RuleReason)
         → IsFirstFault T lines m r → IsFirstFault T lines n q → (m ≡ n) × (r ≡ q) }
 {}

@@ -23,7 +23,7 @@ mod value;
 mod verdict;
 
 pub use access::Access;
-pub use laws::{one_fault, one_policy, text_or_fault};
+pub use laws::{first_fault_is_unique, policy_is_unique, text_or_fault};
 pub use limits::{MAX_RULES, MAX_TEXT_VALUE};
 pub use read::read_access;
 pub use verdict::Verdict;

@@ -1,14 +1,14 @@
 //! The content of a policy's line, by its form alone.
 
 ghost use Rattle.std.specs.Prelude.{◌≡◌};
-ghost use Rattle.policy_access.specs.Texts.{with_about};
+ghost use Rattle.policy_access.specs.Texts.{with_selector};
 
-use crate::rule::{About, Comparison, Rule};
-use mrpc_table::{Bytes, Decimal, PathWord, Sort};
+use crate::rule::{CallSelector, Comparison, Rule};
+use mrpc_table::{Bytes, CallKind, Decimal, PathWord};
 
 // A line of valid form.
 #[derive(Drop)]
-pub(crate) enum Line {
+pub(crate) enum PolicyLine {
     // `rule NAME allow|deny ..`
     Rule(RuleLine),
     // `default allow|deny`; true if it allows.
@@ -20,7 +20,7 @@ pub(crate) struct RuleLine {
     // The word at the name's position.
     pub name: Bytes,
     pub allow: bool,
-    pub about: AboutLine,
+    pub about: SelectorLine,
 }
 
 // Written by hand, so that a drop is one call instead of one for each field.
@@ -36,8 +36,8 @@ impl Drop for RuleLine {
 
 impl RuleLine {
     // The rule of the line, with its resolved call selector.
-    pub(crate) fn with_about(self, about: About) -> Rule
-        ensures { result ≡ with_about self about }
+    pub(crate) fn with_selector(self, about: CallSelector) -> Rule
+        ensures { result ≡ with_selector self about }
     {
         let RuleLine {
             name,
@@ -50,7 +50,7 @@ impl RuleLine {
 
 // The calls that a rule selects, as its line gives them.
 #[derive(Drop)]
-pub(crate) enum AboutLine {
+pub(crate) enum SelectorLine {
     // Nothing follows: every call.
     Every,
     // `method INDEX [reply] [where ..]`
@@ -60,7 +60,7 @@ pub(crate) enum AboutLine {
 // `method INDEX [reply] [where ..]`
 pub(crate) struct CallsLine {
     pub index: Decimal,
-    pub sort: Sort,
+    pub sort: CallKind,
     pub test: Option<TestLine>,
 }
 

@@ -2,7 +2,7 @@
 
 ghost use Rattle.std.specs.Prelude.{◌≡◌, ◌++◌, ◌∷◌, ℕ, List, [], OnOk};
 ghost use Rattle.policy_access.specs.Faults.{is_among};
-ghost use Rattle.policy_access.specs.Names.{Holds};
+ghost use Rattle.policy_access.specs.Names.{AreKnownNames};
 
 use mrpc_table::Memory;
 use std::alloc::Global;
@@ -17,7 +17,7 @@ pub(crate) struct SeenNames {
 impl SeenNames {
     // No names.
     pub(crate) fn new(alloc: Global) -> SeenNames
-        ensures { Holds result [] }
+        ensures { AreKnownNames result [] }
     {
         SeenNames {
             names: BTreeMap::new(alloc),
@@ -26,15 +26,15 @@ impl SeenNames {
 
     // Whether the name is among these.
     pub(crate) fn contains(&self, name: &[u8]) -> bool
-        ensures { (names : List (List ℕ)) → Holds self.now names → result ≡ is_among name.now names }
+        ensures { (names : List (List ℕ)) → AreKnownNames self.now names → result ≡ is_among name.now names }
     {
         self.names.contains_key(name)
     }
 
     // Adds a name.
     pub(crate) fn add(&mut self, alloc: Global, name: &[u8]) -> Result<(), Memory>
-        ensures { (names : List (List ℕ)) → Holds self.old names
-            → OnOk result (Holds self.new (names ++ name.now ∷ [])) }
+        ensures { (names : List (List ℕ)) → AreKnownNames self.old names
+            → OnOk result (AreKnownNames self.new (names ++ name.now ∷ [])) }
     {
         self.names.insert(Vec::from_slice(alloc, name)?, ())?;
         Ok(())

@@ -3,25 +3,25 @@
 ghost use Rattle.std.specs.Prelude.{◌≡◌, ◌+◌, ◌++◌, ◌^◌, ◌<◌, ◌≤◌, ℕ, List, [], ◌∷◌, Err, false, length, IfOk, IfErr, OnOk, MatchResult, nat_le};
 ghost use Rattle.mrpc_table.specs.Valid.{IsValid};
 ghost use Rattle.policy_access.specs.Faults.{is_rule_name, is_among, IsFaultOf};
-ghost use Rattle.policy_access.specs.Lines.{line_of};
-ghost use Rattle.policy_access.specs.Names.{Holds};
-ghost use Rattle.policy_access.specs.Reading.{names_in, AreRead, DefaultAt};
+ghost use Rattle.policy_access.specs.Lines.{access_line_of};
+ghost use Rattle.policy_access.specs.Names.{AreKnownNames};
+ghost use Rattle.policy_access.specs.Reading.{names_of_rules, AreRead, IsDefaultAt};
 ghost use Rattle.policy_access.specs.Texts.{IsTextOf};
 ghost use Rattle.policy_access.specs.Verdict.{AccessPolicy};
 ghost use Rattle.mrpc_table.specs.declared.policy_lines.RuleFault.TheVariants.{Memory as NoMemory};
-ghost use Rattle.policy_access.specs.Rules.{about_in};
-ghost use Rattle.policy_access.specs.Said.{judged_rule, said_in, reason_behind};
+ghost use Rattle.policy_access.specs.Rules.{selector_in};
+ghost use Rattle.policy_access.specs.LineContent.{judged_rule, judged_line, reason_after_default};
 ghost use Rattle.policy_access.specs.declared.line.RuleLine.{RuleLine};
 ghost use Rattle.policy_access.specs.declared.limits.TheConstants.{MAX_RULES};
 
 use crate::access::Access;
-use crate::fault::PartReason;
-use crate::form::line_of;
+use crate::fault::SelectorReason;
+use crate::form::access_line_of;
 use crate::limits::MAX_RULES;
-use crate::line::{Line, RuleLine};
+use crate::line::{PolicyLine, RuleLine};
 use crate::names::SeenNames;
-use crate::resolve::about_in;
-use crate::rule::{About, Rule};
+use crate::resolve::selector_in;
+use crate::rule::{CallSelector, Rule};
 use mrpc_table::{
     Bytes, Lines, Memory, RuleFault, RuleReason, Table, is_name_form, is_short, is_word,
 };
@@ -29,7 +29,7 @@ use std::alloc::Global;
 
 // The content of a valid line.
 #[derive(Drop)]
-pub(crate) enum Said {
+pub(crate) enum LineContent {
     // A rule.
     Rule(Rule),
     // The default; true if it allows.
@@ -51,14 +51,14 @@ fn judged_rule(
     line: RuleLine,
 ) -> Result<Result<Rule, RuleReason>, Memory>
     requires { IsValid table.now }
-    ensures { (before : List (List ℕ)) → Holds names.now before
-        → IfOk result (λ r. r ≡ judged_rule (nat_le MAX_RULES count) (about_in table.now line.about)
+    ensures { (before : List (List ℕ)) → AreKnownNames names.now before
+        → IfOk result (λ r. r ≡ judged_rule (nat_le MAX_RULES count) (selector_in table.now line.about)
         (is_rule_name line.name) (is_among line.name before) line) }
 {
     if count >= MAX_RULES {
         return Ok(Err(RuleReason::Word));
     }
-    let about = about_in(alloc, table, &line.about)?;
+    let about = selector_in(alloc, table, &line.about)?;
     let named = is_rule_name(line.name.as_slice());
     let known = names.contains(line.name.as_slice());
     Ok(judged(about, named, known, line))
@@ -67,7 +67,7 @@ fn judged_rule(
 // The rule of a line, or the first reason against it. It depends on the selected calls, on whether the name is valid,
 // and on whether an earlier rule has the name.
 fn judged(
-    about: Result<About, PartReason>,
+    about: Result<CallSelector, SelectorReason>,
     named: bool,
     known: bool,
     line: RuleLine,
@@ -78,7 +78,7 @@ fn judged(
         Err(reason) => Err(first_reason(reason, named, known)),
         Ok(about) => {
             if named && !known {
-                Ok(line.with_about(about))
+                Ok(line.with_selector(about))
             } else {
                 Err(if named {
                     RuleReason::Known
@@ -91,42 +91,42 @@ fn judged(
 }
 
 // The first reason against a line of a rule whose call selector has a fault.
-fn first_reason(reason: PartReason, named: bool, known: bool) -> RuleReason
+fn first_reason(reason: SelectorReason, named: bool, known: bool) -> RuleReason
     ensures { (line : RuleLine) → judged_rule false (Err reason) named known line ≡ Err result }
 {
     match reason {
-        PartReason::Word => RuleReason::Word,
-        PartReason::Number => RuleReason::Number,
-        PartReason::Path if !named => RuleReason::Name,
-        PartReason::Path if known => RuleReason::Known,
-        PartReason::Path => RuleReason::Path,
+        SelectorReason::Word => RuleReason::Word,
+        SelectorReason::Number => RuleReason::Number,
+        SelectorReason::Path if !named => RuleReason::Name,
+        SelectorReason::Path if known => RuleReason::Known,
+        SelectorReason::Path => RuleReason::Path,
     }
 }
 
 // The content of a line after `count` rules with these names, or the first reason against the line.
-pub(crate) fn said_in(
+pub(crate) fn judged_line(
     alloc: Global,
     table: &Table,
     names: &SeenNames,
     count: usize,
     line: &[u8],
-) -> Result<Result<Said, RuleReason>, Memory>
+) -> Result<Result<LineContent, RuleReason>, Memory>
     requires { IsValid table.now }
-    ensures { (before : List (List ℕ)) → Holds names.now before → count ≡ length before
-        → IfOk result (λ s. s ≡ said_in table.now before (line_of line.now)) }
+    ensures { (before : List (List ℕ)) → AreKnownNames names.now before → count ≡ length before
+        → IfOk result (λ s. s ≡ judged_line table.now before (access_line_of line.now)) }
 {
-    match line_of(alloc, line)? {
+    match access_line_of(alloc, line)? {
         None => Ok(Err(RuleReason::Word)),
-        Some(Line::Default(allow)) => Ok(Ok(Said::Default(allow))),
-        Some(Line::Rule(rule)) => match judged_rule(alloc, table, names, count, rule)? {
+        Some(PolicyLine::Default(allow)) => Ok(Ok(LineContent::Default(allow))),
+        Some(PolicyLine::Rule(rule)) => match judged_rule(alloc, table, names, count, rule)? {
             Err(reason) => Ok(Err(reason)),
-            Ok(rule) => Ok(Ok(Said::Rule(rule))),
+            Ok(rule) => Ok(Ok(LineContent::Rule(rule))),
         },
     }
 }
 
 // The reason against a line after the default.
-fn reason_behind(
+fn reason_after_default(
     alloc: Global,
     table: &Table,
     names: &SeenNames,
@@ -134,10 +134,10 @@ fn reason_behind(
     line: &[u8],
 ) -> Result<RuleReason, Memory>
     requires { IsValid table.now }
-    ensures { (before : List (List ℕ)) → Holds names.now before → count ≡ length before
-        → IfOk result (λ q. q ≡ reason_behind (said_in table.now before (line_of line.now))) }
+    ensures { (before : List (List ℕ)) → AreKnownNames names.now before → count ≡ length before
+        → IfOk result (λ q. q ≡ reason_after_default (judged_line table.now before (access_line_of line.now))) }
 {
-    match said_in(alloc, table, names, count, line)? {
+    match judged_line(alloc, table, names, count, line)? {
         Err(reason) => Ok(reason),
         Ok(_) => Ok(RuleReason::Default),
     }
@@ -162,7 +162,7 @@ impl Drop for SoFar {
 impl SoFar {
     fn new(alloc: Global) -> SoFar
         ensures rules { result.rules.items ≡ [] }
-        ensures names { Holds result.names [] }
+        ensures names { AreKnownNames result.names [] }
     {
         SoFar {
             rules: Vec::new(alloc),
@@ -172,8 +172,8 @@ impl SoFar {
 
     fn add(&mut self, alloc: Global, rule: Rule) -> Result<(), Memory>
         ensures rules { OnOk result (self.new.rules.items ≡ self.old.rules.items ++ rule ∷ []) }
-        ensures names { (names : List (List ℕ)) → Holds self.old.names names
-            → OnOk result (Holds self.new.names (names ++ rule.name ∷ [])) }
+        ensures names { (names : List (List ℕ)) → AreKnownNames self.old.names names
+            → OnOk result (AreKnownNames self.new.names (names ++ rule.name ∷ [])) }
     {
         self.names.add(alloc, rule.name.as_slice())?;
         self.rules.push(rule)?;
@@ -204,15 +204,15 @@ fn finish(
 ) -> Result<Access, RuleFault>
     requires valid { IsValid table.now }
     requires read { AreRead table.now lines.now place so_far.rules.items }
-    requires names { Holds so_far.names (names_in so_far.rules.items) }
-    requires default { DefaultAt table.now lines.now place so_far.rules.items allow }
+    requires names { AreKnownNames so_far.names (names_of_rules so_far.rules.items) }
+    requires default { IsDefaultAt table.now lines.now place so_far.rules.items allow }
     ensures accepted { IfOk result (λ a. IsTextOf table.now lines.now a) }
     ensures fault { IfErr result (λ e. IsFaultOf table.now lines.now e) }
 {
     match lines.get(place + 1) {
         None => Ok(so_far.into_access(alloc, allow)?),
         Some(line) => {
-            let reason = reason_behind(
+            let reason = reason_after_default(
                 alloc,
                 table,
                 &so_far.names,
@@ -234,15 +234,15 @@ fn read_rules(
 ) -> Result<(usize, bool), RuleFault>
     requires valid { IsValid table.now }
     requires none { so_far.old.rules.items ≡ [] }
-    requires no_names { Holds so_far.old.names [] }
+    requires no_names { AreKnownNames so_far.old.names [] }
     ensures read { IfOk result (λ default. AreRead table.now lines.now default.0 so_far.new.rules.items) }
-    ensures names { IfOk result (λ default. Holds so_far.new.names (names_in so_far.new.rules.items)) }
+    ensures names { IfOk result (λ default. AreKnownNames so_far.new.names (names_of_rules so_far.new.rules.items)) }
     ensures default { IfOk result (λ default.
-        DefaultAt table.now lines.now default.0 so_far.new.rules.items default.1) }
+        IsDefaultAt table.now lines.now default.0 so_far.new.rules.items default.1) }
     ensures fault { IfErr result (λ e. IsFaultOf table.now lines.now e) }
 {
     for (place, line) in lines.iter().enumerate() {
-        match said_in(
+        match judged_line(
             alloc,
             table,
             &so_far.names,
@@ -250,8 +250,8 @@ fn read_rules(
             line.as_slice(),
         )? {
             Err(reason) => return Err(RuleFault::at(place, reason)),
-            Ok(Said::Default(allow)) => return Ok((place, allow)),
-            Ok(Said::Rule(rule)) => so_far.add(alloc, rule)?,
+            Ok(LineContent::Default(allow)) => return Ok((place, allow)),
+            Ok(LineContent::Rule(rule)) => so_far.add(alloc, rule)?,
         }
     }
     Err(RuleFault::at(lines.len(), RuleReason::Default))

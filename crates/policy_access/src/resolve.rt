@@ -3,11 +3,11 @@
 ghost use Rattle.std.specs.Prelude.{◌≡◌, ◌<◌, length, IfOk};
 ghost use Rattle.mrpc_table.specs.Valid.{IsValid};
 ghost use Rattle.mrpc_table.specs.Words.{has_one_value, is_run};
-ghost use Rattle.policy_access.specs.Rules.{is_comparable, suits, condition_in, test_in, tests_in, of_unknown_method, calls_of_method, calls_in, about_in};
+ghost use Rattle.policy_access.specs.Rules.{is_comparable, fits_kind, condition_in, test_in, tests_in, of_unknown_method, calls_of_method, calls_in, selector_in};
 
-use crate::fault::PartReason;
-use crate::line::{AboutLine, CallsLine, ConditionLine, TestLine};
-use crate::rule::{About, Calls, Comparison, Condition, Test};
+use crate::fault::SelectorReason;
+use crate::line::{CallsLine, ConditionLine, SelectorLine, TestLine};
+use crate::rule::{CallSelector, Calls, Comparison, Condition, Test};
 use crate::value::{has_no_form, operand_of};
 use mrpc_table::{Decimal, Kind, Label, Memory, Path, Table};
 use std::alloc::Global;
@@ -49,8 +49,8 @@ fn is_run(kind: Kind) -> bool
     matches!(kind, Kind::Text | Kind::Octets)
 }
 
-fn suits(comparison: Comparison, kind: Kind) -> bool
-    ensures { result ≡ suits comparison kind }
+fn fits_kind(comparison: Comparison, kind: Kind) -> bool
+    ensures { result ≡ fits_kind comparison kind }
 {
     match comparison {
         Comparison::Equal | Comparison::NotEqual => is_comparable(kind),
@@ -63,14 +63,14 @@ fn condition_in(
     alloc: Global,
     path: &Path,
     condition: &ConditionLine,
-) -> Result<Result<Condition, PartReason>, Memory>
+) -> Result<Result<Condition, SelectorReason>, Memory>
     ensures { IfOk result (λ c. c ≡ condition_in path.now condition.now) }
 {
     match condition {
         ConditionLine::Present => Ok(Ok(Condition::Present)),
         ConditionLine::Compares(comparison, value) => {
-            if !has_one_value(path.label) || !suits(*comparison, path.kind) {
-                return Ok(Err(PartReason::Path));
+            if !has_one_value(path.label) || !fits_kind(*comparison, path.kind) {
+                return Ok(Err(SelectorReason::Path));
             }
             match operand_of(alloc, path.kind, value.as_slice())? {
                 Err(reason) => Ok(Err(reason)),
@@ -85,12 +85,12 @@ fn test_in(
     table: &Table,
     msg: u32,
     test: &TestLine,
-) -> Result<Result<Test, PartReason>, Memory>
+) -> Result<Result<Test, SelectorReason>, Memory>
     requires { IsValid table.now }
     ensures { IfOk result (λ t. t ≡ test_in table.now msg test.now) }
 {
     let Some(path) = test.path.resolve(alloc, table, msg)? else {
-        return Ok(Err(PartReason::Path));
+        return Ok(Err(SelectorReason::Path));
     };
     match condition_in(alloc, &path, &test.condition)? {
         Err(reason) => Ok(Err(reason)),
@@ -103,7 +103,7 @@ fn tests_in(
     table: &Table,
     msg: u32,
     test: &Option<TestLine>,
-) -> Result<Result<Option<Test>, PartReason>, Memory>
+) -> Result<Result<Option<Test>, SelectorReason>, Memory>
     requires { IsValid table.now }
     ensures { IfOk result (λ t. t ≡ tests_in table.now msg test.now) }
 {
@@ -119,9 +119,9 @@ fn tests_in(
 // The reason against the calls of an unknown method. Of its test, only the form of the value is judged.
 fn of_unknown_method(
     alloc: Global,
-    reason: PartReason,
+    reason: SelectorReason,
     test: &Option<TestLine>,
-) -> Result<PartReason, Memory>
+) -> Result<SelectorReason, Memory>
     ensures { IfOk result (λ q. q ≡ of_unknown_method reason test.now) }
 {
     match test {
@@ -130,7 +130,7 @@ fn of_unknown_method(
                 path: _,
                 condition: ConditionLine::Compares(_, value),
             },
-        ) if has_no_form(alloc, value.as_slice())? => Ok(PartReason::Word),
+        ) if has_no_form(alloc, value.as_slice())? => Ok(SelectorReason::Word),
         _ => Ok(reason),
     }
 }
@@ -140,12 +140,12 @@ fn calls_of_method(
     table: &Table,
     method: u16,
     calls: &CallsLine,
-) -> Result<Result<Calls, PartReason>, Memory>
+) -> Result<Result<Calls, SelectorReason>, Memory>
     requires { IsValid table.now }
     ensures { IfOk result (λ c. c ≡ calls_of_method table.now method calls.now.sort calls.now.test) }
 {
     if method as usize >= table.methods.len() {
-        return Ok(Err(of_unknown_method(alloc, PartReason::Path, &calls.test)?));
+        return Ok(Err(of_unknown_method(alloc, SelectorReason::Path, &calls.test)?));
     }
     let sort = calls.sort;
     let msg = table.message_of(method, sort);
@@ -159,7 +159,7 @@ fn calls_in(
     alloc: Global,
     table: &Table,
     calls: &CallsLine,
-) -> Result<Result<Calls, PartReason>, Memory>
+) -> Result<Result<Calls, SelectorReason>, Memory>
     requires { IsValid table.now }
     ensures { IfOk result (λ c. c ≡ calls_in table.now calls.now) }
 {
@@ -169,7 +169,7 @@ fn calls_in(
         }
         Decimal::Small(_) | Decimal::Large => Ok(Err(of_unknown_method(
             alloc,
-            PartReason::Number,
+            SelectorReason::Number,
             &calls.test,
         )?)),
     }
@@ -178,19 +178,19 @@ fn calls_in(
 // The calls that a rule selects, resolved in the table. The reason is `Number` for an index of more than 16 bits or a
 // value out of range. It is `Path` for a method or a field that the table doesn't have, or an operation that doesn't
 // fit, and `Word` for a malformed value. If the method is unknown, a value that has no form at all counts first.
-pub(crate) fn about_in(
+pub(crate) fn selector_in(
     alloc: Global,
     table: &Table,
-    about: &AboutLine,
-) -> Result<Result<About, PartReason>, Memory>
+    about: &SelectorLine,
+) -> Result<Result<CallSelector, SelectorReason>, Memory>
     requires { IsValid table.now }
-    ensures { IfOk result (λ a. a ≡ about_in table.now about.now) }
+    ensures { IfOk result (λ a. a ≡ selector_in table.now about.now) }
 {
     match about {
-        AboutLine::Every => Ok(Ok(About::Every)),
-        AboutLine::Calls(calls) => match calls_in(alloc, table, calls)? {
+        SelectorLine::Every => Ok(Ok(CallSelector::Every)),
+        SelectorLine::Calls(calls) => match calls_in(alloc, table, calls)? {
             Err(reason) => Ok(Err(reason)),
-            Ok(calls) => Ok(Ok(About::Calls(calls))),
+            Ok(calls) => Ok(Ok(CallSelector::Calls(calls))),
         },
     }
 }

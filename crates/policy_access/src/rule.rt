@@ -1,13 +1,13 @@
 //! A rule.
 
-use mrpc_table::{Bytes, Name, Path, Sort};
+use mrpc_table::{Bytes, CallKind, Name, Path};
 
 // A rule of a policy.
 pub(crate) struct Rule {
     pub name: Name,
     // Whether a matching call is allowed; otherwise it is denied.
     pub allow: bool,
-    pub about: About,
+    pub about: CallSelector,
 }
 
 // Written by hand, so that a drop is one call instead of one for each field.
@@ -22,7 +22,7 @@ impl Drop for Rule {
 }
 
 // The calls that a rule matches.
-pub(crate) enum About {
+pub(crate) enum CallSelector {
     // Every call.
     Every,
     // The requests or the replies of a method.
@@ -30,11 +30,11 @@ pub(crate) enum About {
 }
 
 // Written by hand, so that a drop is one call instead of one for each field.
-impl Drop for About {
+impl Drop for CallSelector {
     fn drop(self) {
         match self {
-            About::Every => {}
-            About::Calls(_a) => {}
+            CallSelector::Every => {}
+            CallSelector::Calls(_a) => {}
         }
     }
 }
@@ -44,7 +44,7 @@ pub(crate) struct Calls {
     // The index of the method in the table.
     pub method: u16,
     // Whether the rule matches requests or replies.
-    pub sort: Sort,
+    pub sort: CallKind,
     pub test: Option<Test>,
 }
 

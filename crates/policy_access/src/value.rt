@@ -5,18 +5,18 @@ ghost use Rattle.std.specs.List.{list_all};
 ghost use Rattle.std.specs.Option.{option_copied};
 ghost use Rattle.std.specs.Result.{result_ok};
 ghost use Rattle.hex.specs.Hex.{decode_of};
-ghost use Rattle.policy_access.specs.Values.{depth_of, limit_of, positive_word, negative_word, number_value, is_text_byte, quoted, text_value, is_lower_digit, run_or_word, bytes_value, operand_of, is_out_of_form, has_no_form};
+ghost use Rattle.policy_access.specs.Values.{negative_limit_of, limit_of, positive_word, negative_word, number_value, is_text_byte, quoted_text, text_value, is_lower_digit, run_or_word, bytes_value, operand_of, is_out_of_form, has_no_form};
 
-use crate::fault::PartReason;
+use crate::fault::SelectorReason;
 use crate::limits::MAX_TEXT_VALUE;
 use crate::rule::Operand;
 use hex::FromHexError;
-use mrpc_table::{Bytes, Decimal, Kind, Memory, cut, number_of};
+use mrpc_table::{Bytes, Decimal, Kind, Memory, number_of, split_once};
 use std::alloc::Global;
 
 // The absolute value of the smallest number of a kind.
-fn depth_of(kind: Kind) -> u64
-    ensures { result ≡ depth_of kind }
+fn negative_limit_of(kind: Kind) -> u64
+    ensures { result ≡ negative_limit_of kind }
 {
     match kind {
         Kind::Int32 | Kind::Sint32 | Kind::Sfixed32 | Kind::Choice(_) => 0x8000_0000,
@@ -53,37 +53,37 @@ fn is_below_limit(kind: Kind, number: u64) -> bool
     }
 }
 
-fn positive_word(kind: Kind, number: Decimal) -> Result<Operand, PartReason>
+fn positive_word(kind: Kind, number: Decimal) -> Result<Operand, SelectorReason>
     ensures { result ≡ positive_word kind number }
 {
     match number {
         Decimal::Small(number) if is_below_limit(kind, number) => Ok(Operand::Number(number)),
-        _ => Err(PartReason::Number),
+        _ => Err(SelectorReason::Number),
     }
 }
 
-fn negative_word(kind: Kind, number: Decimal) -> Result<Operand, PartReason>
+fn negative_word(kind: Kind, number: Decimal) -> Result<Operand, SelectorReason>
     ensures { result ≡ negative_word kind number }
 {
     match number {
-        Decimal::Small(number) if number <= depth_of(kind) => {
+        Decimal::Small(number) if number <= negative_limit_of(kind) => {
             Ok(Operand::Number(number.wrapping_neg()))
         }
-        _ => Err(PartReason::Number),
+        _ => Err(SelectorReason::Number),
     }
 }
 
-fn number_value(kind: Kind, word: &[u8]) -> Result<Operand, PartReason>
+fn number_value(kind: Kind, word: &[u8]) -> Result<Operand, SelectorReason>
     ensures { result ≡ number_value kind word.now }
 {
     match word {
-        [] => Err(PartReason::Word),
+        [] => Err(SelectorReason::Word),
         [b'-', digits @ ..] => match number_of(digits) {
-            None => Err(PartReason::Word),
+            None => Err(SelectorReason::Word),
             Some(number) => negative_word(kind, number),
         },
         _ => match number_of(word) {
-            None => Err(PartReason::Word),
+            None => Err(SelectorReason::Word),
             Some(number) => positive_word(kind, number),
         },
     }
@@ -102,11 +102,11 @@ fn are_text_bytes(text: &[u8]) -> bool
 }
 
 // The bytes between quotes.
-fn quoted(word: &[u8]) -> Option<&[u8]>
-    ensures { option_copied result ≡ quoted word.now }
+fn quoted_text(word: &[u8]) -> Option<&[u8]>
+    ensures { option_copied result ≡ quoted_text word.now }
 {
-    let (before, rest) = cut(word, b'"')?;
-    let (text, after) = cut(rest, b'"')?;
+    let (before, rest) = split_once(word, b'"')?;
+    let (text, after) = split_once(rest, b'"')?;
     if before.is_empty() && after.is_empty() {
         Some(text)
     } else {
@@ -114,14 +114,14 @@ fn quoted(word: &[u8]) -> Option<&[u8]>
     }
 }
 
-fn text_value(alloc: Global, word: &[u8]) -> Result<Result<Operand, PartReason>, Memory>
+fn text_value(alloc: Global, word: &[u8]) -> Result<Result<Operand, SelectorReason>, Memory>
     ensures { IfOk result (λ r. r ≡ text_value word.now) }
 {
-    match quoted(word) {
+    match quoted_text(word) {
         Some(text) if are_text_bytes(text) && text.len() <= MAX_TEXT_VALUE => {
             Ok(Ok(Operand::Run(Bytes::from_slice(alloc, text)?)))
         }
-        _ => Ok(Err(PartReason::Word)),
+        _ => Ok(Err(SelectorReason::Word)),
     }
 }
 
@@ -137,22 +137,22 @@ fn are_lower_digits(digits: &[u8]) -> bool
     digits.iter().all(|byte| is_lower_digit(*byte))
 }
 
-fn bytes_of(alloc: Global, digits: &[u8]) -> Result<Result<Operand, PartReason>, Memory>
+fn bytes_of(alloc: Global, digits: &[u8]) -> Result<Result<Operand, SelectorReason>, Memory>
     ensures { IfOk result (λ r. r ≡ run_or_word (result_ok (decode_of digits.now))) }
 {
     match hex::decode(alloc, digits) {
         Ok(bytes) => Ok(Ok(Operand::Run(Bytes::from_vec(bytes)))),
         Err(FromHexError::OutOfMemory) => Err(Memory),
-        Err(_) => Ok(Err(PartReason::Word)),
+        Err(_) => Ok(Err(SelectorReason::Word)),
     }
 }
 
-fn bytes_value(alloc: Global, word: &[u8]) -> Result<Result<Operand, PartReason>, Memory>
+fn bytes_value(alloc: Global, word: &[u8]) -> Result<Result<Operand, SelectorReason>, Memory>
     ensures { IfOk result (λ r. r ≡ bytes_value word.now) }
 {
     match word {
         [b'x', digits @ ..] if are_lower_digits(digits) => bytes_of(alloc, digits),
-        _ => Ok(Err(PartReason::Word)),
+        _ => Ok(Err(SelectorReason::Word)),
     }
 }
 
@@ -162,13 +162,13 @@ pub(crate) fn operand_of(
     alloc: Global,
     kind: Kind,
     word: &[u8],
-) -> Result<Result<Operand, PartReason>, Memory>
+) -> Result<Result<Operand, SelectorReason>, Memory>
     ensures { IfOk result (λ r. r ≡ operand_of kind word.now) }
 {
     match kind {
         Kind::Text => text_value(alloc, word),
         Kind::Octets => bytes_value(alloc, word),
-        Kind::Message(_) => Ok(Err(PartReason::Word)),
+        Kind::Message(_) => Ok(Err(SelectorReason::Word)),
         Kind::Int32
         | Kind::Int64
         | Kind::Uint32
@@ -191,8 +191,8 @@ fn is_out_of_form(alloc: Global, kind: Kind, word: &[u8]) -> Result<bool, Memory
     ensures { IfOk result (λ out. out ≡ is_out_of_form kind word.now) }
 {
     match operand_of(alloc, kind, word)? {
-        Err(PartReason::Word) => Ok(true),
-        Err(PartReason::Number | PartReason::Path) | Ok(_) => Ok(false),
+        Err(SelectorReason::Word) => Ok(true),
+        Err(SelectorReason::Number | SelectorReason::Path) | Ok(_) => Ok(false),
     }
 }
 

@@ -11,8 +11,8 @@ use Rattle.std.proofs.lemmas.List.Elements.{Contains-append_right, Contains-push
 use Rattle.std.proofs.lemmas.List.Splits.{length-slice_split, join_with_byte-slice_split}
 use Rattle.std.proofs.lemmas.Slice.Eq.{bytes_eq-Decides}
 use Rattle.mrpc_table.specs.Lines.{pieces_of, whole_lines, line_count}
-use Rattle.policy_declarations.specs.Blocks.{end_line, is_kept, kept, line_at, IsBlock, IsOpen}
-use Rattle.policy_declarations.specs.Reading.{inner_of, inner_lines, IsLeft}
+use Rattle.policy_declarations.specs.Blocks.{end_line, is_kept, kept_lines, line_number, IsBlock, IsOpen}
+use Rattle.policy_declarations.specs.Reading.{inner_of, inner_lines, IsRemainder}
 
 -- the number of whole lines of a text
 pub whole_count : (text : List ℕ) → length (whole_lines text) ≡ line_count text
@@ -41,23 +41,23 @@ inner_step text line behind b cut is = let p = has_piece behind in ap inner_of c
 
 -- ---- the number of a kept line
 
-at_line : (skips : Bool) (text line behind : List ℕ) (number : ℕ) (kept first : Bool)
-    → pieces_of text ≡ line ∷ pieces_of behind → bytes_eq line end_line ≡ false → is_kept skips line ≡ kept
+at_line : (skips : Bool) (text line behind : List ℕ) (number : ℕ) (kept_lines first : Bool)
+    → pieces_of text ≡ line ∷ pieces_of behind → bytes_eq line end_line ≡ false → is_kept skips line ≡ kept_lines
     → (number == 1) ≡ first
-    → line_at skips (inner_lines text) number ≡ cond kept (cond first 1 (1 + line_at skips (inner_lines behind) (number - 1))) (1 + line_at skips (inner_lines behind) number)
-at_line skips text line behind number kept first cut is k f =
-    ap (λ (ls : List (List ℕ)). line_at skips ls number) (inner_step text line behind false cut is)
-    ∙ ap (λ (b : Bool). cond b (cond (number == 1) 1 (1 + line_at skips (inner_lines behind) (number - 1))) (1 + line_at skips (inner_lines behind) number)) k
-    ∙ ap (λ (b : Bool). cond kept (cond b 1 (1 + line_at skips (inner_lines behind) (number - 1))) (1 + line_at skips (inner_lines behind) number)) f
+    → line_number skips (inner_lines text) number ≡ cond kept_lines (cond first 1 (1 + line_number skips (inner_lines behind) (number - 1))) (1 + line_number skips (inner_lines behind) number)
+at_line skips text line behind number kept_lines first cut is k f =
+    ap (λ (ls : List (List ℕ)). line_number skips ls number) (inner_step text line behind false cut is)
+    ∙ ap (λ (b : Bool). cond b (cond (number == 1) 1 (1 + line_number skips (inner_lines behind) (number - 1))) (1 + line_number skips (inner_lines behind) number)) k
+    ∙ ap (λ (b : Bool). cond kept_lines (cond b 1 (1 + line_number skips (inner_lines behind) (number - 1))) (1 + line_number skips (inner_lines behind) number)) f
 
 pub at_kept_other : (skips : Bool) (text line behind : List ℕ) (number : ℕ) → pieces_of text ≡ line ∷ pieces_of behind
     → bytes_eq line end_line ≡ false → is_kept skips line ≡ true → (number ≡ 1 → ⊥)
-    → line_at skips (inner_lines text) number ≡ 1 + line_at skips (inner_lines behind) (number - 1)
+    → line_number skips (inner_lines text) number ≡ 1 + line_number skips (inner_lines behind) (number - 1)
 at_kept_other skips text line behind number cut is k f = at_line skips text line behind number true false cut is k (ne_eqb number 1 f)
 
 pub at_skipped : (skips : Bool) (text line behind : List ℕ) (number : ℕ) → pieces_of text ≡ line ∷ pieces_of behind
     → bytes_eq line end_line ≡ false → is_kept skips line ≡ false
-    → line_at skips (inner_lines text) number ≡ 1 + line_at skips (inner_lines behind) number
+    → line_number skips (inner_lines text) number ≡ 1 + line_number skips (inner_lines behind) number
 at_skipped skips text line behind number cut is k = at_line skips text line behind number false (number == 1) cut is k refl
 
 -- ---- the lines so far
@@ -115,7 +115,7 @@ inner_done text done rest line behind d cut is =
 
 pub left_done : (text : List ℕ) (done : List (List ℕ)) (rest line : List ℕ) (behind : Bor (List ℕ))
     → AreDone text done rest → pieces_of rest ≡ line ∷ pieces_of behind.now → bytes_eq line end_line ≡ true
-    → IsLeft text (Some behind)
+    → IsRemainder text (Some behind)
 left_done text done rest line behind d cut is =
     let end : line ≡ end_line = (bytes_eq-Decides line end_line).0 is in
     let same = inner_done text done rest line behind.now d cut is in
@@ -134,26 +134,26 @@ whole_done text done rest d last =
 pub inner_end : (text : List ℕ) (done : List (List ℕ)) (rest : List ℕ) → AreDone text done rest → pieces_of rest ≡ rest ∷ [] → inner_lines text ≡ done
 inner_end text done rest d last = ap inner_of (d.pieces ∙ ap (λ (ps : List (List ℕ)). done ++ ps) last) ∙ inner_all done rest d.none
 
-pub left_end : (text : List ℕ) (done : List (List ℕ)) (rest : List ℕ) → AreDone text done rest → pieces_of rest ≡ rest ∷ [] → IsLeft text None
+pub left_end : (text : List ℕ) (done : List (List ℕ)) (rest : List ℕ) → AreDone text done rest → pieces_of rest ≡ rest ∷ [] → IsRemainder text None
 left_end text done rest d last =
     let whole = whole_done text done rest d last in
     (subst (λ (ls : List (List ℕ)). Contains ls end_line → ⊥) (sym whole) d.none, inner_end text done rest d last ∙ sym whole)
 
 -- ---- the kept lines so far
 
-kept_one : (skips : Bool) (line : List ℕ) (b : Bool) → is_kept skips line ≡ b → kept skips (line ∷ []) ≡ cond b (line ∷ []) []
+kept_one : (skips : Bool) (line : List ℕ) (b : Bool) → is_kept skips line ≡ b → kept_lines skips (line ∷ []) ≡ cond b (line ∷ []) []
 kept_one skips line b is = ap (λ (x : Bool). cond x (line ∷ []) []) is
 
-pub kept_more : (skips : Bool) (done : List (List ℕ)) (line : List ℕ) → is_kept skips line ≡ true → kept skips (done ++ line ∷ []) ≡ kept skips done ++ line ∷ []
-kept_more skips done line is = filter-append (is_kept skips) done (line ∷ []) ∙ ap (λ (ls : List (List ℕ)). kept skips done ++ ls) (kept_one skips line true is)
+pub kept_more : (skips : Bool) (done : List (List ℕ)) (line : List ℕ) → is_kept skips line ≡ true → kept_lines skips (done ++ line ∷ []) ≡ kept_lines skips done ++ line ∷ []
+kept_more skips done line is = filter-append (is_kept skips) done (line ∷ []) ∙ ap (λ (ls : List (List ℕ)). kept_lines skips done ++ ls) (kept_one skips line true is)
 
 append_none : (xs : List (List ℕ)) → xs ++ [] ≡ xs
 append_none [] = refl
 append_none (x ∷ xs) = ap (λ (ys : List (List ℕ)). x ∷ ys) (append_none xs)
 
-pub kept_same : (skips : Bool) (done : List (List ℕ)) (line : List ℕ) → is_kept skips line ≡ false → kept skips (done ++ line ∷ []) ≡ kept skips done
+pub kept_same : (skips : Bool) (done : List (List ℕ)) (line : List ℕ) → is_kept skips line ≡ false → kept_lines skips (done ++ line ∷ []) ≡ kept_lines skips done
 kept_same skips done line isnt =
-    filter-append (is_kept skips) done (line ∷ []) ∙ ap (λ (ls : List (List ℕ)). kept skips done ++ ls) (kept_one skips line false isnt) ∙ append_none (kept skips done)
+    filter-append (is_kept skips) done (line ∷ []) ∙ ap (λ (ls : List (List ℕ)). kept_lines skips done ++ ls) (kept_one skips line false isnt) ∙ append_none (kept_lines skips done)
 
 -- ---- the block is unique
 
@@ -297,16 +297,16 @@ block_end text inner rest block = elim (ends (length text) text (omega arith)) [
 
 -- ---- the range of a line's number
 
-line_at_is : (skips : Bool) (line : List ℕ) (lines : List (List ℕ)) (number : ℕ) (kept first : Bool) → is_kept skips line ≡ kept → (number == 1) ≡ first
-    → line_at skips (line ∷ lines) number ≡ cond kept (cond first 1 (1 + line_at skips lines (number - 1))) (1 + line_at skips lines number)
-line_at_is skips line lines number kept first k f =
-    ap (λ (b : Bool). cond b (cond (number == 1) 1 (1 + line_at skips lines (number - 1))) (1 + line_at skips lines number)) k
-    ∙ ap (λ (b : Bool). cond kept (cond b 1 (1 + line_at skips lines (number - 1))) (1 + line_at skips lines number)) f
+line_at_is : (skips : Bool) (line : List ℕ) (lines : List (List ℕ)) (number : ℕ) (kept_lines first : Bool) → is_kept skips line ≡ kept_lines → (number == 1) ≡ first
+    → line_number skips (line ∷ lines) number ≡ cond kept_lines (cond first 1 (1 + line_number skips lines (number - 1))) (1 + line_number skips lines number)
+line_at_is skips line lines number kept_lines first k f =
+    ap (λ (b : Bool). cond b (cond (number == 1) 1 (1 + line_number skips lines (number - 1))) (1 + line_number skips lines number)) k
+    ∙ ap (λ (b : Bool). cond kept_lines (cond b 1 (1 + line_number skips lines (number - 1))) (1 + line_number skips lines number)) f
 
-line_at_by : (skips : Bool) (line : List ℕ) (lines : List (List ℕ)) (number : ℕ) (kept first : Bool)
-    → is_kept skips line ≡ kept → (number == 1) ≡ first → line_at skips lines (number - 1) ≤ length lines + 1
-    → line_at skips lines number ≤ length lines + 1
-    → line_at skips (line ∷ lines) number ≤ length (line ∷ lines) + 1
+line_at_by : (skips : Bool) (line : List ℕ) (lines : List (List ℕ)) (number : ℕ) (kept_lines first : Bool)
+    → is_kept skips line ≡ kept_lines → (number == 1) ≡ first → line_number skips lines (number - 1) ≤ length lines + 1
+    → line_number skips lines number ≤ length lines + 1
+    → line_number skips (line ∷ lines) number ≤ length (line ∷ lines) + 1
 line_at_by skips line lines number true true k f less same = subst (λ (n : ℕ). n ≤ length (line ∷ lines) + 1) (sym (line_at_is skips line lines number true true k f)) (omega arith)
 line_at_by skips line lines number true false k f less same =
     subst (λ (n : ℕ). n ≤ length (line ∷ lines) + 1) (sym (line_at_is skips line lines number true false k f))
@@ -315,7 +315,7 @@ line_at_by skips line lines number false first k f less same =
     subst (λ (n : ℕ). n ≤ length (line ∷ lines) + 1) (sym (line_at_is skips line lines number false first k f))
     (omega (arith, same))
 
-pub line_at_small : (skips : Bool) (lines : List (List ℕ)) (number : ℕ) → line_at skips lines number ≤ length lines + 1
+pub line_at_small : (skips : Bool) (lines : List (List ℕ)) (number : ℕ) → line_number skips lines number ≤ length lines + 1
 line_at_small skips [] number = omega arith
 line_at_small skips (line ∷ lines) number =
     line_at_by skips line lines number (is_kept skips line) (number == 1) refl refl

@@ -12,7 +12,7 @@ use Rattle.std.specs.BTreeMap.{is_at, insert_entry}
 use Rattle.std.proofs.lemmas.Bool.{false≢true}
 use Rattle.std.proofs.lemmas.Map.Text.{is_eq-slice_cmp}
 use Rattle.std.proofs.lemmas.Slice.Eq.{bytes_eq-Decides}
-use Rattle.policy_declarations.specs.declared.item.NamedPolicy.{NamedPolicy}
+use Rattle.policy_declarations.specs.declared.declaration.NamedPolicy.{NamedPolicy}
 use Rattle.policy_declarations.proofs.Naming.{place_push}
 
 abbrev pub by_items : Vec ℕ → Vec ℕ → Ordering

@@ -28,31 +28,31 @@ abbrev pub is_kept : Bool → List ℕ → Bool
 is_kept skips line = not (skips && is_skipped line)
 
 -- the policy's own lines
-abbrev pub kept : Bool → List (List ℕ) → List (List ℕ)
-kept skips lines = filter (is_kept skips) lines
+abbrev pub kept_lines : Bool → List (List ℕ) → List (List ℕ)
+kept_lines skips lines = filter (is_kept skips) lines
 
 -- the number of a kept line among all lines, both counted from 1; a number past the last kept line maps to the line
 -- after all lines
-abbrev pub line_at : Bool → List (List ℕ) → ℕ → ℕ
-line_at skips [] number = 1
-line_at skips (line ∷ lines) number =
-    if is_kept skips line then (if number == 1 then 1 else 1 + line_at skips lines (number - 1))
-    else 1 + line_at skips lines number
+abbrev pub line_number : Bool → List (List ℕ) → ℕ → ℕ
+line_number skips [] number = 1
+line_number skips (line ∷ lines) number =
+    if is_kept skips line then (if number == 1 then 1 else 1 + line_number skips lines (number - 1))
+    else 1 + line_number skips lines number
 
 -- the lines after a policy's first one have their first fault in this line, counted from 1, which the first fault of
 -- the kept lines determines
-pub data Breaks (IsFirstFault : List (List ℕ) → ℕ → RuleReason → Type 0) (skips : Bool) (text : List ℕ) (line : ℕ)
+pub data IsFaultOfBlock (IsFirstFault : List (List ℕ) → ℕ → RuleReason → Type 0) (skips : Bool) (text : List ℕ) (line : ℕ)
     (reason : ScriptReason) : Type 0 where
   in_block : (inner : List (List ℕ)) (rest : List ℕ) (number : ℕ) (why : RuleReason) → IsBlock text inner rest
-      → IsFirstFault (kept skips inner) number why → line ≡ line_at skips inner number → reason ≡ of_rule why
-      → Breaks IsFirstFault skips text line reason
+      → IsFirstFault (kept_lines skips inner) number why → line ≡ line_number skips inner number → reason ≡ of_rule why
+      → IsFaultOfBlock IsFirstFault skips text line reason
   -- without an `end`, all lines are the policy's
   in_open : (number : ℕ) (why : RuleReason) → IsOpen text
-      → IsFirstFault (kept skips (whole_lines text)) number why → number ≤ length (kept skips (whole_lines text))
-      → line ≡ line_at skips (whole_lines text) number → reason ≡ of_rule why
-      → Breaks IsFirstFault skips text line reason
+      → IsFirstFault (kept_lines skips (whole_lines text)) number why → number ≤ length (kept_lines skips (whole_lines text))
+      → line ≡ line_number skips (whole_lines text) number → reason ≡ of_rule why
+      → IsFaultOfBlock IsFirstFault skips text line reason
   -- and if none of them has a fault, the `end` is missing
   no_end : IsOpen text
-      → ((number : ℕ) (why : RuleReason) → IsFirstFault (kept skips (whole_lines text)) number why
-      → number ≤ length (kept skips (whole_lines text)) → ⊥)
-      → line ≡ length (whole_lines text) + 1 → reason ≡ Word → Breaks IsFirstFault skips text line reason
+      → ((number : ℕ) (why : RuleReason) → IsFirstFault (kept_lines skips (whole_lines text)) number why
+      → number ≤ length (kept_lines skips (whole_lines text)) → ⊥)
+      → line ≡ length (whole_lines text) + 1 → reason ≡ Word → IsFaultOfBlock IsFirstFault skips text line reason

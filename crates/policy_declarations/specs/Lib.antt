@@ -1,6 +1,6 @@
 pub mod Blocks
 pub mod Declarations
-pub mod Heads
-pub mod Items
-pub mod Places
+pub mod HeadTests
+pub mod DeclarationTexts
+pub mod NameIndexes
 pub mod Reading

@@ -3,10 +3,10 @@
 ghost use Rattle.std.specs.Prelude.{◌≡◌, ◌+◌, ◌≤◌, length, is_some, IfOk};
 ghost use Rattle.std.specs.Str.{bytes_eq};
 ghost use Rattle.mrpc_table.specs.Lines.{whole_lines};
-ghost use Rattle.policy_declarations.specs.Blocks.{end_line, is_skipped, is_kept, kept, line_at};
-ghost use Rattle.policy_declarations.specs.Reading.{inner_lines, IsLeft, item_fault};
+ghost use Rattle.policy_declarations.specs.Blocks.{end_line, is_skipped, is_kept, kept_lines, line_number};
+ghost use Rattle.policy_declarations.specs.Reading.{inner_lines, IsRemainder, declaration_fault};
 
-use mrpc_table::{Bytes, Lines, Memory, RuleFault, cut, line_count};
+use mrpc_table::{Bytes, Lines, Memory, RuleFault, line_count, split_once};
 use script_grammar::{ScriptFault, ScriptReason};
 use std::alloc::Global;
 
@@ -15,7 +15,7 @@ const END: &[u8] = b"end";
 
 // The lines that define a policy, and the remainder after its `end`; `None` if it has no `end`.
 #[derive(Drop)]
-pub(crate) struct Block<'a> {
+pub(crate) struct PolicyBlock<'a> {
     pub lines: Lines,
     pub rest: Option<&'a [u8]>,
 }
@@ -47,15 +47,15 @@ pub(crate) fn read_block<'a>(
     alloc: Global,
     text: &'a [u8],
     skips: bool,
-) -> Result<Block<'a>, Memory>
-    ensures lines { IfOk result (λ b. b.lines ≡ kept skips (inner_lines text.now)) }
-    ensures rest { IfOk result (λ b. IsLeft text.now b.rest) }
+) -> Result<PolicyBlock<'a>, Memory>
+    ensures lines { IfOk result (λ b. b.lines ≡ kept_lines skips (inner_lines text.now)) }
+    ensures rest { IfOk result (λ b. IsRemainder text.now b.rest) }
 {
     let mut lines = Lines::new(alloc);
     let mut rest = text;
-    while let Some((line, behind)) = cut(rest, b'\n') {
+    while let Some((line, behind)) = split_once(rest, b'\n') {
         if is_end(line) {
-            return Ok(Block {
+            return Ok(PolicyBlock {
                 lines,
                 rest: Some(behind),
             });
@@ -65,18 +65,18 @@ pub(crate) fn read_block<'a>(
         }
         rest = behind;
     }
-    Ok(Block { lines, rest: None })
+    Ok(PolicyBlock { lines, rest: None })
 }
 
 // Maps the number of a kept line to its number among all lines of the block, both counted from 1.
-fn line_of(text: &[u8], skips: bool, number: u64) -> u64
-    ensures line { result ≡ line_at skips (inner_lines text.now) number }
+fn line_number(text: &[u8], skips: bool, number: u64) -> u64
+    ensures line { result ≡ line_number skips (inner_lines text.now) number }
     ensures small { result ≤ length text.now + 1 }
 {
     let mut rest = text;
     let mut line = 1;
     let mut left = number;
-    while let Some((one, behind)) = cut(rest, b'\n') {
+    while let Some((one, behind)) = split_once(rest, b'\n') {
         if is_end(one) {
             return line;
         }
@@ -93,33 +93,33 @@ fn line_of(text: &[u8], skips: bool, number: u64) -> u64
 }
 
 // The fault of a declaration, from the fault of its policy's lines. `text` is the remainder after its first line.
-pub(crate) fn item_fault(
-    block: &Block<'_>,
+pub(crate) fn declaration_fault(
+    block: &PolicyBlock<'_>,
     text: &[u8],
     skips: bool,
     fault: RuleFault,
 ) -> ScriptFault
-    requires lines { block.now.lines ≡ kept skips (inner_lines text.now) }
-    requires rest { IsLeft text.now block.now.rest }
-    ensures { result ≡ item_fault skips (inner_lines text.now) (is_some block.now.rest) fault }
+    requires lines { block.now.lines ≡ kept_lines skips (inner_lines text.now) }
+    requires rest { IsRemainder text.now block.now.rest }
+    ensures { result ≡ declaration_fault skips (inner_lines text.now) (is_some block.now.rest) fault }
 {
     match fault {
         RuleFault::Memory => ScriptFault::Memory,
         RuleFault::At { line, reason } => {
             if block.rest.is_some() || line <= block.lines.len() as u64 {
                 ScriptFault::At {
-                    line: 1 + line_of(text, skips, line),
+                    line: 1 + line_number(text, skips, line),
                     reason: ScriptReason::of_rule(reason),
                 }
             } else {
-                endless_fault(text)
+                missing_end_fault(text)
             }
         }
     }
 }
 
 // The fault of a declaration that lacks its `end`. `text` is the remainder after its first line.
-pub(crate) fn endless_fault(text: &[u8]) -> ScriptFault
+pub(crate) fn missing_end_fault(text: &[u8]) -> ScriptFault
     ensures { result ≡ ScriptFault.At (length (whole_lines text.now) + 2) ScriptReason.Word }
 {
     ScriptFault::At {

@@ -1,9 +1,9 @@
 //! The declarations so far, looked up by name.
 
 ghost use Rattle.std.specs.Prelude.{◌≡◌, ◌<◌, ◌≤◌, length, None, IfOk};
-ghost use Rattle.policy_declarations.specs.Declarations.{nothing, tenant_place, policy_place, IsNew, with_item};
+ghost use Rattle.policy_declarations.specs.Declarations.{no_declarations, tenant_index, policy_index, IsNew, with_declaration};
 
-use crate::item::{Item, NamedPolicy, Tenant};
+use crate::declaration::{Declaration, NamedPolicy, Tenant};
 use mrpc_table::{Memory, Sequence};
 use std::alloc::Global;
 use std::collections::BTreeMap;
@@ -32,20 +32,20 @@ impl Drop for Declarations {
 impl Model for Declarations {
     ghost use Rattle.policy_declarations.specs.Declarations.{Declared};
     ghost use Rattle.std.specs.Prelude.{◌≤◌, length};
-    ghost use Rattle.policy_declarations.specs.Places.{Finds};
+    ghost use Rattle.policy_declarations.specs.NameIndexes.{IsNameIndex};
     ghost use Rattle.policy_declarations.specs.declared.limits.TheConstants.{MAX_TENANTS};
 
     ghost Value = { Declared };
 
     ghost view = { λ d. record { tenants = d.tenants; policies = d.policies } };
 
-    ghost invariant = { λ d. Finds d.places d.policies × (length d.tenants ≤ MAX_TENANTS) };
+    ghost invariant = { λ d. IsNameIndex d.places d.policies × (length d.tenants ≤ MAX_TENANTS) };
 }
 
 impl Declarations {
     /// No declarations. It allocates no memory.
     pub fn new(alloc: Global) -> Declarations
-        ensures { result ≡ nothing }
+        ensures { result ≡ no_declarations }
     {
         Declarations {
             tenants: Sequence::new(alloc),
@@ -71,7 +71,7 @@ impl Declarations {
 
     /// Returns the index of the tenant with a name, counted from 0; `None` if there is no such tenant.
     pub fn tenant(&self, name: &[u8]) -> Option<usize>
-        ensures { result ≡ tenant_place self.now name.now }
+        ensures { result ≡ tenant_index self.now name.now }
     {
         self.tenants
             .as_slice()
@@ -82,26 +82,26 @@ impl Declarations {
     /// Returns the index of the policy with a name, counted from 0; `None` if there is no such policy. The time is
     /// logarithmic in the number of policies.
     pub fn policy(&self, name: &[u8]) -> Option<usize>
-        ensures { result ≡ policy_place self.now name.now }
+        ensures { result ≡ policy_index self.now name.now }
     {
         self.places.get(name).copied()
     }
 
     /// Appends a declaration. Its name is free among tenants or policies, and there are fewer than 16 tenants if it is
     /// one.
-    pub fn with(self, alloc: Global, item: Item) -> Result<Declarations, Memory>
+    pub fn with(self, alloc: Global, item: Declaration) -> Result<Declarations, Memory>
         requires { IsNew self item }
-        ensures { IfOk result (λ d. d ≡ with_item self item) }
+        ensures { IfOk result (λ d. d ≡ with_declaration self item) }
     {
         match item {
-            Item::Tenant(tenant) => self.with_tenant(tenant),
-            Item::Policy(policy) => self.with_policy(alloc, policy),
+            Declaration::Tenant(tenant) => self.with_tenant(tenant),
+            Declaration::Policy(policy) => self.with_policy(alloc, policy),
         }
     }
 
     fn with_tenant(self, tenant: Tenant) -> Result<Declarations, Memory>
         requires { length self.tenants < 16 }
-        ensures { IfOk result (λ d. d ≡ with_item self (Item.Tenant tenant)) }
+        ensures { IfOk result (λ d. d ≡ with_declaration self (Declaration.Tenant tenant)) }
     {
         let Declarations {
             mut tenants,
@@ -117,8 +117,8 @@ impl Declarations {
     }
 
     fn with_policy(self, alloc: Global, policy: NamedPolicy) -> Result<Declarations, Memory>
-        requires { policy_place self policy.name ≡ None }
-        ensures { IfOk result (λ d. d ≡ with_item self (Item.Policy policy)) }
+        requires { policy_index self policy.name ≡ None }
+        ensures { IfOk result (λ d. d ≡ with_declaration self (Declaration.Policy policy)) }
     {
         let Declarations {
             tenants,

@@ -4,32 +4,36 @@ ghost use Rattle.std.specs.Prelude.{◌≡◌, ℕ, List, IfOk, IfErr, MatchResu
 ghost use Rattle.mrpc_table.specs.Valid.{IsValid};
 ghost use Rattle.script_grammar.specs.Meanings.{meanings_of};
 ghost use Rattle.script_grammar.specs.declared.fault.ScriptFault.TheVariants.{Memory as OutOfMemory};
-ghost use Rattle.script_grammar.specs.Sorts.{name_at};
+ghost use Rattle.script_grammar.specs.WordKinds.{name_at};
 ghost use Rattle.policy_access.specs.Verdict.{AccessPolicy};
 ghost use Rattle.policy_redact.specs.declared.redact.Clear.{Clear as TheClear};
-ghost use Rattle.policy_declarations.specs.Items.{named, tenant_said, rate_said, IsQuotaSaid, IsAccessIn, IsRedactIn, Heads, Declares, IsFaultOf};
-ghost use Rattle.policy_declarations.specs.Reading.{IsBlockFault};
-ghost use Rattle.policy_declarations.specs.declared.item.Item.{Item as TheItem};
+ghost use Rattle.policy_declarations.specs.DeclarationTexts.{policy_with_name, tenant_of_words, rate_of_words, IsQuotaOfWords, IsAccessIn, IsRedactIn, IsDeclarationHead, HasDeclaration, IsFaultOfDeclaration};
+ghost use Rattle.policy_declarations.specs.Reading.{IsScriptFaultAfterHead};
+ghost use Rattle.policy_declarations.specs.declared.declaration.Declaration.{Declaration as TheItem};
 
-use crate::block::{endless_fault, item_fault, read_block};
+use crate::block::{declaration_fault, missing_end_fault, read_block};
+use crate::declaration::{Declaration, NamedPolicy, Tenant};
+use crate::declaration_form::DeclarationForm;
 use crate::declarations::Declarations;
 use crate::head::read_head;
-use crate::item::{Item, NamedPolicy, Tenant};
-use crate::item_form::ItemForm;
-use crate::laws::one_item;
+use crate::laws::declaration_or_fault;
 use engine_core::Policy;
 use mrpc_table::{Memory, Name, RuleFault, Table};
-use policy_access::{one_fault as one_access_fault, read_access, text_or_fault as access_or_fault};
+use policy_access::{
+    first_fault_is_unique as one_access_fault, read_access, text_or_fault as access_or_fault,
+};
 use policy_rate::Rate;
-use policy_redact::{one_fault as one_redact_fault, read_redact, text_or_fault as redact_or_fault};
-use script_grammar::{Keyword, Said, ScriptFault, keyword_at, name_at, number_at};
+use policy_redact::{
+    first_fault_is_unique as one_redact_fault, read_redact, text_or_fault as redact_or_fault,
+};
+use script_grammar::{Keyword, ScriptFault, WordValue, keyword_at, name_at, number_at};
 use std::alloc::Global;
 
 /// The text of a declaration, split after its first line.
 #[derive(Clone, Copy)]
-pub struct ItemLines<'a> {
+pub struct DeclarationLines<'a> {
     /// The form of its first line.
-    pub form: ItemForm,
+    pub form: DeclarationForm,
     /// Its first line, without its line feed.
     pub line: &'a [u8],
     /// The text after that line.
@@ -44,39 +48,39 @@ pub struct ItemLines<'a> {
 ///
 /// [`ScriptFault::At`] has the first line with a fault, counted from 1 at the declaration's first line, and its first
 /// reason. [`ScriptFault::Memory`] means out of memory.
-pub fn read_item<'a>(
+pub fn read_declaration<'a>(
     alloc: Global,
     table: &Table,
     declared: &Declarations,
-    lines: ItemLines<'a>,
+    lines: DeclarationLines<'a>,
     skips: bool,
-) -> Result<(Item, &'a [u8]), ScriptFault>
+) -> Result<(Declaration, &'a [u8]), ScriptFault>
     requires { IsValid table.now }
     // The result is what the lines declare.
-    ensures read { IfOk result (λ r. Declares table.now skips declared.now lines.entry.form lines.entry.line.now
+    ensures read { IfOk result (λ r. HasDeclaration table.now skips declared.now lines.entry.form lines.entry.line.now
         lines.entry.behind.now r.0 r.1.now) }
     // If the lines declare something, the call returns it, unless it runs out of memory.
-    ensures only { (i : TheItem) (rest : List ℕ) → Declares table.now skips declared.now lines.entry.form
+    ensures only { (i : TheItem) (rest : List ℕ) → HasDeclaration table.now skips declared.now lines.entry.form
         lines.entry.line.now lines.entry.behind.now i rest
         → MatchResult result (λ r. (r.0 ≡ i) × (r.1.now ≡ rest)) (λ e. e ≡ OutOfMemory) }
     // A fault is the lines': the first line with a fault, and its first reason.
-    ensures fault { IfErr result (IsFaultOf table.now skips declared.now lines.entry.form lines.entry.line.now
+    ensures fault { IfErr result (IsFaultOfDeclaration table.now skips declared.now lines.entry.form lines.entry.line.now
         lines.entry.behind.now) }
 {
-    one_item();
-    item_of(alloc, table, declared, lines, skips)
+    declaration_or_fault();
+    declaration_of(alloc, table, declared, lines, skips)
 }
 
-fn item_of<'a>(
+fn declaration_of<'a>(
     alloc: Global,
     table: &Table,
     declared: &Declarations,
-    lines: ItemLines<'a>,
+    lines: DeclarationLines<'a>,
     skips: bool,
-) -> Result<(Item, &'a [u8]), ScriptFault>
+) -> Result<(Declaration, &'a [u8]), ScriptFault>
     requires { IsValid table.now }
-    ensures { MatchResult result (λ r. Declares table.now skips declared.now lines.entry.form lines.entry.line.now
-        lines.entry.behind.now r.0 r.1.now) (IsFaultOf table.now skips declared.now lines.entry.form
+    ensures { MatchResult result (λ r. HasDeclaration table.now skips declared.now lines.entry.form lines.entry.line.now
+        lines.entry.behind.now r.0 r.1.now) (IsFaultOfDeclaration table.now skips declared.now lines.entry.form
         lines.entry.line.now lines.entry.behind.now) }
 {
     let words = match read_head(declared, lines.form, lines.line) {
@@ -85,39 +89,49 @@ fn item_of<'a>(
     };
     let words = words.as_slice();
     match lines.form {
-        ItemForm::Tenant => Ok((tenant_of(alloc, words)?, lines.behind)),
-        ItemForm::Rate => Ok((named(alloc, words, rate_of(words))?, lines.behind)),
-        ItemForm::Quota => Ok((
-            named(alloc, words, quota_of(declared, lines.line, words))?,
+        DeclarationForm::Tenant => Ok((tenant_of(alloc, words)?, lines.behind)),
+        DeclarationForm::Rate => Ok((
+            policy_with_name(alloc, words, rate_of(words))?,
             lines.behind,
         )),
-        ItemForm::Count => Ok((named(alloc, words, Policy::Count)?, lines.behind)),
-        ItemForm::Access => access_of(alloc, table, words, lines.behind, skips),
-        ItemForm::Redact => redact_of(alloc, table, words, lines.behind, skips),
+        DeclarationForm::Quota => Ok((
+            policy_with_name(alloc, words, quota_of(declared, lines.line, words))?,
+            lines.behind,
+        )),
+        DeclarationForm::Count => Ok((
+            policy_with_name(alloc, words, Policy::Count)?,
+            lines.behind,
+        )),
+        DeclarationForm::Access => access_of(alloc, table, words, lines.behind, skips),
+        DeclarationForm::Redact => redact_of(alloc, table, words, lines.behind, skips),
     }
 }
 
-fn tenant_of(alloc: Global, words: &[Said<'_>]) -> Result<Item, Memory>
-    ensures { IfOk result (λ i. i ≡ tenant_said (meanings_of words.now)) }
+fn tenant_of(alloc: Global, words: &[WordValue<'_>]) -> Result<Declaration, Memory>
+    ensures { IfOk result (λ i. i ≡ tenant_of_words (meanings_of words.now)) }
 {
-    Ok(Item::Tenant(Tenant {
+    Ok(Declaration::Tenant(Tenant {
         name: Name::from_slice(alloc, name_at(words, 1))?,
         per: number_at(words, 2),
     }))
 }
 
 // Gives the policy the name that follows the word `policy`.
-fn named(alloc: Global, words: &[Said<'_>], policy: Policy) -> Result<Item, Memory>
-    ensures { IfOk result (λ i. i ≡ named (name_at (meanings_of words.now) 1) policy) }
+fn policy_with_name(
+    alloc: Global,
+    words: &[WordValue<'_>],
+    policy: Policy,
+) -> Result<Declaration, Memory>
+    ensures { IfOk result (λ i. i ≡ policy_with_name (name_at (meanings_of words.now) 1) policy) }
 {
-    Ok(Item::Policy(NamedPolicy {
+    Ok(Declaration::Policy(NamedPolicy {
         name: Name::from_slice(alloc, name_at(words, 1))?,
         policy,
     }))
 }
 
-fn rate_of(words: &[Said<'_>]) -> Policy
-    ensures { result ≡ rate_said (meanings_of words.now) }
+fn rate_of(words: &[WordValue<'_>]) -> Policy
+    ensures { result ≡ rate_of_words (meanings_of words.now) }
 {
     Policy::Rate(Rate {
         amount: number_at(words, 3),
@@ -127,9 +141,9 @@ fn rate_of(words: &[Said<'_>]) -> Policy
     })
 }
 
-fn quota_of(declared: &Declarations, line: &[u8], words: &[Said<'_>]) -> Policy
-    requires { Heads declared.now ItemForm.Quota line.now (meanings_of words.now) }
-    ensures { IsQuotaSaid declared.now (meanings_of words.now) result }
+fn quota_of(declared: &Declarations, line: &[u8], words: &[WordValue<'_>]) -> Policy
+    requires { IsDeclarationHead declared.now DeclarationForm.Quota line.now (meanings_of words.now) }
+    ensures { IsQuotaOfWords declared.now (meanings_of words.now) result }
 {
     let tenants = declared.tenants();
     let Some(place) = declared.tenant(name_at(words, 3)) else {
@@ -145,49 +159,55 @@ fn quota_of(declared: &Declarations, line: &[u8], words: &[Said<'_>]) -> Policy
 fn access_of<'a>(
     alloc: Global,
     table: &Table,
-    words: &[Said<'_>],
+    words: &[WordValue<'_>],
     text: &'a [u8],
     skips: bool,
-) -> Result<(Item, &'a [u8]), ScriptFault>
+) -> Result<(Declaration, &'a [u8]), ScriptFault>
     requires { IsValid table.now }
     ensures { MatchResult result (λ r. (p : AccessPolicy) × IsAccessIn table.now skips text.now p r.1.now
-        × (r.0 ≡ named (name_at (meanings_of words.now) 1) (Policy.Access p)))
-        (IsBlockFault table.now skips ItemForm.Access text.now) }
+        × (r.0 ≡ policy_with_name (name_at (meanings_of words.now) 1) (Policy.Access p)))
+        (IsScriptFaultAfterHead table.now skips DeclarationForm.Access text.now) }
 {
     one_access_fault();
     access_or_fault();
     let block = read_block(alloc, text, skips)?;
     let policy = match read_access(alloc, &block.lines, table) {
         Ok(policy) => policy,
-        Err(fault) => return Err(item_fault(&block, text, skips, fault)),
+        Err(fault) => return Err(declaration_fault(&block, text, skips, fault)),
     };
     let Some(rest) = block.rest else {
-        return Err(endless_fault(text));
+        return Err(missing_end_fault(text));
     };
-    Ok((named(alloc, words, Policy::Access(policy))?, rest))
+    Ok((
+        policy_with_name(alloc, words, Policy::Access(policy))?,
+        rest,
+    ))
 }
 
 fn redact_of<'a>(
     alloc: Global,
     table: &Table,
-    words: &[Said<'_>],
+    words: &[WordValue<'_>],
     text: &'a [u8],
     skips: bool,
-) -> Result<(Item, &'a [u8]), ScriptFault>
+) -> Result<(Declaration, &'a [u8]), ScriptFault>
     requires { IsValid table.now }
     ensures { MatchResult result (λ r. (p : List TheClear) × IsRedactIn table.now skips text.now p r.1.now
-        × (r.0 ≡ named (name_at (meanings_of words.now) 1) (Policy.Redact p)))
-        (IsBlockFault table.now skips ItemForm.Redact text.now) }
+        × (r.0 ≡ policy_with_name (name_at (meanings_of words.now) 1) (Policy.Redact p)))
+        (IsScriptFaultAfterHead table.now skips DeclarationForm.Redact text.now) }
 {
     one_redact_fault();
     redact_or_fault();
     let block = read_block(alloc, text, skips)?;
     let policy = match read_redact(alloc, &block.lines, table) {
         Ok(policy) => policy,
-        Err(fault) => return Err(item_fault(&block, text, skips, fault)),
+        Err(fault) => return Err(declaration_fault(&block, text, skips, fault)),
     };
     let Some(rest) = block.rest else {
-        return Err(endless_fault(text));
+        return Err(missing_end_fault(text));
     };
-    Ok((named(alloc, words, Policy::Redact(policy))?, rest))
+    Ok((
+        policy_with_name(alloc, words, Policy::Redact(policy))?,
+        rest,
+    ))
 }

@@ -17,7 +17,7 @@ pub struct Bucket {
 /// The outcome of charging a call.
 #[derive(Clone, Copy, PartialEq, Eq)]
 pub enum Step {
-    /// The call was charged; `level` is the level afterwards.
+    /// The call was charged; `level_of_past` is the level afterwards.
     Pass { level: u64 },
     /// The level is below the cost of a call. Nothing changed.
     Short { level: u64, cost: u64 },

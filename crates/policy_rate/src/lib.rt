@@ -12,5 +12,5 @@ mod laws;
 mod rate;
 
 pub use bucket::{Bucket, Step};
-pub use laws::{bounded_charges, bounded_level};
+pub use laws::{charges_are_bounded, level_is_bounded};
 pub use rate::Rate;

@@ -5,8 +5,8 @@ use Rattle.std.proofs.lemmas.Bool.{eq-eqb}
 use Rattle.std.specs.Str.{bytes_eq}
 use Rattle.mrpc_table.specs.Node.{Node, no_fields, field, Content, one, many, pairs, Item, number, run, node}
 use Rattle.mrpc_table.specs.Weight.{weight, content_weight, item_weight}
-use Rattle.mrpc_table.specs.PathTrees.{AscendsFrom, HoldsAscending, IsAscendingItem}
-use Rattle.policy_redact.specs.Leaving.{without, content_without, item_without}
+use Rattle.mrpc_table.specs.PathTrees.{IsTreeAscendingFrom, IsAscendingContent, IsAscendingItem}
+use Rattle.policy_redact.specs.Without.{without, content_without, item_without}
 
 -- ---- only the set of paths counts
 
@@ -65,7 +65,7 @@ mutual
 
 -- ---- the resulting tree ascends, and is no larger
 
-pub lower : (low last : ℕ) (t : Node) → low ≤ last → AscendsFrom last t → AscendsFrom low t
+pub lower : (low last : ℕ) (t : Node) → low ≤ last → IsTreeAscendingFrom last t → IsTreeAscendingFrom low t
 lower low last no_fields le up = tt
 lower low last (field n c t) le up = (omega (arith, up.0), up.1, up.2)
 
@@ -73,15 +73,15 @@ le_of : (n last : ℕ) → last < n → last ≤ n
 le_of n last lt = omega arith
 
 mutual
-  pub without-ascends : (p : List ℕ → Bool) (last : ℕ) (t : Node) → AscendsFrom last t → AscendsFrom last (without p t)
+  pub without-ascends : (p : List ℕ → Bool) (last : ℕ) (t : Node) → IsTreeAscendingFrom last t → IsTreeAscendingFrom last (without p t)
   without-ascends p last no_fields up = tt
   without-ascends p last (field n c t) up =
-      elim (p (n ∷ [])) as (λ (b : Bool). AscendsFrom last (if b then without p t else field n (content_without (λ path. p (n ∷ path)) c) (without p t))) [
+      elim (p (n ∷ [])) as (λ (b : Bool). IsTreeAscendingFrom last (if b then without p t else field n (content_without (λ path. p (n ∷ path)) c) (without p t))) [
         | true ↦ lower last n (without p t) (le_of n last up.0) (without-ascends p n t up.2)
         | false ↦ (up.0, content_without-ascends (λ path. p (n ∷ path)) c up.1, without-ascends p n t up.2)
       ]
 
-  content_without-ascends : (p : List ℕ → Bool) (c : Content) → HoldsAscending c → HoldsAscending (content_without p c)
+  content_without-ascends : (p : List ℕ → Bool) (c : Content) → IsAscendingContent c → IsAscendingContent (content_without p c)
   content_without-ascends p (one i) up = item_without-ascends p i up
   content_without-ascends p (many is) up = tt
   content_without-ascends p (pairs ps) up = tt
@@ -106,7 +106,7 @@ pub on_way : (n m : ℕ) (path : List ℕ) (c : Content) (t : Node)
     → without (bytes_eq (n ∷ m ∷ path)) (field n c t) ≡ field n (content_without (bytes_eq (m ∷ path)) c) (without (bytes_eq (n ∷ m ∷ path)) t)
 on_way n m path c t = rw (eq-eqb n n refl) refl
 
-pub above : (t : Node) (last n : ℕ) (path : List ℕ) → AscendsFrom last t → n ≤ last → without (bytes_eq (n ∷ path)) t ≡ t
+pub above : (t : Node) (last n : ℕ) (path : List ℕ) → IsTreeAscendingFrom last t → n ≤ last → without (bytes_eq (n ∷ path)) t ≡ t
 above no_fields last n path up le = refl
 above (field m c t) last n path up le = other m n path c t (omega (arith, up.0)) ∙ ap (field m c) (above t m n path up.2 (omega (arith, up.0)))
 

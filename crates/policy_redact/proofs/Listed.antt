@@ -8,10 +8,10 @@ use Rattle.std.proofs.lemmas.List.{take_more}
 use Rattle.std.proofs.lemmas.List.Folds.{list_any-append, Any-from_list_any, list_any-from_Any}
 use Rattle.mrpc_table.specs.Node.{Node}
 use Rattle.mrpc_table.specs.Weight.{weight}
-use Rattle.mrpc_table.specs.PathTrees.{IsAscending}
+use Rattle.mrpc_table.specs.PathTrees.{IsAscendingTree}
 use Rattle.mrpc_table.specs.declared.call.Call.{Call}
-use Rattle.policy_redact.specs.Leaving.{without}
-use Rattle.policy_redact.specs.Redacting.{is_for, is_at, is_listed, cleared, cleared_call}
+use Rattle.policy_redact.specs.Without.{without}
+use Rattle.policy_redact.specs.Redacting.{applies_to, is_at, is_listed, cleared, cleared_call}
 use Rattle.policy_redact.specs.declared.redact.Clear.{Clear}
 use Rattle.policy_redact.proofs.Leaving.{without-same, without-without, without-nothing, without-ascends}
 
@@ -38,7 +38,7 @@ pub in-turn : (a b : List Clear) (call : Call) → cleared b (cleared_call a cal
 in-turn a b call =
     without-without (is_listed a call) (is_listed b call) call.tree
     ∙ without-same (λ path. is_listed a call path || is_listed b call path) (is_listed (a ++ b) call) call.tree
-    (λ path. sym (list_any-append (λ (clear : Clear). is_for clear call && is_at clear path) a b))
+    (λ path. sym (list_any-append (λ (clear : Clear). applies_to clear call && is_at clear path) a b))
 
 pub either-first : (a b : List Clear) (call : Call) → cleared b (cleared_call a call) ≡ cleared a (cleared_call b call)
 either-first a b call =
@@ -63,21 +63,21 @@ any_same f a b same = bool_same (list_any f a) (list_any f b) (any_among f a b (
 
 pub same-lines : (a b : List Clear) (call : Call) → ((clear : Clear) → Contains a clear ↔ Contains b clear) → cleared a call ≡ cleared b call
 same-lines a b call same =
-    without-same (is_listed a call) (is_listed b call) call.tree (λ path. any_same (λ (clear : Clear). is_for clear call && is_at clear path) a b same)
+    without-same (is_listed a call) (is_listed b call) call.tree (λ path. any_same (λ (clear : Clear). applies_to clear call && is_at clear path) a b same)
 
 -- one more line
 pub one-more : (clears : List Clear) (i : ℕ) (clear : Clear) (call : Call) → i < length clears → clear ≡ get_or clears i clear
-    → cleared (take (i + 1) clears) call ≡ without (λ path. is_for clear call && is_at clear path) (cleared (take i clears) call)
+    → cleared (take (i + 1) clears) call ≡ without (λ path. applies_to clear call && is_at clear path) (cleared (take i clears) call)
 one-more clears i clear call within at =
     ap (λ (cs : List Clear). cleared cs call) (take_more clears i clear within ∙ ap (λ (c : Clear). take i clears ++ c ∷ []) (sym at))
-    ∙ without-same (is_listed (take i clears ++ clear ∷ []) call) (λ path. is_listed (take i clears) call path || (is_for clear call && is_at clear path)) call.tree
-    (λ path. list_any-append (λ (c : Clear). is_for c call && is_at c path) (take i clears) (clear ∷ [])
+    ∙ without-same (is_listed (take i clears ++ clear ∷ []) call) (λ path. is_listed (take i clears) call path || (applies_to clear call && is_at clear path)) call.tree
+    (λ path. list_any-append (λ (c : Clear). applies_to c call && is_at c path) (take i clears) (clear ∷ [])
     ∙ ap (λ (b : Bool). is_listed (take i clears) call path || b)
-    (or_false (is_for clear call && is_at clear path)))
-    ∙ sym (without-without (is_listed (take i clears) call) (λ path. is_for clear call && is_at clear path) call.tree)
+    (or_false (applies_to clear call && is_at clear path)))
+    ∙ sym (without-without (is_listed (take i clears) call) (λ path. applies_to clear call && is_at clear path) call.tree)
 
 -- the tree after the clears ascends
-pub cleared-ascends : (clears : List Clear) (call : Call) → IsAscending call.tree → IsAscending (cleared clears call)
+pub cleared-ascends : (clears : List Clear) (call : Call) → IsAscendingTree call.tree → IsAscendingTree (cleared clears call)
 cleared-ascends clears call up = without-ascends (is_listed clears call) 0 call.tree up
 
 pub nothing-listed : (call : Call) → cleared [] call ≡ call.tree
@@ -86,10 +86,10 @@ nothing-listed call = without-nothing call.tree
 -- the call after one more line
 pub more-cleared : (clears : List Clear) (i : ℕ) (clear : Clear) (call now next : Call) → i < length clears
     → clear ≡ get_or clears i clear → now ≡ cleared_call (take i clears) call
-    → next ≡ record now { tree = without (λ path. is_for clear now && is_at clear path) now.tree } → next ≡ cleared_call (take (i + 1) clears) call
+    → next ≡ record now { tree = without (λ path. applies_to clear now && is_at clear path) now.tree } → next ≡ cleared_call (take (i + 1) clears) call
 more-cleared clears i clear call now next within at so_far step =
     step
-    ∙ ap (λ (c : Call). record c { tree = without (λ path. is_for clear c && is_at clear path) c.tree }) so_far
+    ∙ ap (λ (c : Call). record c { tree = without (λ path. applies_to clear c && is_at clear path) c.tree }) so_far
     ∙ ap (λ (t : Node). record call { tree = t }) (sym (one-more clears i clear call within at))
 
 -- if the tree changed before or changes now, it is smaller; otherwise it is the same

@@ -3,7 +3,7 @@ use Rattle.std.proofs.Common.{ℕ, ◌+◌, ◌<◌, ◌≤◌, Bool, true, fals
 use Rattle.std.specs.Prelude.{max, option_map, unwrap_or}
 use Rattle.mrpc_table.specs.Calls.{message_at}
 use Rattle.mrpc_table.specs.Node.{Node, no_fields, field, Content, one, many, pairs, Item, number, run, node}
-use Rattle.mrpc_table.specs.Normal.{fields_of, field_at, membership, members_in, OneMemberEach, TakesOne, HasFields, HasContent, IsItem, depth, content_depth, item_depth, IsNormal}
+use Rattle.mrpc_table.specs.Normal.{fields_of, field_at, membership, members_in, HasOneMemberEach, CanHaveOne, HasFields, HasContent, IsItem, depth, content_depth, item_depth, IsNormal}
 use Rattle.mrpc_table.specs.declared.table.Kind.{Kind}
 use Rattle.mrpc_table.specs.declared.table.Label.{Label}
 use Rattle.mrpc_table.specs.declared.table.Label.TheVariants as label
@@ -11,7 +11,7 @@ use Rattle.mrpc_table.specs.declared.table.Field.{Field}
 use Rattle.mrpc_table.specs.declared.table.Table.{Table}
 use Rattle.mrpc_table.specs.Calls.{IsCallOf}
 use Rattle.mrpc_table.specs.declared.call.Call.{Call}
-use Rattle.policy_redact.specs.Leaving.{without, content_without, item_without}
+use Rattle.policy_redact.specs.Without.{without, content_without, item_without}
 use Rattle.policy_redact.specs.Redacting.{is_listed, cleared_call}
 use Rattle.policy_redact.specs.declared.redact.Clear.{Clear}
 
@@ -33,7 +33,7 @@ members fs o p (field n c t) =
       | false ↦ both (unwrap_or (option_map (λ (f : Field). membership f.label o) (field_at fs n)) 0) _ _ (members fs o p t)
     ]
 
-pub one-member : (fs : List Field) (p : List ℕ → Bool) (t : Node) → OneMemberEach fs t → OneMemberEach fs (without p t)
+pub one-member : (fs : List Field) (p : List ℕ → Bool) (t : Node) → HasOneMemberEach fs t → HasOneMemberEach fs (without p t)
 one-member fs p t each o = omega (arith, members fs o p t, each o)
 
 deeper : (c a b : ℕ) → a ≤ b → a ≤ max c b
@@ -64,7 +64,7 @@ mutual
 
 -- ---- fields
 
-takes_message : (l : Label) (t u : Node) → TakesOne l (node t) → TakesOne l (node u)
+takes_message : (l : Label) (t u : Node) → CanHaveOne l (node t) → CanHaveOne l (node u)
 takes_message label.Plain t u takes = takes
 takes_message label.Optional t u takes = takes
 takes_message label.Repeated t u takes = takes
@@ -98,7 +98,7 @@ mutual
   is-item T k p (run bytes) is = is
   is-item T k p (node t) is = (is.0, is.1, has-fields T (fields_of T is.0) p 0 t is.2, one-member (fields_of T is.0) p t is.3)
 
-  takes-item : (l : Label) (p : List ℕ → Bool) (i : Item) → TakesOne l i → TakesOne l (item_without p i)
+  takes-item : (l : Label) (p : List ℕ → Bool) (i : Item) → CanHaveOne l i → CanHaveOne l (item_without p i)
   takes-item l p (number n) takes = takes
   takes-item l p (run bytes) takes = takes
   takes-item l p (node t) takes = takes_message l t (without p t) takes

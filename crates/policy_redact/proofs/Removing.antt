@@ -10,8 +10,8 @@ use Rattle.mrpc_table.specs.Node.{Node, no_fields, field, Content, content_at}
 use Rattle.mrpc_table.specs.View.{node_of, content_of}
 use Rattle.mrpc_table.specs.Weight.{weight, content_weight}
 use Rattle.mrpc_table.specs.declared.tree.FieldValue.{FieldValue}
-use Rattle.mrpc_table.specs.PathTrees.{AscendsFrom, HoldsAscending, IsAscending}
-use Rattle.policy_redact.specs.Leaving.{without, content_without}
+use Rattle.mrpc_table.specs.PathTrees.{IsTreeAscendingFrom, IsAscendingContent, IsAscendingTree}
+use Rattle.policy_redact.specs.Without.{without, content_without}
 use Rattle.policy_redact.proofs.Leaving.{other, at_end, on_way, above}
 
 -- ---- no field with the number
@@ -31,7 +31,7 @@ none-under (field m c t) n path none =
 
 -- ---- a field that is removed
 
-above_first : (fs : List (ℕ × FieldValue)) (last i n : ℕ) (d : ℕ × FieldValue) → AscendsFrom last (node_of fs) → i < length fs → (get_or fs i d).0 ≡ n → last < n
+above_first : (fs : List (ℕ × FieldValue)) (last i n : ℕ) (d : ℕ × FieldValue) → IsTreeAscendingFrom last (node_of fs) → i < length fs → (get_or fs i d).0 ≡ n → last < n
 above_first [] last i n d up within at = absurd (omega arith)
 above_first (f ∷ fs) last zero n d up within at = omega (arith, up.0, at)
 above_first (f ∷ fs) last (suc i) n d up within at = omega (arith, up.0, above_first fs f.0 i n d up.2 (omega arith) at)
@@ -39,7 +39,7 @@ above_first (f ∷ fs) last (suc i) n d up within at = omega (arith, up.0, above
 differs : (m n : ℕ) → m < n → m ≢ n
 differs m n lt same = omega (arith, same)
 
-pub removed : (fs : List (ℕ × FieldValue)) (last n i : ℕ) (d : ℕ × FieldValue) → AscendsFrom last (node_of fs) → i < length fs → (get_or fs i d).0 ≡ n
+pub removed : (fs : List (ℕ × FieldValue)) (last n i : ℕ) (d : ℕ × FieldValue) → IsTreeAscendingFrom last (node_of fs) → i < length fs → (get_or fs i d).0 ≡ n
     → node_of (remove fs i) ≡ without (bytes_eq (n ∷ [])) (node_of fs)
 removed [] last n i d up within at = absurd (omega arith)
 removed (f ∷ fs) last n zero d up within at =
@@ -57,7 +57,7 @@ lighter (f ∷ fs) (suc i) within = omega (arith, lighter fs i (omega arith))
 -- ---- a field that changes inside
 
 pub changed-inside : (fs : List (ℕ × FieldValue)) (last n m i : ℕ) (path : List ℕ) (d v : ℕ × FieldValue)
-    → AscendsFrom last (node_of fs) → i < length fs → (get_or fs i d).0 ≡ n → v.0 ≡ n
+    → IsTreeAscendingFrom last (node_of fs) → i < length fs → (get_or fs i d).0 ≡ n → v.0 ≡ n
     → content_of v.1 ≡ content_without (bytes_eq (m ∷ path)) (content_of (get_or fs i d).1)
     → node_of (set fs i v) ≡ without (bytes_eq (n ∷ m ∷ path)) (node_of fs)
 changed-inside [] last n m i path d v up within at number content = absurd (omega arith)
@@ -85,7 +85,7 @@ same-inside (f ∷ fs) zero d v within number content = ap (λ (k : ℕ). field 
 same-inside (f ∷ fs) (suc i) d v within number content = ap (field f.0 (content_of f.1)) (same-inside fs i d v (omega arith) number content)
 
 -- the content of a field ascends
-pub held : (fs : List (ℕ × FieldValue)) (last i : ℕ) (d : ℕ × FieldValue) → AscendsFrom last (node_of fs) → i < length fs → HoldsAscending (content_of (get_or fs i d).1)
+pub held : (fs : List (ℕ × FieldValue)) (last i : ℕ) (d : ℕ × FieldValue) → IsTreeAscendingFrom last (node_of fs) → i < length fs → IsAscendingContent (content_of (get_or fs i d).1)
 held [] last i d up within = absurd (omega arith)
 held (f ∷ fs) last zero d up within = up.1
 held (f ∷ fs) last (suc i) d up within = held fs f.0 i d up.2 (omega arith)
@@ -108,7 +108,7 @@ goes_on (m ∷ way) number = (m, way ++ number ∷ [], refl)
 
 -- the tree without the field at a path, if the first message on its way is without the field at the path's remainder
 pub stepped : (fs : List (ℕ × FieldValue)) (i : ℕ) (way : List ℕ) (number : ℕ) (f : ℕ × FieldValue) (new : FieldValue)
-    → IsAscending (node_of fs) → 1 ≤ length way → i < length fs
+    → IsAscendingTree (node_of fs) → 1 ≤ length way → i < length fs
     → f ≡ get_or fs i f → (get_or fs i f).0 ≡ get_or way 0 0 → content_of new ≡ content_without (bytes_eq (rest_of way ++ number ∷ [])) (content_of f.1)
     → node_of (set fs i (f.0, new)) ≡ without (bytes_eq (way ++ number ∷ [])) (node_of fs)
 stepped fs i way number f new up some within is at content =

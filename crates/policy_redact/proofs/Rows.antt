@@ -6,12 +6,12 @@ use Rattle.mrpc_table.specs.declared.table.Label.TheVariants.{Plain, Optional, M
 use Rattle.mrpc_table.specs.declared.table.Table.{Table}
 use Rattle.mrpc_table.specs.declared.path.Path.{Path}
 use Rattle.mrpc_table.specs.declared.call.Call.{Call}
-use Rattle.mrpc_table.specs.declared.call.Sort.TheVariants.{Request, Reply}
+use Rattle.mrpc_table.specs.declared.call.CallKind.TheVariants.{Request, Reply}
 use Rattle.mrpc_table.specs.declared.policy_lines.RuleReason.TheVariants as reason
 use Rattle.policy_redact.specs.Faults.{IsAgainstAt, at_line, no_line, out_of_form, large_index, no_method, no_field}
-use Rattle.policy_redact.specs.Lines.{line_of}
+use Rattle.policy_redact.specs.Lines.{clear_line_of}
 use Rattle.policy_redact.specs.Redacting.{cleared}
-use Rattle.policy_redact.specs.Texts.{said_clear, IsTextOf}
+use Rattle.policy_redact.specs.Texts.{clear_of_line, IsTextOf}
 use Rattle.policy_redact.specs.declared.redact.Clear.{Clear}
 
 -- ---- the tree after clears
@@ -100,11 +100,11 @@ small = record {
   methods = record { service = codes "S"; name = codes "Get"; input = 0; output = 0 } ∷ [];
 }
 
-a_line : said_clear small (codes "clear method 0 2") ≡ Some (record { method = 0; sort = Request; path = record { way = []; number = 2; kind = Uint64; label = Optional } })
-unfolding line_of
+a_line : clear_of_line small (codes "clear method 0 2") ≡ Some (record { method = 0; sort = Request; path = record { way = []; number = 2; kind = Uint64; label = Optional } })
+unfolding clear_line_of
 a_line = refl
 
-a_line_of_replies : said_clear small (codes "clear method 0 reply 3.3.1")
+a_line_of_replies : clear_of_line small (codes "clear method 0 reply 3.3.1")
     ≡ Some (record {
       method = 0;
       sort = Reply;
@@ -115,55 +115,55 @@ a_line_of_replies : said_clear small (codes "clear method 0 reply 3.3.1")
         label = Plain;
       };
     })
-unfolding line_of
+unfolding clear_line_of
 a_line_of_replies = refl
 
-the_last_field_may_be_a_message : said_clear small (codes "clear method 0 3")
+the_last_field_may_be_a_message : clear_of_line small (codes "clear method 0 3")
     ≡ Some (record {
       method = 0;
       sort = Request;
       path = record { way = []; number = 3; kind = Message 0; label = Member 0 };
     })
-unfolding line_of
+unfolding clear_line_of
 the_last_field_may_be_a_message = refl
 
 one_line_is_a_text : IsTextOf small (codes "clear method 0 2" ∷ []) (record { method = 0; sort = Request; path = record { way = []; number = 2; kind = Uint64; label = Optional } } ∷ [])
-unfolding line_of
+unfolding clear_line_of
 one_line_is_a_text = record { each = (refl, tt); some = omega arith; few = omega arith }
 
-an_empty_line : line_of [] ≡ None
-unfolding line_of
+an_empty_line : clear_line_of [] ≡ None
+unfolding clear_line_of
 an_empty_line = refl
 
-a_path_is_missing : line_of (codes "clear method 0 reply") ≡ None
-unfolding line_of
+a_path_is_missing : clear_line_of (codes "clear method 0 reply") ≡ None
+unfolding clear_line_of
 a_path_is_missing = refl
 
-a_word_too_many : line_of (codes "clear method 0 reply 1 2") ≡ None
-unfolding line_of
+a_word_too_many : clear_line_of (codes "clear method 0 reply 1 2") ≡ None
+unfolding clear_line_of
 a_word_too_many = refl
 
-reply_stands_before_the_path : line_of (codes "clear method 0 1 reply") ≡ None
-unfolding line_of
+reply_stands_before_the_path : clear_line_of (codes "clear method 0 1 reply") ≡ None
+unfolding clear_line_of
 reply_stands_before_the_path = refl
 
 no_line_is_at_fault : IsAgainstAt small [] 0 reason.Word
 no_line_is_at_fault = no_line refl refl refl
 
 a_line_out_of_form : IsAgainstAt small (codes "clear method 0" ∷ []) 0 reason.Word
-unfolding line_of
+unfolding clear_line_of
 a_line_out_of_form = at_line (codes "clear method 0") refl (out_of_form refl refl)
 
 -- an index of 17 bits is at fault before a path that leads to no field
 an_index_too_large : IsAgainstAt small (codes "clear method 65536 9" ∷ []) 0 reason.Number
-unfolding line_of
+unfolding clear_line_of
 an_index_too_large = at_line (codes "clear method 65536 9") refl (large_index _ refl refl refl)
 
 a_method_that_is_missing : IsAgainstAt small (codes "clear method 1 1" ∷ []) 0 reason.Path
-unfolding line_of
+unfolding clear_line_of
 a_method_that_is_missing = at_line (codes "clear method 1 1") refl (no_method _ 1 refl refl (omega arith) refl)
 
 -- a way can't lead through a number
 a_path_through_a_number : IsAgainstAt small (codes "clear method 0 1.1" ∷ []) 0 reason.Path
-unfolding line_of
+unfolding clear_line_of
 a_path_through_a_number = at_line (codes "clear method 0 1.1") refl (no_field _ 0 refl refl refl refl)

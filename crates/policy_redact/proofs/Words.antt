@@ -3,7 +3,7 @@ use Rattle.std.proofs.Common.{◌≡◌, ℕ, ◌==◌, Bool, true, false, cond,
 use Rattle.std.specs.List.{slice_split, onto_first}
 use Rattle.mrpc_table.specs.Lines.{words_of}
 use Rattle.mrpc_table.specs.declared.words.Decimal.{Decimal}
-use Rattle.policy_redact.specs.Lines.{behind_index}
+use Rattle.policy_redact.specs.Lines.{after_index}
 
 -- a list has at least one part
 has_part : (sep : ℕ) (text : List ℕ) → (part : List ℕ) × (parts : List (List ℕ)) × (slice_split (λ c. c == sep) text ≡ part ∷ parts)
@@ -17,5 +17,5 @@ has_part sep (x ∷ xs) =
       | false ↦ (x ∷ rest.0, rest.1, ap (onto_first x) rest.2)
     ]
 
-pub too_many_words : (index : Decimal) (word path rest : List ℕ) → behind_index index (word ∷ path ∷ words_of rest) ≡ None
+pub too_many_words : (index : Decimal) (word path rest : List ℕ) → after_index index (word ∷ path ∷ words_of rest) ≡ None
 too_many_words index word path rest = let more = has_part 32 rest in rw more.2 refl

@@ -1,7 +1,7 @@
 pub mod Faults
-pub mod Leaving
+pub mod Without
 pub mod Lines
 pub mod Reading
 pub mod Redacting
-pub mod Said
+pub mod LineContent
 pub mod Texts

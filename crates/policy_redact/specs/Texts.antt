@@ -5,20 +5,20 @@ use Rattle.mrpc_table.specs.PathFields.{path_in}
 use Rattle.mrpc_table.specs.declared.path.Path.{Path}
 use Rattle.mrpc_table.specs.declared.path.PathWord.{PathWord}
 use Rattle.mrpc_table.specs.Calls.{message_of}
-use Rattle.mrpc_table.specs.PolicyLines.{index_of, SayEach}
-use Rattle.mrpc_table.specs.declared.call.Sort.{Sort}
-use Rattle.policy_redact.specs.Lines.{line_of}
+use Rattle.mrpc_table.specs.PolicyLines.{index_of, AreParsed}
+use Rattle.mrpc_table.specs.declared.call.CallKind.{CallKind}
+use Rattle.policy_redact.specs.Lines.{clear_line_of}
 use Rattle.policy_redact.specs.declared.limits.TheConstants.{MAX_CLEARS}
 use Rattle.policy_redact.specs.declared.line.ClearLine.{ClearLine}
 use Rattle.policy_redact.specs.declared.redact.Clear.{Clear}
 
 -- the path in the request message or the reply message of a method; none if the table doesn't have the method
-abbrev pub path_in_call : Table → ℕ → Sort → PathWord → Option Path
+abbrev pub path_in_call : Table → ℕ → CallKind → PathWord → Option Path
 path_in_call T method sort p =
     if nat_lt method (length T.methods) then path_in T (message_of T method sort) p else None
 
 -- a method, a kind (request or reply) and a path
-abbrev pub clear_of : ℕ → Sort → Path → Clear
+abbrev pub clear_of : ℕ → CallKind → Path → Clear
 clear_of method sort path = record { method = method; sort = sort; path = path }
 
 -- the clear of a line
@@ -28,11 +28,11 @@ clear_in T l =
     (λ method. option_map (clear_of method l.sort) (path_in_call T method l.sort l.path))
     (index_of l.index)
 
-abbrev pub said_clear : Table → List ℕ → Option Clear
-said_clear T line = option_and_then (clear_in T) (line_of line)
+abbrev pub clear_of_line : Table → List ℕ → Option Clear
+clear_of_line T line = option_and_then (clear_in T) (clear_line_of line)
 
 -- Lines are the text of a policy: one line for each clear. There is at least one, and at most `MAX_CLEARS`.
 pub record IsTextOf (T : Table) (lines : List (List ℕ)) (clears : List Clear) : Type 0 where
-  pub each : SayEach (said_clear T) lines clears
+  pub each : AreParsed (clear_of_line T) lines clears
   pub some : 0 < length clears
   pub few : length clears ≤ MAX_CLEARS

@@ -12,7 +12,7 @@ ghost use Rattle.policy_redact.specs.Texts.{IsTextOf};
 ghost use Rattle.policy_redact.specs.declared.redact.Clear.{Clear};
 
 /// Clears commute, and repeating them changes nothing: the result depends only on which clears there are.
-pub fn any_order()
+pub fn clears_commute()
     ensures of_lines { (a b : List Clear) (call : Call) →
         ((clear : Clear) → Contains a clear ↔ Contains b clear) → cleared a call ≡ cleared b call }
     ensures in_turn { (a b : List Clear) (call : Call) → cleared b (cleared_call a call) ≡ cleared (a ++ b) call }
@@ -21,29 +21,29 @@ pub fn any_order()
 {}
 
 /// A second clear by the same policy changes nothing.
-pub fn clear_again()
+pub fn clear_is_idempotent()
     ensures { (clears : List Clear) (call : Call) → cleared clears (cleared_call clears call) ≡ cleared clears call }
 {}
 
 /// A normal tree stays normal.
-pub fn stays_normal()
+pub fn clear_preserves_normal_form()
     ensures { (T : Table) (clears : List Clear) (call : Call) →
         IsCallOf T call → IsCallOf T (cleared_call clears call) }
 {}
 
 /// The result is the tree itself, or a smaller one: its number of parts falls if anything is cleared.
-pub fn gets_smaller()
+pub fn clear_shrinks_tree()
     ensures { (clears : List Clear) (call : Call) →
         (cleared clears call ≡ call.tree) ⊎ (weight (cleared clears call) < weight call.tree) }
 {}
 
 /// Lines are the text of at most one policy.
-pub fn one_policy()
+pub fn policy_is_unique()
     ensures { (T : Table) (lines : List (List ℕ)) (p q : List Clear) → IsTextOf T lines p → IsTextOf T lines q → p ≡ q }
 {}
 
 /// Lines have at most one first fault.
-pub fn one_fault()
+pub fn first_fault_is_unique()
     ensures { (T : Table) (lines : List (List ℕ)) (m n : ℕ) (r q : RuleReason) →
         IsFirstFault T lines m r → IsFirstFault T lines n q → (m ≡ n) × (r ≡ q) }
 {}

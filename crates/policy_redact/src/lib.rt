@@ -16,7 +16,8 @@ mod redact;
 mod remove;
 
 pub use laws::{
-    any_order, clear_again, gets_smaller, one_fault, one_policy, stays_normal, text_or_fault,
+    clear_is_idempotent, clear_preserves_normal_form, clear_shrinks_tree, clears_commute,
+    first_fault_is_unique, policy_is_unique, text_or_fault,
 };
 pub use limits::MAX_CLEARS;
 pub use read::read_redact;

@@ -1,11 +1,11 @@
 //! The content of a policy's line, by its form alone.
 
-use mrpc_table::{Decimal, PathWord, Sort};
+use mrpc_table::{CallKind, Decimal, PathWord};
 
 // `clear method INDEX [reply] PATH`
 pub(crate) struct ClearLine {
     pub index: Decimal,
-    pub sort: Sort,
+    pub sort: CallKind,
     pub path: PathWord,
 }
 

@@ -4,17 +4,17 @@ ghost use Rattle.std.specs.Prelude.{◌≡◌, ◌+◌, ◌^◌, ◌<◌, ℕ, L
 ghost use Rattle.mrpc_table.specs.Valid.{IsValid};
 ghost use Rattle.mrpc_table.specs.declared.policy_lines.RuleFault.TheVariants.{Memory as NoMemory};
 ghost use Rattle.policy_redact.specs.Faults.{IsFaultOf};
-ghost use Rattle.policy_redact.specs.Lines.{line_of};
-ghost use Rattle.policy_redact.specs.Said.{said_in};
+ghost use Rattle.policy_redact.specs.Lines.{clear_line_of};
+ghost use Rattle.policy_redact.specs.LineContent.{judged_clear};
 ghost use Rattle.policy_redact.specs.Texts.{path_in_call, IsTextOf};
 ghost use Rattle.policy_redact.specs.declared.redact.Clear.{Clear as TheClear};
 
-use crate::form::line_of;
+use crate::form::clear_line_of;
 use crate::limits::MAX_CLEARS;
 use crate::line::ClearLine;
 use crate::redact::{Clear, Redact};
 use mrpc_table::{
-    Bytes, Decimal, Lines, Memory, Path, PathWord, RuleFault, RuleReason, Sort, Table,
+    Bytes, CallKind, Decimal, Lines, Memory, Path, PathWord, RuleFault, RuleReason, Table,
 };
 use std::alloc::Global;
 
@@ -23,7 +23,7 @@ fn path_in_call(
     alloc: Global,
     table: &Table,
     method: u16,
-    sort: Sort,
+    sort: CallKind,
     path: &PathWord,
 ) -> Result<Option<Path>, Memory>
     requires { IsValid table.now }
@@ -37,11 +37,15 @@ fn path_in_call(
 }
 
 // The clear of a line, or the reason against the line.
-fn said_in(alloc: Global, table: &Table, line: &[u8]) -> Result<Result<Clear, RuleReason>, Memory>
+fn judged_clear(
+    alloc: Global,
+    table: &Table,
+    line: &[u8],
+) -> Result<Result<Clear, RuleReason>, Memory>
     requires { IsValid table.now }
-    ensures { IfOk result (λ s. s ≡ said_in table.now (line_of line.now)) }
+    ensures { IfOk result (λ s. s ≡ judged_clear table.now (clear_line_of line.now)) }
 {
-    let Some(line) = line_of(alloc, line)? else {
+    let Some(line) = clear_line_of(alloc, line)? else {
         return Ok(Err(RuleReason::Word));
     };
     let method = match line.index {
@@ -68,7 +72,7 @@ fn read_lines(alloc: Global, lines: &[Bytes], table: &Table) -> Result<Redact, R
         if place >= MAX_CLEARS {
             return Err(RuleFault::at(place, RuleReason::Word));
         }
-        match said_in(alloc, table, line.as_slice())? {
+        match judged_clear(alloc, table, line.as_slice())? {
             Err(reason) => return Err(RuleFault::at(place, reason)),
             Ok(clear) => clears.push(clear)?,
         }

@@ -5,7 +5,7 @@ ghost use Rattle.std.specs.Bool.{OnTrue, OnFalse};
 ghost use Rattle.mrpc_table.specs.Weight.{weight};
 
 use crate::remove::remove_at;
-use mrpc_table::{Call, Memory, Path, Sequence, Sort, normal_ascends};
+use mrpc_table::{Call, CallKind, Memory, Path, Sequence, normal_ascends};
 use std::alloc::Global;
 use std::marker::Model;
 
@@ -14,7 +14,7 @@ pub struct Clear {
     /// The index of the method in the table.
     pub method: u16,
     /// Whether it is cleared from requests or from replies.
-    pub sort: Sort,
+    pub sort: CallKind,
     /// The path of the field in a call's tree.
     pub path: Path,
 }
@@ -32,25 +32,25 @@ impl Drop for Clear {
 
 impl Clear {
     ghost use Rattle.std.specs.Prelude.{◌&&◌};
-    ghost use Rattle.mrpc_table.specs.PathTrees.{IsAscending};
-    ghost use Rattle.policy_redact.specs.Leaving.{without};
-    ghost use Rattle.policy_redact.specs.Redacting.{is_for, is_at};
+    ghost use Rattle.mrpc_table.specs.PathTrees.{IsAscendingTree};
+    ghost use Rattle.policy_redact.specs.Without.{without};
+    ghost use Rattle.policy_redact.specs.Redacting.{applies_to, is_at};
 
-    fn is_for(&self, call: &Call) -> bool
-        ensures { result ≡ is_for self.now call.now }
+    fn applies_to(&self, call: &Call) -> bool
+        ensures { result ≡ applies_to self.now call.now }
     {
         call.method == self.method && call.is_of(self.sort)
     }
 
     // Removes the field, if the call has the method and the kind. Returns whether the field was there.
     fn remove_from(&self, call: &mut Call) -> bool
-        requires { IsAscending call.old.tree }
+        requires { IsAscendingTree call.old.tree }
         ensures left { call.new ≡
-            record call.old { tree = without (λ path. is_for self.now call.old && is_at self.now path) call.old.tree } }
+            record call.old { tree = without (λ path. applies_to self.now call.old && is_at self.now path) call.old.tree } }
         ensures smaller { OnTrue result (weight call.new.tree < weight call.old.tree) }
         ensures unchanged { OnFalse result (call.new ≡ call.old) }
     {
-        if !self.is_for(call) {
+        if !self.applies_to(call) {
             return false;
         }
         remove_at(&mut call.tree, self.path.way.as_slice(), self.path.number)
@@ -91,7 +91,7 @@ impl Model for Redact {
 impl Redact {
     ghost use Rattle.mrpc_table.specs.declared.table.Table.{Table};
     ghost use Rattle.mrpc_table.specs.Calls.{IsCallOf};
-    ghost use Rattle.policy_redact.specs.Redacting.{cleared_call, FitsSomeTable};
+    ghost use Rattle.policy_redact.specs.Redacting.{cleared_call, IsCallOfSomeTable};
 
     // The policy of these clears.
     pub(crate) fn new(clears: Vec<Clear>) -> Redact
@@ -108,7 +108,7 @@ impl Redact {
     /// Each path takes time in proportion to the logarithm of the number of fields on its way, and to the fields of
     /// the message that loses one. It allocates nothing.
     pub fn clear(&self, call: &mut Call) -> bool
-        requires { FitsSomeTable call.old }
+        requires { IsCallOfSomeTable call.old }
         // The tree is the old one without the fields at the listed paths, and nothing else changes.
         ensures left { call.new ≡ cleared_call self.now call.old }
         ensures changed { IsTrue result ↔ (call.new.tree ≢ call.old.tree) }

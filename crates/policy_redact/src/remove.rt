@@ -5,13 +5,13 @@ ghost use Rattle.std.specs.Bool.{OnTrue, OnFalse};
 ghost use Rattle.std.specs.Str.{bytes_eq};
 ghost use Rattle.mrpc_table.specs.View.{content_of};
 ghost use Rattle.mrpc_table.specs.Weight.{weight, content_weight};
-ghost use Rattle.mrpc_table.specs.PathTrees.{IsAscending, HoldsAscending};
-ghost use Rattle.policy_redact.specs.Leaving.{without, content_without};
+ghost use Rattle.mrpc_table.specs.PathTrees.{IsAscendingTree, IsAscendingContent};
+ghost use Rattle.policy_redact.specs.Without.{without, content_without};
 
 use mrpc_table::{FieldValue, Tree, Value, find_content, numbers_ascend};
 
 fn remove_field(tree: &mut Tree, number: u32) -> bool
-    requires { IsAscending tree.old }
+    requires { IsAscendingTree tree.old }
     ensures left { tree.new ≡ without (bytes_eq (number ∷ [])) tree.old }
     ensures smaller { OnTrue result (weight tree.new < weight tree.old) }
     ensures unchanged { OnFalse result (tree.new ≡ tree.old) }
@@ -27,7 +27,7 @@ fn remove_field(tree: &mut Tree, number: u32) -> bool
 // Removes the field from the message in this content, if there is one.
 #[cycle(remove)]
 fn remove_inside(content: &mut FieldValue, way: &[u32], number: u32) -> bool
-    requires { HoldsAscending (content_of content.old) }
+    requires { IsAscendingContent (content_of content.old) }
     ensures left { content_of content.new
         ≡ content_without (bytes_eq (way.now ++ number ∷ [])) (content_of content.old) }
     ensures smaller { OnTrue result
@@ -45,7 +45,7 @@ fn remove_inside(content: &mut FieldValue, way: &[u32], number: u32) -> bool
 // whether there was one.
 #[cycle(remove)]
 pub(crate) fn remove_at(tree: &mut Tree, way: &[u32], number: u32) -> bool
-    requires { IsAscending tree.old }
+    requires { IsAscendingTree tree.old }
     ensures left { tree.new ≡ without (bytes_eq (way.now ++ number ∷ [])) tree.old }
     ensures smaller { OnTrue result (weight tree.new < weight tree.old) }
     ensures unchanged { OnFalse result (tree.new ≡ tree.old) }

@@ -5,7 +5,7 @@
 //! the yields.
 
 ghost use Rattle.std.specs.Prelude.{◌≡◌, ◌<◌, ◌≤◌, ◌+◌, ◌*◌, min};
-ghost use Rattle.polling.specs.declared.backoff.TheConstants.{FIRST_SLEEP, LONGEST_SLEEP, MOST_YIELDS};
+ghost use Rattle.polling.specs.declared.backoff.TheConstants.{FIRST_SLEEP, MAX_SLEEP, MAX_YIELDS};
 
 use std::sync::Wait;
 use std::sync::atomic::AtomicU64;
@@ -13,17 +13,17 @@ use std::thread;
 use std::time::Duration;
 
 /// How many times in a row a thread yields before it sleeps.
-pub const MOST_YIELDS: u32 = 8;
+pub const MAX_YIELDS: u32 = 8;
 
 /// The first sleep after the yields, in microseconds. Each further sleep is twice as long, up to the longest.
 pub const FIRST_SLEEP: u64 = 16;
 
 /// The longest sleep, in microseconds.
-pub const LONGEST_SLEEP: u64 = 1000;
+pub const MAX_SLEEP: u64 = 1000;
 
 /// A step of the backoff.
 #[derive(Clone, Copy, PartialEq, Eq)]
-pub enum Pause {
+pub enum BackoffStep {
     /// Yields the processor to other threads that are ready.
     Yield,
     /// Sleeps for this many microseconds.
@@ -32,7 +32,7 @@ pub enum Pause {
 
 /// The backoff of one thread since it last found something to do.
 #[derive(Drop)]
-pub struct Pauses {
+pub struct Backoff {
     /// How many times the thread has yielded.
     pub yields: u32,
     /// The length of the next sleep, in microseconds.
@@ -41,13 +41,13 @@ pub struct Pauses {
     word: AtomicU64,
 }
 
-impl Pauses {
+impl Backoff {
     /// The backoff of a thread that has just found something to do.
-    pub fn new() -> Pauses
+    pub fn new() -> Backoff
         ensures yields { result.yields ≡ 0 }
         ensures sleep { result.sleep ≡ FIRST_SLEEP }
     {
-        Pauses {
+        Backoff {
             yields: 0,
             sleep: FIRST_SLEEP,
             word: AtomicU64::new(0),
@@ -56,13 +56,13 @@ impl Pauses {
 
     /// A backoff without yields, for a thread that need not react soon. Its first sleep takes `first` microseconds, but
     /// no longer than the longest sleep.
-    pub fn asleep(first: u64) -> Pauses
-        ensures yields { result.yields ≡ MOST_YIELDS }
-        ensures sleep { result.sleep ≡ min LONGEST_SLEEP first }
+    pub fn sleeping(first: u64) -> Backoff
+        ensures yields { result.yields ≡ MAX_YIELDS }
+        ensures sleep { result.sleep ≡ min MAX_SLEEP first }
     {
-        Pauses {
-            yields: MOST_YIELDS,
-            sleep: LONGEST_SLEEP.min(first),
+        Backoff {
+            yields: MAX_YIELDS,
+            sleep: MAX_SLEEP.min(first),
             word: AtomicU64::new(0),
         }
     }
@@ -77,20 +77,20 @@ impl Pauses {
     }
 
     /// Makes the next step, and returns which it was.
-    pub fn pause<R: Wait>(&mut self, rt: &R) -> Pause
-        ensures awake { self.old.yields < MOST_YIELDS → (result ≡ Pause.Yield)
+    pub fn wait<R: Wait>(&mut self, rt: &R) -> BackoffStep
+        ensures awake { self.old.yields < MAX_YIELDS → (result ≡ BackoffStep.Yield)
             × (self.new.yields ≡ self.old.yields + 1) × (self.new.sleep ≡ self.old.sleep) }
-        ensures asleep { MOST_YIELDS ≤ self.old.yields → (result ≡ Pause.Sleep self.old.sleep)
-            × (self.new.yields ≡ self.old.yields) × (self.new.sleep ≡ min LONGEST_SLEEP (2 * min LONGEST_SLEEP self.old.sleep)) }
+        ensures asleep { MAX_YIELDS ≤ self.old.yields → (result ≡ BackoffStep.Sleep self.old.sleep)
+            × (self.new.yields ≡ self.old.yields) × (self.new.sleep ≡ min MAX_SLEEP (2 * min MAX_SLEEP self.old.sleep)) }
     {
-        if self.yields < MOST_YIELDS {
+        if self.yields < MAX_YIELDS {
             self.yields += 1;
             thread::yield_now();
-            return Pause::Yield;
+            return BackoffStep::Yield;
         }
         let sleep = self.sleep;
         self.word.park_timeout(rt, 0, Duration::from_micros(sleep));
-        self.sleep = LONGEST_SLEEP.min(2 * LONGEST_SLEEP.min(sleep));
-        Pause::Sleep(sleep)
+        self.sleep = MAX_SLEEP.min(2 * MAX_SLEEP.min(sleep));
+        BackoffStep::Sleep(sleep)
     }
 }

@@ -8,8 +8,8 @@ use Rattle.proto_ast.specs.declared.file.EnumDecl.{EnumDecl}
 use Rattle.proto_ast.specs.declared.file.ServiceDecl.{ServiceDecl}
 use Rattle.proto_ast.specs.declared.file.File.{File}
 use Rattle.proto_ast.specs.declared.joined.Head.{Head}
-use Rattle.proto_ast.specs.declared.joined.Home.{Home}
-use Rattle.proto_ast.specs.declared.joined.Home.TheVariants as home
+use Rattle.proto_ast.specs.declared.joined.Enclosing.{Enclosing}
+use Rattle.proto_ast.specs.declared.joined.Enclosing.TheVariants as home
 
 pub record Joined : Type 0 where
   pub heads : List Head
@@ -28,15 +28,15 @@ alone F = record {
 
 -- ---- what encloses a declaration
 
-abbrev pub home_in : ℕ → Option ℕ → Home
-home_in file None = home.File file
-home_in file (Some i) = home.Message i
+abbrev pub enclosing_in : ℕ → Option ℕ → Enclosing
+enclosing_in file None = home.File file
+enclosing_in file (Some i) = home.Message i
 
-abbrev pub home_of : MessageDecl → Home
-home_of m = home_in m.file m.parent
+abbrev pub enclosing_of : MessageDecl → Enclosing
+enclosing_of m = enclosing_in m.file m.parent
 
-abbrev pub enum_home_of : EnumDecl → Home
-enum_home_of e = home_in e.file e.parent
+abbrev pub enclosing_of_enum : EnumDecl → Enclosing
+enclosing_of_enum e = enclosing_in e.file e.parent
 
 -- ---- files
 
@@ -54,7 +54,7 @@ abbrev pub package_at : Joined → ℕ → List (List ℕ)
 package_at F file = package_in (slice_get F.heads file)
 
 -- references in one file may name types and packages of the other
-pub record Sees (F : Joined) (file other : ℕ) : Type 0 where
+pub record CanSee (F : Joined) (file other : ℕ) : Type 0 where
   pub head : Head
   pub at : slice_get F.heads file ≡ Some head
   pub among : Contains head.sees other

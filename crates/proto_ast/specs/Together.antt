@@ -2,7 +2,7 @@
 -- order in which their names and numbers start.
 use Rattle.std.specs.Prelude.{◌≡◌, ℕ, ◌<◌, length, Some, slice_get, IfSome, All, Contains}
 use Rattle.proto_ast.specs.Joined.{Joined}
-use Rattle.proto_ast.specs.Order.{IsPlaceBelow, HasFullName, IsFormedMessage, IsFormedEnum, IsFormedService, Part, its_name, rank_of, IsOfField, IsOfValue, IsOfRpc}
+use Rattle.proto_ast.specs.Order.{IsIndexBelow, HasFullName, IsFormedMessage, IsFormedEnum, IsFormedService, DeclPart, its_name, part_rank, IsOfField, IsOfValue, IsOfRpc}
 use Rattle.proto_ast.specs.declared.file.Span.{Span}
 use Rattle.proto_ast.specs.declared.file.Word.{Word}
 use Rattle.proto_ast.specs.declared.file.FieldDecl.{FieldDecl}
@@ -27,9 +27,9 @@ pub record IsFormed (F : Joined) : Type 0 where
   pub enums : All IsFormedEnum F.enums
   pub services : All IsFormedService F.services
   -- a message is in a file or in an earlier message
-  pub parents : (i : ℕ) (m : MessageDecl) → slice_get F.messages i ≡ Some m → IsPlaceBelow i m.parent
+  pub parents : (i : ℕ) (m : MessageDecl) → slice_get F.messages i ≡ Some m → IsIndexBelow i m.parent
   -- an enum is in a file or in a message
-  pub enum_parents : All (λ e. IsPlaceBelow (length F.messages) e.parent) F.enums
+  pub enum_parents : All (λ e. IsIndexBelow (length F.messages) e.parent) F.enums
   -- each declaration is of a file that exists, and a nested one is of the file of its message
   pub message_files : All (λ m. m.file < length F.heads) F.messages
   pub enum_files : All (λ e. e.file < length F.heads) F.enums
@@ -42,52 +42,52 @@ pub record IsFormed (F : Joined) : Type 0 where
 -- ---- names and numbers
 
 -- a declaration, by its indices in the lists
-pub data Declaration : Type 0 where
-  package_decl : ℕ → Declaration
-  message_decl : ℕ → Declaration
+pub data DeclIndex : Type 0 where
+  package_decl : ℕ → DeclIndex
+  message_decl : ℕ → DeclIndex
   -- the message and then the field or oneof, the enum and then the value, the service and then the rpc
-  field_decl : ℕ → ℕ → Declaration
-  oneof_decl : ℕ → ℕ → Declaration
-  enum_decl : ℕ → Declaration
-  value_decl : ℕ → ℕ → Declaration
-  service_decl : ℕ → Declaration
-  rpc_decl : ℕ → ℕ → Declaration
+  field_decl : ℕ → ℕ → DeclIndex
+  oneof_decl : ℕ → ℕ → DeclIndex
+  enum_decl : ℕ → DeclIndex
+  value_decl : ℕ → ℕ → DeclIndex
+  service_decl : ℕ → DeclIndex
+  rpc_decl : ℕ → ℕ → DeclIndex
 
 -- a part of a declaration has this span
-pub data StandsAt (F : Joined) (span : Span) : Declaration → Part → Type 0 where
+pub data IsPartSpan (F : Joined) (span : Span) : DeclIndex → DeclPart → Type 0 where
   package_name : (k : ℕ) (h : Head) (w : Word) → slice_get F.heads k ≡ Some h → h.package ≡ Some w → span ≡ w.span
-      → StandsAt F span (package_decl k) its_name
+      → IsPartSpan F span (package_decl k) its_name
   message : (i : ℕ) (m : MessageDecl) → slice_get F.messages i ≡ Some m → span ≡ m.name.span
-      → StandsAt F span (message_decl i) its_name
-  field : (i j : ℕ) (m : MessageDecl) (f : FieldDecl) {part : Part} → slice_get F.messages i ≡ Some m
-      → slice_get m.fields j ≡ Some f → IsOfField f span part → StandsAt F span (field_decl i j) part
+      → IsPartSpan F span (message_decl i) its_name
+  field : (i j : ℕ) (m : MessageDecl) (f : FieldDecl) {part : DeclPart} → slice_get F.messages i ≡ Some m
+      → slice_get m.fields j ≡ Some f → IsOfField f span part → IsPartSpan F span (field_decl i j) part
   oneof : (i j : ℕ) (m : MessageDecl) (o : Word) → slice_get F.messages i ≡ Some m → slice_get m.oneofs j ≡ Some o
-      → span ≡ o.span → StandsAt F span (oneof_decl i j) its_name
+      → span ≡ o.span → IsPartSpan F span (oneof_decl i j) its_name
   enum : (i : ℕ) (e : EnumDecl) → slice_get F.enums i ≡ Some e → span ≡ e.name.span
-      → StandsAt F span (enum_decl i) its_name
-  value : (i j : ℕ) (e : EnumDecl) (v : ValueDecl) {part : Part} → slice_get F.enums i ≡ Some e
-      → slice_get e.values j ≡ Some v → IsOfValue v span part → StandsAt F span (value_decl i j) part
+      → IsPartSpan F span (enum_decl i) its_name
+  value : (i j : ℕ) (e : EnumDecl) (v : ValueDecl) {part : DeclPart} → slice_get F.enums i ≡ Some e
+      → slice_get e.values j ≡ Some v → IsOfValue v span part → IsPartSpan F span (value_decl i j) part
   service : (i : ℕ) (s : ServiceDecl) → slice_get F.services i ≡ Some s → span ≡ s.name.span
-      → StandsAt F span (service_decl i) its_name
-  rpc : (i j : ℕ) (s : ServiceDecl) (r : RpcDecl) {part : Part} → slice_get F.services i ≡ Some s
-      → slice_get s.rpcs j ≡ Some r → IsOfRpc r span part → StandsAt F span (rpc_decl i j) part
+      → IsPartSpan F span (service_decl i) its_name
+  rpc : (i j : ℕ) (s : ServiceDecl) (r : RpcDecl) {part : DeclPart} → slice_get F.services i ≡ Some s
+      → slice_get s.rpcs j ≡ Some r → IsOfRpc r span part → IsPartSpan F span (rpc_decl i j) part
 
 -- the first declaration starts before the second, whatever the files contain
-pub data Precedes : Declaration → Declaration → Type 0 where
-  messages : (i j : ℕ) → i < j → Precedes (message_decl i) (message_decl j)
-  enums : (i j : ℕ) → i < j → Precedes (enum_decl i) (enum_decl j)
-  services : (i j : ℕ) → i < j → Precedes (service_decl i) (service_decl j)
-  fields : (i j k : ℕ) → j < k → Precedes (field_decl i j) (field_decl i k)
-  oneofs : (i j k : ℕ) → j < k → Precedes (oneof_decl i j) (oneof_decl i k)
-  values : (i j k : ℕ) → j < k → Precedes (value_decl i j) (value_decl i k)
-  rpcs : (i j k : ℕ) → j < k → Precedes (rpc_decl i j) (rpc_decl i k)
-  in_message : (i j : ℕ) → Precedes (message_decl i) (field_decl i j)
-  oneof_in_message : (i j : ℕ) → Precedes (message_decl i) (oneof_decl i j)
-  in_enum : (i j : ℕ) → Precedes (enum_decl i) (value_decl i j)
-  in_service : (i j : ℕ) → Precedes (service_decl i) (rpc_decl i j)
+pub data IsAlwaysBefore : DeclIndex → DeclIndex → Type 0 where
+  messages : (i j : ℕ) → i < j → IsAlwaysBefore (message_decl i) (message_decl j)
+  enums : (i j : ℕ) → i < j → IsAlwaysBefore (enum_decl i) (enum_decl j)
+  services : (i j : ℕ) → i < j → IsAlwaysBefore (service_decl i) (service_decl j)
+  fields : (i j k : ℕ) → j < k → IsAlwaysBefore (field_decl i j) (field_decl i k)
+  oneofs : (i j k : ℕ) → j < k → IsAlwaysBefore (oneof_decl i j) (oneof_decl i k)
+  values : (i j k : ℕ) → j < k → IsAlwaysBefore (value_decl i j) (value_decl i k)
+  rpcs : (i j k : ℕ) → j < k → IsAlwaysBefore (rpc_decl i j) (rpc_decl i k)
+  in_message : (i j : ℕ) → IsAlwaysBefore (message_decl i) (field_decl i j)
+  oneof_in_message : (i j : ℕ) → IsAlwaysBefore (message_decl i) (oneof_decl i j)
+  in_enum : (i j : ℕ) → IsAlwaysBefore (enum_decl i) (value_decl i j)
+  in_service : (i j : ℕ) → IsAlwaysBefore (service_decl i) (rpc_decl i j)
 
 -- the index of the file that contains a declaration
-pub data IsInFile (F : Joined) (k : ℕ) : Declaration → Type 0 where
+pub data IsInFile (F : Joined) (k : ℕ) : DeclIndex → Type 0 where
   its_package : IsInFile F k (package_decl k)
   in_message_of : (i : ℕ) (m : MessageDecl) → slice_get F.messages i ≡ Some m → m.file ≡ k
       → IsInFile F k (message_decl i)
@@ -103,17 +103,17 @@ pub data IsInFile (F : Joined) (k : ℕ) : Declaration → Type 0 where
 
 pub record IsOrdered (F : Joined) : Type 0 where
   -- only one part of one declaration starts at an offset
-  pub apart : (x y : Declaration) (p q : Part) (s t : Span) → StandsAt F s x p → StandsAt F t y q → s.start ≡ t.start
+  pub apart : (x y : DeclIndex) (p q : DeclPart) (s t : Span) → IsPartSpan F s x p → IsPartSpan F t y q → s.start ≡ t.start
       → (x ≡ y) × (p ≡ q) × (s ≡ t)
   -- a declaration starts before those that it precedes
-  pub ascend : (x y : Declaration) (p q : Part) (s t : Span) → Precedes x y → StandsAt F s x p → StandsAt F t y q
+  pub ascend : (x y : DeclIndex) (p q : DeclPart) (s t : Span) → IsAlwaysBefore x y → IsPartSpan F s x p → IsPartSpan F t y q
       → s.start < t.start
   -- the parts of a declaration start in their order
-  pub parts : (x : Declaration) (p q : Part) (s t : Span) → rank_of p < rank_of q → StandsAt F s x p → StandsAt F t x q
+  pub parts : (x : DeclIndex) (p q : DeclPart) (s t : Span) → part_rank p < part_rank q → IsPartSpan F s x p → IsPartSpan F t x q
       → s.start < t.start
   -- an enum starts after the name of its message
-  pub enum_behind : (i j : ℕ) (m : MessageDecl) (e : EnumDecl) → slice_get F.messages i ≡ Some m
+  pub enum_after : (i j : ℕ) (m : MessageDecl) (e : EnumDecl) → slice_get F.messages i ≡ Some m
       → slice_get F.enums j ≡ Some e → e.parent ≡ Some i → m.name.span.start < e.name.span.start
   -- every part in a file starts before every part in a later file
-  pub files : (j k : ℕ) (x y : Declaration) (p q : Part) (s t : Span) → j < k → IsInFile F j x → IsInFile F k y
-      → StandsAt F s x p → StandsAt F t y q → s.start < t.start
+  pub files : (j k : ℕ) (x y : DeclIndex) (p q : DeclPart) (s t : Span) → j < k → IsInFile F j x → IsInFile F k y
+      → IsPartSpan F s x p → IsPartSpan F t y q → s.start < t.start

@@ -1,20 +1,20 @@
 //! Files that are resolved together.
 
 ghost use Rattle.std.specs.Prelude.{◌≡◌};
-ghost use Rattle.proto_ast.specs.Joined.{home_of, enum_home_of};
+ghost use Rattle.proto_ast.specs.Joined.{enclosing_of, enclosing_of_enum};
 
 use crate::file::{EnumDecl, MessageDecl, ServiceDecl, Word};
 use mrpc_table::Sequence;
 use std::marker::Model;
 
 /// Indices of files among those that are resolved together, from 0.
-pub type Places = Sequence<usize>;
+pub type FileIndices = Sequence<usize>;
 
 /// The package of a file that is resolved with others, and the files visible to it.
 pub struct Head {
     pub package: Option<Word>,
     /// The files whose types and packages its references may name, including itself.
-    pub sees: Places,
+    pub sees: FileIndices,
 }
 
 // Written by hand so that dropping a value is one call in the caller, not one for each field.
@@ -32,7 +32,7 @@ pub type Heads = Sequence<Head>;
 
 /// The file or message that encloses a declaration.
 #[derive(Clone, Copy)]
-pub enum Home {
+pub enum Enclosing {
     /// The file with this index; the declaration is at its top level.
     File(usize),
     /// The message with this index.
@@ -41,24 +41,24 @@ pub enum Home {
 
 impl MessageDecl {
     /// The file or message that encloses the message.
-    pub fn home(&self) -> Home
-        ensures { result ≡ home_of self.now }
+    pub fn enclosing(&self) -> Enclosing
+        ensures { result ≡ enclosing_of self.now }
     {
         match self.parent {
-            Some(i) => Home::Message(i),
-            None => Home::File(self.file),
+            Some(i) => Enclosing::Message(i),
+            None => Enclosing::File(self.file),
         }
     }
 }
 
 impl EnumDecl {
     /// The file or message that encloses the enum.
-    pub fn home(&self) -> Home
-        ensures { result ≡ enum_home_of self.now }
+    pub fn enclosing(&self) -> Enclosing
+        ensures { result ≡ enclosing_of_enum self.now }
     {
         match self.parent {
-            Some(i) => Home::Message(i),
-            None => Home::File(self.file),
+            Some(i) => Enclosing::Message(i),
+            None => Enclosing::File(self.file),
         }
     }
 }

@@ -15,4 +15,4 @@ pub use file::{
     MessageDecl, MessageDecls, Number, Range, Ranges, RpcDecl, RpcDecls, ServiceDecl, ServiceDecls,
     Span, ValueDecl, ValueDecls, Word, Words,
 };
-pub use joined::{Head, Heads, Home, Joined, Places};
+pub use joined::{Enclosing, FileIndices, Head, Heads, Joined};

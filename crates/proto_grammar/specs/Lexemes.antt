@@ -6,8 +6,8 @@ use Rattle.std.specs.Str.{bytes_eq}
 use Rattle.mrpc_table.specs.declared.words.Decimal.{Decimal}
 use Rattle.proto_lexer.specs.Tokens.{literal_of}
 use Rattle.proto_lexer.specs.Strings.{string_value}
-use Rattle.proto_lexer.specs.declared.token.Kind.{Kind}
-use Rattle.proto_lexer.specs.declared.token.Kind.TheVariants as kinds
+use Rattle.proto_lexer.specs.declared.token.TokenKind.{TokenKind}
+use Rattle.proto_lexer.specs.declared.token.TokenKind.TheVariants as kinds
 use Rattle.proto_lexer.specs.declared.token.Token.{Token}
 use Rattle.proto_ast.specs.declared.file.Span.{Span}
 use Rattle.proto_ast.specs.declared.file.Word.{Word}
@@ -15,16 +15,16 @@ use Rattle.proto_ast.specs.declared.file.Number.{Number}
 
 -- what a token means: a name, an integer, another number, the value of a string, a punctuator, the end of the text,
 -- or that no token starts here
-pub data Meaning : Type 0 where
-  identifier : List ℕ → Meaning
-  integer : Decimal → Meaning
-  number : Meaning
-  string : List ℕ → Meaning
-  mark : ℕ → Meaning
-  the_end : Meaning
-  none : Meaning
+pub data TokenMeaning : Type 0 where
+  identifier : List ℕ → TokenMeaning
+  integer : Decimal → TokenMeaning
+  number : TokenMeaning
+  string : List ℕ → TokenMeaning
+  mark : ℕ → TokenMeaning
+  the_end : TokenMeaning
+  none : TokenMeaning
 
-abbrev pub meaning : Kind → List ℕ → Meaning
+abbrev pub meaning : TokenKind → List ℕ → TokenMeaning
 meaning kinds.Identifier literal = identifier literal
 meaning (kinds.Integer value) literal = integer value
 meaning kinds.Number literal = number
@@ -34,7 +34,7 @@ meaning kinds.End literal = the_end
 meaning kinds.Bad literal = none
 
 pub record Lexeme : Type 0 where
-  pub means : Meaning
+  pub means : TokenMeaning
   pub span : Span
 
 abbrev pub span_of : Token → Span
@@ -50,25 +50,25 @@ lexemes text ts = map (lexeme text) ts
 abbrev pub IsWord : Lexeme → List ℕ → Type 0
 IsWord x word = x.means ≡ identifier word
 
-abbrev pub IsMark : Lexeme → ℕ → Type 0
-IsMark x c = x.means ≡ mark c
+abbrev pub IsPunctuator : Lexeme → ℕ → Type 0
+IsPunctuator x c = x.means ≡ mark c
 
 -- a lexeme is this word, or one of these
-abbrev pub says : Meaning → List ℕ → Bool
-says (identifier name) word = bytes_eq name word
-says _ word = false
+abbrev pub is_the_word : TokenMeaning → List ℕ → Bool
+is_the_word (identifier name) word = bytes_eq name word
+is_the_word _ word = false
 
-abbrev pub says_one_of : Lexeme → List (List ℕ) → Bool
-says_one_of x words = list_any (λ word. says x.means word) words
+abbrev pub is_one_of_words : Lexeme → List (List ℕ) → Bool
+is_one_of_words x words = list_any (λ word. is_the_word x.means word) words
 
 -- not a token here: `:` and `/` are tokens only inside braces
-abbrev pub is_no_token : Meaning → Bool
+abbrev pub is_no_token : TokenMeaning → Bool
 is_no_token none = true
 is_no_token (mark c) = c == 58 || c == 47
 is_no_token _ = false
 
 -- a type's name, or a part of one
-abbrev pub is_type_part : Meaning → Bool
+abbrev pub is_type_part : TokenMeaning → Bool
 is_type_part (identifier name) = true
 is_type_part (mark c) = c == dot
 is_type_part _ = false
@@ -117,15 +117,15 @@ greater = 62
 abbrev pub span_to : Span → Span → Span
 span_to a b = record { start = a.start; end = b.end; line = a.line }
 
-abbrev pub word_at : List ℕ → Span → Word
-word_at name span = record { name = name; span = span }
+abbrev pub make_word : List ℕ → Span → Word
+make_word name span = record { name = name; span = span }
 
 -- a name before a dot and another name, and a name after a dot
-abbrev pub joined : List ℕ → Span → Word → Word
-joined name span w = word_at (name ++ dot ∷ w.name) (span_to span w.span)
+abbrev pub dotted_name : List ℕ → Span → Word → Word
+dotted_name name span w = make_word (name ++ dot ∷ w.name) (span_to span w.span)
 
 abbrev pub rooted : Span → Word → Word
-rooted span w = word_at (dot ∷ w.name) (span_to span w.span)
+rooted span w = make_word (dot ∷ w.name) (span_to span w.span)
 
-abbrev pub number_at : Bool → Decimal → Span → Number
-number_at negative value span = record { negative = negative; value = value; span = span }
+abbrev pub make_number : Bool → Decimal → Span → Number
+make_number negative value span = record { negative = negative; value = value; span = span }

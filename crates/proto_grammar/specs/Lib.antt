@@ -1,4 +1,4 @@
 pub mod Lexemes
 pub mod Grammar
-pub mod Reading
+pub mod Advancing
 pub mod Reason

@@ -1,24 +1,26 @@
 //! Fields, token by token.
 
 ghost use Rattle.std.specs.Prelude.{◌≡◌, ◌<◌, ◌^◌, ◌&&◌, ℕ, List, false};
-ghost use Rattle.proto_grammar.specs.Lexemes.{lexeme, number_at, span_of as span_of_token};
-ghost use Rattle.proto_grammar.specs.Reading.{Lies, Gives, typed_step as typed_reading, key_step as key_reading};
-ghost use Rattle.proto_grammar.specs.Reading.{begins_map as map_begins, of_key as reading_of_key};
-ghost use Rattle.proto_grammar.specs.Reading.{of_inner_key as reading_of_inner_key, of_value as reading_of_value};
-ghost use Rattle.proto_grammar.specs.Reading.{of_inner_value as reading_of_inner_value, if_number, closed as closed_map};
-ghost use Rattle.proto_grammar.specs.Reading.{map_step as map_reading, map_depth, named_step};
-ghost use Rattle.proto_grammar.specs.Reading.{of_type as reading_of_type, of_map as reading_of_map};
-ghost use Rattle.proto_grammar.specs.Reading.{of_tail as reading_of_tail, field_step as field_reading, field_depth};
-ghost use Rattle.proto_grammar.specs.Reading.{field_of};
-ghost use Rattle.proto_grammar.specs.Reading.{tail_step as tail_reading, tail_depth};
+ghost use Rattle.proto_grammar.specs.Lexemes.{lexeme, make_number, span_of as span_of_token};
+ghost use Rattle.proto_grammar.specs.Advancing.{IsTokenOfText, IsResultOf, advance_field_type_name as typed_reading, advance_map_key as key_reading};
+ghost use Rattle.proto_grammar.specs.Advancing.{is_map_start as map_begins, of_key as reading_of_key};
+ghost use Rattle.proto_grammar.specs.Advancing.{of_inner_key as reading_of_inner_key, of_map_value as reading_of_value};
+ghost use Rattle.proto_grammar.specs.Advancing.{of_inner_value as reading_of_inner_value, if_number, close_map as closed_map};
+ghost use Rattle.proto_grammar.specs.Advancing.{advance_map as map_reading, map_depth, advance_named_field};
+ghost use Rattle.proto_grammar.specs.Advancing.{of_type as reading_of_type, of_map as reading_of_map};
+ghost use Rattle.proto_grammar.specs.Advancing.{of_tail as reading_of_tail, advance_field as field_reading, field_depth};
+ghost use Rattle.proto_grammar.specs.Advancing.{finished_field};
+ghost use Rattle.proto_grammar.specs.Advancing.{advance_tail as tail_reading, tail_depth};
 ghost use Rattle.proto_grammar.specs.declared.field.FieldState.TheVariants as states;
 ghost use Rattle.proto_grammar.specs.declared.field.FieldStep.TheVariants as steps;
 ghost use Rattle.proto_grammar.specs.declared.tail.TailState.TheVariants as tails;
 
 use crate::fault::{ProtoFault, ProtoReason};
-use crate::lexeme::{fault_at, identifier_of, is_mark, is_word, number_of, span_of, unexpected};
-use crate::name::{NameState, NameStep, type_step};
-use crate::tail::{TailState, TailStep, tail_step};
+use crate::lexeme::{
+    identifier_of, is_punctuator, is_word, number_of, proto_fault_at, span_of, unexpected,
+};
+use crate::name::{NameState, NameStep, advance_type_name};
+use crate::tail::{TailState, TailStep, advance_tail};
 use proto_ast::{FieldDecl, FieldLabel, FieldType, Number, Word};
 use proto_lexer::Token;
 use std::alloc::Global;
@@ -60,7 +62,7 @@ impl Drop for FieldHead {
 impl FieldHead {
     // The field, given the parts after the `=`.
     fn with(self, number: Number, packed: Option<bool>) -> FieldDecl
-        ensures { result ≡ field_of self number packed }
+        ensures { result ≡ finished_field self number packed }
     {
         let FieldHead { label, kind, name } = self;
         FieldDecl {
@@ -105,48 +107,48 @@ pub enum MapStep {
 }
 
 // Reads a token of a type's name, or the one after it. `group` is rejected.
-pub(crate) fn typed_step(
+pub(crate) fn advance_field_type_name(
     alloc: Global,
     text: &[u8],
     state: NameState,
     token: &Token,
 ) -> Result<NameStep, ProtoFault>
-    requires { Lies text.now token.now }
-    ensures { Gives result (typed_reading state (lexeme text.now token.now)) }
+    requires { IsTokenOfText text.now token.now }
+    ensures { IsResultOf result (typed_reading state (lexeme text.now token.now)) }
 {
     match state {
         NameState::Start if is_word(text, token, b"group") => {
-            Err(fault_at(ProtoReason::Group, span_of(token)))
+            Err(proto_fault_at(ProtoReason::Group, span_of(token)))
         }
-        other => type_step(alloc, text, other, token),
+        other => advance_type_name(alloc, text, other, token),
     }
 }
 
 // True if a map type starts: the name is `map`, and the token is `<`.
-fn begins_map(word: &Word, token: &Token) -> bool
+fn is_map_start(word: &Word, token: &Token) -> bool
     ensures { (text : List ℕ) → result ≡ map_begins word.now (lexeme text token.now) }
 {
-    is_mark(token, b'<') && word.name.as_slice() == b"map".as_slice()
+    is_punctuator(token, b'<') && word.name.as_slice() == b"map".as_slice()
 }
 
 // Reads a token of a map's key, or the comma after it.
-fn key_step(
+fn advance_map_key(
     alloc: Global,
     text: &[u8],
     state: NameState,
     token: &Token,
 ) -> Result<NameStep, ProtoFault>
-    requires { Lies text.now token.now }
-    ensures { Gives result (key_reading state (lexeme text.now token.now)) }
+    requires { IsTokenOfText text.now token.now }
+    ensures { IsResultOf result (key_reading state (lexeme text.now token.now)) }
 {
-    match typed_step(alloc, text, state, token)? {
-        NameStep::Whole(_) if !is_mark(token, b',') => Err(unexpected(token)),
+    match advance_field_type_name(alloc, text, state, token)? {
+        NameStep::Whole(_) if !is_punctuator(token, b',') => Err(unexpected(token)),
         step => Ok(step),
     }
 }
 
 // Closes one of the nested maps.
-fn closed(outer: Word, depth: usize) -> MapStep
+fn close_map(outer: Word, depth: usize) -> MapStep
     ensures { result ≡ closed_map outer depth }
 {
     if depth <= 1 {
@@ -157,10 +159,10 @@ fn closed(outer: Word, depth: usize) -> MapStep
 }
 
 fn of_key(alloc: Global, text: &[u8], name: NameState, token: &Token) -> Result<MapStep, ProtoFault>
-    requires { Lies text.now token.now }
-    ensures { Gives result (reading_of_key (key_reading name (lexeme text.now token.now))) }
+    requires { IsTokenOfText text.now token.now }
+    ensures { IsResultOf result (reading_of_key (key_reading name (lexeme text.now token.now))) }
 {
-    match key_step(alloc, text, name, token)? {
+    match advance_map_key(alloc, text, name, token)? {
         NameStep::More(name) => Ok(MapStep::More(MapState::Key(name))),
         NameStep::Whole(key) => Ok(MapStep::More(MapState::Value(key, NameState::Start))),
     }
@@ -174,10 +176,10 @@ fn of_inner_key(
     name: NameState,
     token: &Token,
 ) -> Result<MapStep, ProtoFault>
-    requires { Lies text.now token.now }
-    ensures { Gives result (reading_of_inner_key outer depth (key_reading name (lexeme text.now token.now))) }
+    requires { IsTokenOfText text.now token.now }
+    ensures { IsResultOf result (reading_of_inner_key outer depth (key_reading name (lexeme text.now token.now))) }
 {
-    match key_step(alloc, text, name, token)? {
+    match advance_map_key(alloc, text, name, token)? {
         NameStep::More(name) => Ok(MapStep::More(MapState::InnerKey(outer, depth, name))),
         NameStep::Whole(_) => Ok(MapStep::More(MapState::InnerValue(
             outer,
@@ -194,15 +196,15 @@ fn of_value(
     name: NameState,
     token: &Token,
 ) -> Result<MapStep, ProtoFault>
-    requires { Lies text.now token.now }
-    ensures { let x = lexeme text.now token.now in Gives result (reading_of_value key x (typed_reading name x)) }
+    requires { IsTokenOfText text.now token.now }
+    ensures { let x = lexeme text.now token.now in IsResultOf result (reading_of_value key x (typed_reading name x)) }
 {
-    match typed_step(alloc, text, name, token)? {
+    match advance_field_type_name(alloc, text, name, token)? {
         NameStep::More(name) => Ok(MapStep::More(MapState::Value(key, name))),
-        NameStep::Whole(value) if is_mark(token, b'>') => {
+        NameStep::Whole(value) if is_punctuator(token, b'>') => {
             Ok(MapStep::Done(FieldType::Map { key, value }))
         }
-        NameStep::Whole(value) if begins_map(&value, token) => {
+        NameStep::Whole(value) if is_map_start(&value, token) => {
             Ok(MapStep::More(MapState::InnerKey(key, 1, NameState::Start)))
         }
         NameStep::Whole(_) => Err(unexpected(token)),
@@ -217,33 +219,33 @@ fn of_inner_value(
     name: NameState,
     token: &Token,
 ) -> Result<MapStep, ProtoFault>
-    requires lies { Lies text.now token.now }
+    requires lies { IsTokenOfText text.now token.now }
     requires depth { depth < 2 ^ 63 }
     ensures { let x = lexeme text.now token.now in
-        Gives result (reading_of_inner_value outer depth x (typed_reading name x)) }
+        IsResultOf result (reading_of_inner_value outer depth x (typed_reading name x)) }
 {
-    match typed_step(alloc, text, name, token)? {
+    match advance_field_type_name(alloc, text, name, token)? {
         NameStep::More(name) => Ok(MapStep::More(MapState::InnerValue(outer, depth, name))),
-        NameStep::Whole(_) if is_mark(token, b'>') => Ok(MapStep::More(MapState::Close(
+        NameStep::Whole(_) if is_punctuator(token, b'>') => Ok(MapStep::More(MapState::Close(
             outer, depth,
         ))),
-        NameStep::Whole(value) if begins_map(&value, token) => {
+        NameStep::Whole(value) if is_map_start(&value, token) => {
             Ok(MapStep::More(MapState::InnerKey(outer, depth + 1, NameState::Start)))
         }
         NameStep::Whole(_) => Err(unexpected(token)),
     }
 }
 
-#[tactic(auto, unfolding(crate::specs::Reading::map_step))]
-fn map_step(
+#[tactic(auto, unfolding(crate::specs::Advancing::advance_map))]
+fn advance_map(
     alloc: Global,
     text: &[u8],
     state: MapState,
     token: &Token,
 ) -> Result<MapStep, ProtoFault>
-    requires lies { Lies text.now token.now }
+    requires lies { IsTokenOfText text.now token.now }
     requires depth { map_depth state < 2 ^ 63 }
-    ensures { Gives result (map_reading state (lexeme text.now token.now)) }
+    ensures { IsResultOf result (map_reading state (lexeme text.now token.now)) }
 {
     match state {
         MapState::Key(name) => of_key(alloc, text, name, token),
@@ -254,7 +256,7 @@ fn map_step(
         MapState::InnerValue(outer, depth, name) => {
             of_inner_value(alloc, text, outer, depth, name, token)
         }
-        MapState::Close(outer, depth) if is_mark(token, b'>') => Ok(closed(outer, depth)),
+        MapState::Close(outer, depth) if is_punctuator(token, b'>') => Ok(close_map(outer, depth)),
         MapState::Close(_, _) => Err(unexpected(token)),
     }
 }
@@ -267,8 +269,8 @@ fn named(
     kind: FieldType,
     token: &Token,
 ) -> Result<FieldStep, ProtoFault>
-    requires { Lies text.now token.now }
-    ensures { Gives result (named_step label kind (lexeme text.now token.now)) }
+    requires { IsTokenOfText text.now token.now }
+    ensures { IsResultOf result (advance_named_field label kind (lexeme text.now token.now)) }
 {
     let name = identifier_of(alloc, text, token)?;
     Ok(FieldStep::More(FieldState::Named(FieldHead { label, kind, name })))
@@ -282,12 +284,12 @@ fn of_type(
     name: NameState,
     token: &Token,
 ) -> Result<FieldStep, ProtoFault>
-    requires { Lies text.now token.now }
-    ensures { let x = lexeme text.now token.now in Gives result (reading_of_type label x (typed_reading name x)) }
+    requires { IsTokenOfText text.now token.now }
+    ensures { let x = lexeme text.now token.now in IsResultOf result (reading_of_type label x (typed_reading name x)) }
 {
-    match typed_step(alloc, text, name, token)? {
+    match advance_field_type_name(alloc, text, name, token)? {
         NameStep::More(name) => Ok(FieldStep::More(FieldState::Type(label, name))),
-        NameStep::Whole(word) if begins_map(&word, token) => Ok(FieldStep::More(FieldState::Map(
+        NameStep::Whole(word) if is_map_start(&word, token) => Ok(FieldStep::More(FieldState::Map(
             label,
             MapState::Key(NameState::Start),
         ))),
@@ -302,11 +304,11 @@ fn of_map(
     map: MapState,
     token: &Token,
 ) -> Result<FieldStep, ProtoFault>
-    requires lies { Lies text.now token.now }
+    requires lies { IsTokenOfText text.now token.now }
     requires depth { map_depth map < 2 ^ 63 }
-    ensures { Gives result (reading_of_map label (map_reading map (lexeme text.now token.now))) }
+    ensures { IsResultOf result (reading_of_map label (map_reading map (lexeme text.now token.now))) }
 {
-    match map_step(alloc, text, map, token)? {
+    match advance_map(alloc, text, map, token)? {
         MapStep::More(map) => Ok(FieldStep::More(FieldState::Map(label, map))),
         MapStep::Done(kind) => Ok(FieldStep::More(FieldState::Typed(label, kind))),
     }
@@ -319,11 +321,11 @@ fn of_tail(
     tail: TailState,
     token: &Token,
 ) -> Result<FieldStep, ProtoFault>
-    requires lies { Lies text.now token.now }
+    requires lies { IsTokenOfText text.now token.now }
     requires depth { tail_depth tail < 2 ^ 63 }
-    ensures { Gives result (reading_of_tail head number (tail_reading tail (lexeme text.now token.now))) }
+    ensures { IsResultOf result (reading_of_tail head number (tail_reading tail (lexeme text.now token.now))) }
 {
-    match tail_step(text, tail, token)? {
+    match advance_tail(text, tail, token)? {
         TailStep::More(tail) => Ok(FieldStep::More(FieldState::Tail(head, number, tail))),
         TailStep::Done(packed) => Ok(FieldStep::Done(head.with(number, packed))),
     }
@@ -331,30 +333,30 @@ fn of_tail(
 
 // Reads the number of a field.
 fn of_number(head: FieldHead, token: &Token) -> Result<FieldStep, ProtoFault>
-    ensures { (text : List ℕ) → Gives result (if_number (lexeme text token.now)
-        (λ v. steps.More (states.Tail head (number_at false v (span_of_token token.now)) tails.Start))) }
+    ensures { (text : List ℕ) → IsResultOf result (if_number (lexeme text token.now)
+        (λ v. steps.More (states.Tail head (make_number false v (span_of_token token.now)) tails.Start))) }
 {
     let number = number_of(token)?;
     Ok(FieldStep::More(FieldState::Tail(head, number, TailState::Start)))
 }
 
 /// Reads one token of a field.
-#[tactic(auto, unfolding(crate::specs::Reading::field_step))]
-pub fn field_step(
+#[tactic(auto, unfolding(crate::specs::Advancing::advance_field))]
+pub fn advance_field(
     alloc: Global,
     text: &[u8],
     state: FieldState,
     token: &Token,
 ) -> Result<FieldStep, ProtoFault>
-    requires lies { Lies text.now token.now }
+    requires lies { IsTokenOfText text.now token.now }
     requires depth { field_depth state < 2 ^ 63 }
-    ensures { Gives result (field_reading state (lexeme text.now token.now)) }
+    ensures { IsResultOf result (field_reading state (lexeme text.now token.now)) }
 {
     match state {
         FieldState::Type(label, name) => of_type(alloc, text, label, name, token),
         FieldState::Map(label, map) => of_map(alloc, text, label, map, token),
         FieldState::Typed(label, kind) => named(alloc, text, label, kind, token),
-        FieldState::Named(head) if is_mark(token, b'=') => {
+        FieldState::Named(head) if is_punctuator(token, b'=') => {
             Ok(FieldStep::More(FieldState::Equals(head)))
         }
         FieldState::Named(_) => Err(unexpected(token)),

@@ -2,16 +2,16 @@
 
 ghost use Rattle.std.specs.Prelude.{◌≡◌, ℕ, List, IfOk, true, false};
 ghost use Rattle.proto_lexer.specs.Tokens.{literal_of};
-ghost use Rattle.proto_lexer.specs.declared.token.Kind.TheVariants.{Identifier};
-ghost use Rattle.proto_grammar.specs.Lexemes.{lexeme, says, span_of as span_of_token, span_to as joined_span, word_at};
-ghost use Rattle.proto_grammar.specs.Lexemes.{number_at};
-ghost use Rattle.proto_grammar.specs.Reading.{Lies, Gives, fault_at as fault_of, unexpected as unexpected_at};
-ghost use Rattle.proto_grammar.specs.Reading.{is_mark as is_the_mark, if_name, if_number};
+ghost use Rattle.proto_lexer.specs.declared.token.TokenKind.TheVariants.{Identifier};
+ghost use Rattle.proto_grammar.specs.Lexemes.{lexeme, is_the_word, span_of as span_of_token, span_to as joined_span, make_word};
+ghost use Rattle.proto_grammar.specs.Lexemes.{make_number};
+ghost use Rattle.proto_grammar.specs.Advancing.{IsTokenOfText, IsResultOf, proto_fault_at as fault_of, unexpected as unexpected_at};
+ghost use Rattle.proto_grammar.specs.Advancing.{is_punctuator as is_the_mark, if_name, if_number};
 
 use crate::fault::{ProtoFault, ProtoReason};
 use mrpc_table::{Decimal, Memory, Name};
 use proto_ast::{Number, Span, Word};
-use proto_lexer::{Kind, Token};
+use proto_lexer::{Token, TokenKind};
 use std::alloc::Global;
 
 /// The span of a token.
@@ -37,7 +37,7 @@ pub(crate) fn span_to(span: Span, token: &Token) -> Span
 }
 
 /// A fault at a span.
-pub fn fault_at(reason: ProtoReason, span: Span) -> ProtoFault
+pub fn proto_fault_at(reason: ProtoReason, span: Span) -> ProtoFault
     ensures { result ≡ fault_of reason span }
 {
     ProtoFault::At {
@@ -53,39 +53,39 @@ pub fn unexpected(token: &Token) -> ProtoFault
     ensures { (text : List ℕ) → result ≡ unexpected_at (lexeme text token.now) }
 {
     let reason = match token.kind {
-        Kind::Bad | Kind::Mark(b':' | b'/') => ProtoReason::Token,
+        TokenKind::Bad | TokenKind::Mark(b':' | b'/') => ProtoReason::Token,
         _ => ProtoReason::Expected,
     };
-    fault_at(reason, span_of(token))
+    proto_fault_at(reason, span_of(token))
 }
 
 /// The bytes of a token.
 pub fn bytes_of<'a>(text: &'a [u8], token: &Token) -> &'a [u8]
-    requires { Lies text.now token.now }
+    requires { IsTokenOfText text.now token.now }
     ensures { result.now ≡ literal_of text.now token.now }
 {
     &text[token.start..token.end]
 }
 
 /// True if a token is this punctuator.
-pub fn is_mark(token: &Token, mark: u8) -> bool
+pub fn is_punctuator(token: &Token, mark: u8) -> bool
     ensures { (text : List ℕ) → result ≡ is_the_mark (lexeme text token.now).means mark }
 {
-    token.kind == Kind::Mark(mark)
+    token.kind == TokenKind::Mark(mark)
 }
 
 /// True if a token is this word.
 pub fn is_word(text: &[u8], token: &Token, word: &[u8]) -> bool
-    requires { Lies text.now token.now }
-    ensures { result ≡ says (lexeme text.now token.now).means word.now }
+    requires { IsTokenOfText text.now token.now }
+    ensures { result ≡ is_the_word (lexeme text.now token.now).means word.now }
 {
-    token.kind == Kind::Identifier && bytes_of(text, token) == word
+    token.kind == TokenKind::Identifier && bytes_of(text, token) == word
 }
 
 /// The name in an identifier token.
 pub fn word_of(alloc: Global, text: &[u8], token: &Token) -> Result<Word, Memory>
-    requires { Lies text.now token.now }
-    ensures { IfOk result (λ w. w ≡ word_at (literal_of text.now token.now) (span_of_token token.now)) }
+    requires { IsTokenOfText text.now token.now }
+    ensures { IfOk result (λ w. w ≡ make_word (literal_of text.now token.now) (span_of_token token.now)) }
 {
     Ok(Word {
         name: Name::from_slice(alloc, bytes_of(text, token))?,
@@ -95,10 +95,10 @@ pub fn word_of(alloc: Global, text: &[u8], token: &Token) -> Result<Word, Memory
 
 /// The name in a token; a fault if the token isn't an identifier.
 pub fn identifier_of(alloc: Global, text: &[u8], token: &Token) -> Result<Word, ProtoFault>
-    requires { Lies text.now token.now }
-    ensures { let x = lexeme text.now token.now in Gives result (if_name x (λ n. word_at n x.span)) }
+    requires { IsTokenOfText text.now token.now }
+    ensures { let x = lexeme text.now token.now in IsResultOf result (if_name x (λ n. make_word n x.span)) }
 {
-    if token.kind != Kind::Identifier {
+    if token.kind != TokenKind::Identifier {
         return Err(unexpected(token));
     }
     Ok(word_of(alloc, text, token)?)
@@ -107,10 +107,10 @@ pub fn identifier_of(alloc: Global, text: &[u8], token: &Token) -> Result<Word, 
 // The unsigned number in a token; a fault if the token isn't an integer.
 pub(crate) fn number_of(token: &Token) -> Result<Number, ProtoFault>
     ensures { (text : List ℕ)
-        → Gives result (if_number (lexeme text token.now) (λ v. number_at false v (span_of_token token.now))) }
+        → IsResultOf result (if_number (lexeme text token.now) (λ v. make_number false v (span_of_token token.now))) }
 {
     match token.kind {
-        Kind::Integer(value) => Ok(Number {
+        TokenKind::Integer(value) => Ok(Number {
             negative: false,
             value,
             span: span_of(token),
@@ -121,11 +121,11 @@ pub(crate) fn number_of(token: &Token) -> Result<Number, ProtoFault>
 
 // The negative number in a token after a `-`; a fault if the token isn't an integer.
 pub(crate) fn negative_of(minus: Span, token: &Token) -> Result<Number, ProtoFault>
-    ensures { (text : List ℕ) → Gives result (if_number (lexeme text token.now)
-        (λ v. number_at true v (joined_span minus (span_of_token token.now)))) }
+    ensures { (text : List ℕ) → IsResultOf result (if_number (lexeme text token.now)
+        (λ v. make_number true v (joined_span minus (span_of_token token.now)))) }
 {
     match token.kind {
-        Kind::Integer(value) => Ok(Number {
+        TokenKind::Integer(value) => Ok(Number {
             negative: true,
             value,
             span: span_to(minus, token),

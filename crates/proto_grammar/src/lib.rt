@@ -3,9 +3,9 @@
 //!
 //! `specs/Lexemes.antt` defines what a token means, and `specs/Grammar.antt` which tokens form which part of a
 //! statement. A part is read token by token. Its state, such as [`FieldState`], records how much of it is read; a
-//! function such as [`field_step`] reads one more token. [`ProtoFault`] is the fault of a token. The crate uses the
+//! function such as [`advance_field`] reads one more token. [`ProtoFault`] is the fault of a token. The crate uses the
 //! tokens of `proto_lexer`, the declarations of `proto_ast`, and `mrpc_table`. The layer above relies on one
-//! contract: each step returns what `specs/Reading.antt` defines for the token, or `Memory`. `proto_schema`
+//! contract: each step returns what `specs/Advancing.antt` defines for the token, or `Memory`. `proto_schema`
 //! combines the parts into statements, and proves that what is read this way is what the grammar defines.
 #![tactic(auto)]
 
@@ -20,13 +20,13 @@ mod tail;
 mod value;
 
 pub use fault::{ProtoFault, ProtoReason};
-pub use field::{FieldHead, FieldState, FieldStep, MapState, MapStep, field_step};
+pub use field::{FieldHead, FieldState, FieldStep, MapState, MapStep, advance_field};
 pub use lexeme::{
-    bytes_of, fault_at, identifier_of, is_mark, is_word, span_of, unexpected, word_of,
+    bytes_of, identifier_of, is_punctuator, is_word, proto_fault_at, span_of, unexpected, word_of,
 };
-pub use name::{NameState, NameStep, full_step};
-pub use option::{OptionState, OptionStep, option_step};
-pub use reserved::{RangeState, ReservedPart, ReservedState, ReservedStep, reserved_step};
-pub use rpc::{RpcState, RpcStep, rpc_step};
+pub use name::{NameState, NameStep, advance_full_name};
+pub use option::{OptionState, OptionStep, advance_option};
+pub use reserved::{RangeState, ReservedPart, ReservedState, ReservedStep, advance_reserved};
+pub use rpc::{RpcState, RpcStep, advance_rpc};
 pub use tail::{TailState, TailStep};
-pub use value::{ValueState, ValueStep, value_step};
+pub use value::{ValueState, ValueStep, advance_value};

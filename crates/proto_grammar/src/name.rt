@@ -3,14 +3,14 @@
 ghost use Rattle.std.specs.Prelude.{◌≡◌, ◌∷◌, ◌++◌, IfOk};
 ghost use Rattle.proto_ast.specs.Dot.{dot as dot_mark};
 ghost use Rattle.proto_grammar.specs.Lexemes.{lexeme, span_to as joined_span};
-ghost use Rattle.proto_grammar.specs.Reading.{Lies, Gives, if_name, part, full_step as full_reading};
-ghost use Rattle.proto_grammar.specs.Reading.{type_step as type_reading};
+ghost use Rattle.proto_grammar.specs.Advancing.{IsTokenOfText, IsResultOf, if_name, name_part, advance_full_name as full_reading};
+ghost use Rattle.proto_grammar.specs.Advancing.{advance_type_name as type_reading};
 
 use crate::fault::ProtoFault;
-use crate::lexeme::{bytes_of, identifier_of, is_mark, span_of, span_to, unexpected};
+use crate::lexeme::{bytes_of, identifier_of, is_punctuator, span_of, span_to, unexpected};
 use mrpc_table::Name;
 use proto_ast::{Span, Word};
-use proto_lexer::{Kind, Token};
+use proto_lexer::{Token, TokenKind};
 use std::alloc::Global;
 
 /// How much of a name is read.
@@ -37,8 +37,8 @@ pub enum NameStep {
 
 // Reads the first part of a name.
 fn first_part(alloc: Global, text: &[u8], token: &Token) -> Result<NameStep, ProtoFault>
-    requires { Lies text.now token.now }
-    ensures { let x = lexeme text.now token.now in Gives result (if_name x (λ n. part n x.span)) }
+    requires { IsTokenOfText text.now token.now }
+    ensures { let x = lexeme text.now token.now in IsResultOf result (if_name x (λ n. name_part n x.span)) }
 {
     let word = identifier_of(alloc, text, token)?;
     Ok(NameStep::More(NameState::Part(word)))
@@ -46,11 +46,11 @@ fn first_part(alloc: Global, text: &[u8], token: &Token) -> Result<NameStep, Pro
 
 // Reads the part after a leading dot.
 fn rooted_part(alloc: Global, text: &[u8], dot: Span, token: &Token) -> Result<NameStep, ProtoFault>
-    requires { Lies text.now token.now }
+    requires { IsTokenOfText text.now token.now }
     ensures { let x = lexeme text.now token.now in
-        Gives result (if_name x (λ n. part (dot_mark ∷ n) (joined_span dot x.span))) }
+        IsResultOf result (if_name x (λ n. name_part (dot_mark ∷ n) (joined_span dot x.span))) }
 {
-    if token.kind != Kind::Identifier {
+    if token.kind != TokenKind::Identifier {
         return Err(unexpected(token));
     }
     let mut name = Name::from_slice(alloc, b".")?;
@@ -61,11 +61,11 @@ fn rooted_part(alloc: Global, text: &[u8], dot: Span, token: &Token) -> Result<N
 
 // Reads a part after other parts and a dot.
 fn further_part(text: &[u8], word: Word, token: &Token) -> Result<NameStep, ProtoFault>
-    requires { Lies text.now token.now }
+    requires { IsTokenOfText text.now token.now }
     ensures { let x = lexeme text.now token.now in
-        Gives result (if_name x (λ n. part (word.name ++ dot_mark ∷ n) (joined_span word.span x.span))) }
+        IsResultOf result (if_name x (λ n. name_part (word.name ++ dot_mark ∷ n) (joined_span word.span x.span))) }
 {
-    if token.kind != Kind::Identifier {
+    if token.kind != TokenKind::Identifier {
         return Err(unexpected(token));
     }
     let Word { mut name, span } = word;
@@ -76,40 +76,42 @@ fn further_part(text: &[u8], word: Word, token: &Token) -> Result<NameStep, Prot
 }
 
 /// Reads a token of a full name, or the one after it. A leading dot is rejected.
-#[tactic(auto, unfolding(crate::specs::Reading::full_step))]
-pub fn full_step(
+#[tactic(auto, unfolding(crate::specs::Advancing::advance_full_name))]
+pub fn advance_full_name(
     alloc: Global,
     text: &[u8],
     state: NameState,
     token: &Token,
 ) -> Result<NameStep, ProtoFault>
-    requires { Lies text.now token.now }
-    ensures { Gives result (full_reading state (lexeme text.now token.now)) }
+    requires { IsTokenOfText text.now token.now }
+    ensures { IsResultOf result (full_reading state (lexeme text.now token.now)) }
 {
     match state {
         NameState::Start => first_part(alloc, text, token),
         NameState::Rooted(dot) => rooted_part(alloc, text, dot, token),
-        NameState::Part(word) if is_mark(token, b'.') => Ok(NameStep::More(NameState::Dot(word))),
+        NameState::Part(word) if is_punctuator(token, b'.') => Ok(NameStep::More(NameState::Dot(
+            word,
+        ))),
         NameState::Part(word) => Ok(NameStep::Whole(word)),
         NameState::Dot(word) => further_part(text, word, token),
     }
 }
 
 // Reads a token of a type's name, or the one after it.
-#[tactic(auto, unfolding(crate::specs::Reading::full_step))]
-pub(crate) fn type_step(
+#[tactic(auto, unfolding(crate::specs::Advancing::advance_full_name))]
+pub(crate) fn advance_type_name(
     alloc: Global,
     text: &[u8],
     state: NameState,
     token: &Token,
 ) -> Result<NameStep, ProtoFault>
-    requires { Lies text.now token.now }
-    ensures { Gives result (type_reading state (lexeme text.now token.now)) }
+    requires { IsTokenOfText text.now token.now }
+    ensures { IsResultOf result (type_reading state (lexeme text.now token.now)) }
 {
     match state {
-        NameState::Start if is_mark(token, b'.') => {
+        NameState::Start if is_punctuator(token, b'.') => {
             Ok(NameStep::More(NameState::Rooted(span_of(token))))
         }
-        other => full_step(alloc, text, other, token),
+        other => advance_full_name(alloc, text, other, token),
     }
 }

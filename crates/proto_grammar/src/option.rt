@@ -2,14 +2,14 @@
 
 ghost use Rattle.std.specs.Prelude.{◌≡◌, ◌<◌, ◌^◌, ℕ, List, codes, true, false};
 ghost use Rattle.proto_grammar.specs.Lexemes.{lexeme};
-ghost use Rattle.proto_grammar.specs.Reading.{Lies, Gives, if_name as if_named, is_number as is_any_number, truth_of};
-ghost use Rattle.proto_grammar.specs.Reading.{option_step as option_reading, option_depth};
+ghost use Rattle.proto_grammar.specs.Advancing.{IsTokenOfText, IsResultOf, if_name as if_named, is_number as is_any_number, truth_of};
+ghost use Rattle.proto_grammar.specs.Advancing.{advance_option as option_reading, option_depth};
 ghost use Rattle.proto_grammar.specs.declared.option.OptionState.TheVariants as states;
 ghost use Rattle.proto_grammar.specs.declared.option.OptionStep.TheVariants as steps;
 
 use crate::fault::ProtoFault;
-use crate::lexeme::{is_mark, is_word, unexpected};
-use proto_lexer::{Kind, Token};
+use crate::lexeme::{is_punctuator, is_word, unexpected};
+use proto_lexer::{Token, TokenKind};
 
 /// How much of an option is read.
 #[derive(Clone, Copy)]
@@ -56,9 +56,9 @@ fn more(state: OptionState) -> Result<OptionStep, ProtoFault>
 }
 
 fn if_name(token: &Token, next: OptionState) -> Result<OptionStep, ProtoFault>
-    ensures { (text : List ℕ) → Gives result (if_named (lexeme text token.now) (λ n. steps.More next)) }
+    ensures { (text : List ℕ) → IsResultOf result (if_named (lexeme text token.now) (λ n. steps.More next)) }
 {
-    if token.kind == Kind::Identifier {
+    if token.kind == TokenKind::Identifier {
         more(next)
     } else {
         Err(unexpected(token))
@@ -68,16 +68,16 @@ fn if_name(token: &Token, next: OptionState) -> Result<OptionStep, ProtoFault>
 fn is_number(token: &Token) -> bool
     ensures { (text : List ℕ) → result ≡ is_any_number (lexeme text token.now).means }
 {
-    matches!(token.kind, Kind::Integer(_) | Kind::Number)
+    matches!(token.kind, TokenKind::Integer(_) | TokenKind::Number)
 }
 
 // Reads a part of an option's name.
-#[tactic(auto, unfolding(crate::specs::Reading::option_step))]
-fn name_step(text: &[u8], first: bool, token: &Token) -> Result<OptionStep, ProtoFault>
-    requires { Lies text.now token.now }
-    ensures { Gives result (option_reading (states.Name first) (lexeme text.now token.now)) }
+#[tactic(auto, unfolding(crate::specs::Advancing::advance_option))]
+fn advance_name(text: &[u8], first: bool, token: &Token) -> Result<OptionStep, ProtoFault>
+    requires { IsTokenOfText text.now token.now }
+    ensures { IsResultOf result (option_reading (states.Name first) (lexeme text.now token.now)) }
 {
-    if is_mark(token, b'(') {
+    if is_punctuator(token, b'(') {
         return more(OptionState::Open);
     }
     let packed = first && is_word(text, token, b"packed");
@@ -85,13 +85,13 @@ fn name_step(text: &[u8], first: bool, token: &Token) -> Result<OptionStep, Prot
 }
 
 // Reads a token after a name in parentheses.
-#[tactic(auto, unfolding(crate::specs::Reading::option_step))]
-fn inner_step(token: &Token) -> Result<OptionStep, ProtoFault>
-    ensures { (text : List ℕ) → Gives result (option_reading states.Inner (lexeme text token.now)) }
+#[tactic(auto, unfolding(crate::specs::Advancing::advance_option))]
+fn advance_inner_name(token: &Token) -> Result<OptionStep, ProtoFault>
+    ensures { (text : List ℕ) → IsResultOf result (option_reading states.Inner (lexeme text token.now)) }
 {
-    if is_mark(token, b'.') {
+    if is_punctuator(token, b'.') {
         more(OptionState::OpenName)
-    } else if is_mark(token, b')') {
+    } else if is_punctuator(token, b')') {
         more(OptionState::Part { packed: false })
     } else {
         Err(unexpected(token))
@@ -99,13 +99,13 @@ fn inner_step(token: &Token) -> Result<OptionStep, ProtoFault>
 }
 
 // Reads a token after a part of the name.
-#[tactic(auto, unfolding(crate::specs::Reading::option_step))]
-fn part_step(packed: bool, token: &Token) -> Result<OptionStep, ProtoFault>
-    ensures { (text : List ℕ) → Gives result (option_reading (states.Part packed) (lexeme text token.now)) }
+#[tactic(auto, unfolding(crate::specs::Advancing::advance_option))]
+fn advance_name_part(packed: bool, token: &Token) -> Result<OptionStep, ProtoFault>
+    ensures { (text : List ℕ) → IsResultOf result (option_reading (states.Part packed) (lexeme text token.now)) }
 {
-    if is_mark(token, b'.') {
+    if is_punctuator(token, b'.') {
         more(OptionState::Name { first: false })
-    } else if is_mark(token, b'=') {
+    } else if is_punctuator(token, b'=') {
         more(OptionState::Equals { packed })
     } else {
         Err(unexpected(token))
@@ -114,7 +114,7 @@ fn part_step(packed: bool, token: &Token) -> Result<OptionStep, ProtoFault>
 
 // The value that a name gives to `packed`.
 fn truth(text: &[u8], token: &Token, packed: bool) -> Option<bool>
-    requires { Lies text.now token.now }
+    requires { IsTokenOfText text.now token.now }
     ensures { result ≡ truth_of packed (lexeme text.now token.now).means }
 {
     if packed && is_word(text, token, b"true") {
@@ -127,57 +127,61 @@ fn truth(text: &[u8], token: &Token, packed: bool) -> Option<bool>
 }
 
 // Reads the first token of an option's value.
-#[tactic(auto, unfolding(crate::specs::Reading::option_step))]
+#[tactic(auto, unfolding(crate::specs::Advancing::advance_option))]
 fn value_start(text: &[u8], packed: bool, token: &Token) -> Result<OptionStep, ProtoFault>
-    requires { Lies text.now token.now }
-    ensures { Gives result (option_reading (states.Equals packed) (lexeme text.now token.now)) }
+    requires { IsTokenOfText text.now token.now }
+    ensures { IsResultOf result (option_reading (states.Equals packed) (lexeme text.now token.now)) }
 {
     match token.kind {
-        Kind::Identifier => more(OptionState::Value(truth(text, token, packed))),
-        Kind::Integer(_) | Kind::Number => more(OptionState::End),
-        Kind::Text => more(OptionState::Text),
-        Kind::Mark(b'+' | b'-') => more(OptionState::Sign),
-        Kind::Mark(b'{') => more(OptionState::Braces(1)),
+        TokenKind::Identifier => more(OptionState::Value(truth(text, token, packed))),
+        TokenKind::Integer(_) | TokenKind::Number => more(OptionState::End),
+        TokenKind::Text => more(OptionState::Text),
+        TokenKind::Mark(b'+' | b'-') => more(OptionState::Sign),
+        TokenKind::Mark(b'{') => more(OptionState::Braces(1)),
         _ => Err(unexpected(token)),
     }
 }
 
 // Reads a token inside braces.
-#[tactic(auto, unfolding(crate::specs::Reading::option_step))]
-fn brace_step(depth: usize, token: &Token) -> Result<OptionStep, ProtoFault>
+#[tactic(auto, unfolding(crate::specs::Advancing::advance_option))]
+fn advance_braces(depth: usize, token: &Token) -> Result<OptionStep, ProtoFault>
     requires { depth < 2 ^ 63 }
-    ensures { (text : List ℕ) → Gives result (option_reading (states.Braces depth) (lexeme text token.now)) }
+    ensures { (text : List ℕ) → IsResultOf result (option_reading (states.Braces depth) (lexeme text token.now)) }
 {
     match token.kind {
-        Kind::End | Kind::Bad => Err(unexpected(token)),
-        Kind::Mark(b'{') => more(OptionState::Braces(depth + 1)),
-        Kind::Mark(b'}') if depth <= 1 => more(OptionState::End),
-        Kind::Mark(b'}') => more(OptionState::Braces(depth - 1)),
+        TokenKind::End | TokenKind::Bad => Err(unexpected(token)),
+        TokenKind::Mark(b'{') => more(OptionState::Braces(depth + 1)),
+        TokenKind::Mark(b'}') if depth <= 1 => more(OptionState::End),
+        TokenKind::Mark(b'}') => more(OptionState::Braces(depth - 1)),
         _ => more(OptionState::Braces(depth)),
     }
 }
 
 /// Reads a token of an option, or the one after it.
-#[tactic(auto, unfolding(crate::specs::Reading::option_step))]
-pub fn option_step(text: &[u8], state: OptionState, token: &Token) -> Result<OptionStep, ProtoFault>
-    requires lies { Lies text.now token.now }
+#[tactic(auto, unfolding(crate::specs::Advancing::advance_option))]
+pub fn advance_option(
+    text: &[u8],
+    state: OptionState,
+    token: &Token,
+) -> Result<OptionStep, ProtoFault>
+    requires lies { IsTokenOfText text.now token.now }
     requires depth { option_depth state < 2 ^ 63 }
-    ensures { Gives result (option_reading state (lexeme text.now token.now)) }
+    ensures { IsResultOf result (option_reading state (lexeme text.now token.now)) }
 {
     match state {
-        OptionState::Name { first } => name_step(text, first, token),
-        OptionState::Open if is_mark(token, b'.') => more(OptionState::OpenName),
+        OptionState::Name { first } => advance_name(text, first, token),
+        OptionState::Open if is_punctuator(token, b'.') => more(OptionState::OpenName),
         OptionState::Open | OptionState::OpenName => if_name(token, OptionState::Inner),
-        OptionState::Inner => inner_step(token),
-        OptionState::Part { packed } => part_step(packed, token),
+        OptionState::Inner => advance_inner_name(token),
+        OptionState::Part { packed } => advance_name_part(packed, token),
         OptionState::Equals { packed } => value_start(text, packed, token),
         OptionState::Sign if is_number(token) => more(OptionState::End),
         OptionState::Sign => Err(unexpected(token)),
-        OptionState::Value(_) if is_mark(token, b'.') => more(OptionState::ValueDot),
+        OptionState::Value(_) if is_punctuator(token, b'.') => more(OptionState::ValueDot),
         OptionState::Value(says) => Ok(OptionStep::Whole(says)),
         OptionState::ValueDot => if_name(token, OptionState::Value(None)),
-        OptionState::Text if token.kind == Kind::Text => more(OptionState::Text),
+        OptionState::Text if token.kind == TokenKind::Text => more(OptionState::Text),
         OptionState::Text | OptionState::End => Ok(OptionStep::Whole(None)),
-        OptionState::Braces(depth) => brace_step(depth, token),
+        OptionState::Braces(depth) => advance_braces(depth, token),
     }
 }

@@ -2,17 +2,19 @@
 
 ghost use Rattle.std.specs.Prelude.{◌≡◌, ℕ, List};
 ghost use Rattle.proto_grammar.specs.Lexemes.{lexeme};
-ghost use Rattle.proto_grammar.specs.Reading.{Lies, Gives, range_step as range_reading};
-ghost use Rattle.proto_grammar.specs.Reading.{whole_range as reading_whole_range, of_range as reading_of_range};
-ghost use Rattle.proto_grammar.specs.Reading.{ranges_step as ranges_reading, reserved_name, reserved_part_step};
-ghost use Rattle.proto_grammar.specs.Reading.{reserved_step as reserved_reading};
+ghost use Rattle.proto_grammar.specs.Advancing.{IsTokenOfText, IsResultOf, advance_range as range_reading};
+ghost use Rattle.proto_grammar.specs.Advancing.{whole_range as reading_whole_range, of_range as reading_of_range};
+ghost use Rattle.proto_grammar.specs.Advancing.{advance_ranges as ranges_reading, reserved_name, advance_reserved_part};
+ghost use Rattle.proto_grammar.specs.Advancing.{advance_reserved as reserved_reading};
 ghost use Rattle.proto_grammar.specs.declared.reserved.RangeState.TheVariants as states;
 ghost use Rattle.proto_grammar.specs.declared.reserved.ReservedPart.TheVariants as parts;
 
 use crate::fault::ProtoFault;
-use crate::lexeme::{bytes_of, is_mark, is_word, negative_of, number_of, span_of, unexpected};
+use crate::lexeme::{
+    bytes_of, is_punctuator, is_word, negative_of, number_of, span_of, unexpected,
+};
 use proto_ast::{Number, Range, Ranges, Span, Word, Words};
-use proto_lexer::{Kind, Token, string_value};
+use proto_lexer::{Token, TokenKind, string_value};
 use std::alloc::Global;
 
 /// How much of a `reserved` statement is read. If `signed` is set, a `-` may precede a number.
@@ -62,17 +64,17 @@ pub enum ReservedStep {
 }
 
 // Reads a string as one more reserved name.
-fn name_step(
+fn advance_name(
     alloc: Global,
     text: &[u8],
     signed: bool,
     mut names: Words,
     token: &Token,
 ) -> Result<ReservedStep, ProtoFault>
-    requires { Lies text.now token.now }
-    ensures { Gives result (reserved_name signed names (lexeme text.now token.now)) }
+    requires { IsTokenOfText text.now token.now }
+    ensures { IsResultOf result (reserved_name signed names (lexeme text.now token.now)) }
 {
-    if token.kind != Kind::Text {
+    if token.kind != TokenKind::Text {
         return Err(unexpected(token));
     }
     let name = string_value(alloc, bytes_of(text, token))?;
@@ -85,35 +87,35 @@ fn name_step(
 }
 
 // Reads the first number of a range.
-#[tactic(auto, unfolding(crate::specs::Reading::range_step))]
-fn first_step(signed: bool, token: &Token) -> Result<RangeState, ProtoFault>
-    ensures { (text : List ℕ) → Gives result (range_reading signed states.Start (lexeme text token.now)) }
+#[tactic(auto, unfolding(crate::specs::Advancing::advance_range))]
+fn advance_first_number(signed: bool, token: &Token) -> Result<RangeState, ProtoFault>
+    ensures { (text : List ℕ) → IsResultOf result (range_reading signed states.Start (lexeme text token.now)) }
 {
-    if signed && is_mark(token, b'-') {
+    if signed && is_punctuator(token, b'-') {
         return Ok(RangeState::Minus(span_of(token)));
     }
     Ok(RangeState::First(number_of(token)?))
 }
 
-#[tactic(auto, unfolding(crate::specs::Reading::range_step))]
-fn minus_step(signed: bool, minus: Span, token: &Token) -> Result<RangeState, ProtoFault>
-    ensures { (text : List ℕ) → Gives result (range_reading signed (states.Minus minus) (lexeme text token.now)) }
+#[tactic(auto, unfolding(crate::specs::Advancing::advance_range))]
+fn advance_after_minus(signed: bool, minus: Span, token: &Token) -> Result<RangeState, ProtoFault>
+    ensures { (text : List ℕ) → IsResultOf result (range_reading signed (states.Minus minus) (lexeme text token.now)) }
 {
     Ok(RangeState::First(negative_of(minus, token)?))
 }
 
 // Reads the last number of a range, or `max`.
-#[tactic(auto, unfolding(crate::specs::Reading::range_step))]
-fn last_step(
+#[tactic(auto, unfolding(crate::specs::Advancing::advance_range))]
+fn advance_last_number(
     text: &[u8],
     signed: bool,
     first: Number,
     token: &Token,
 ) -> Result<RangeState, ProtoFault>
-    requires { Lies text.now token.now }
-    ensures { Gives result (range_reading signed (states.To first) (lexeme text.now token.now)) }
+    requires { IsTokenOfText text.now token.now }
+    ensures { IsResultOf result (range_reading signed (states.To first) (lexeme text.now token.now)) }
 {
-    if signed && is_mark(token, b'-') {
+    if signed && is_punctuator(token, b'-') {
         return Ok(RangeState::ToMinus(first, span_of(token)));
     }
     if is_word(text, token, b"max") {
@@ -123,37 +125,37 @@ fn last_step(
     Ok(RangeState::Whole(Range { first, last }))
 }
 
-#[tactic(auto, unfolding(crate::specs::Reading::range_step))]
-fn last_minus_step(
+#[tactic(auto, unfolding(crate::specs::Advancing::advance_range))]
+fn advance_last_after_minus(
     signed: bool,
     first: Number,
     minus: Span,
     token: &Token,
 ) -> Result<RangeState, ProtoFault>
     ensures { (text : List ℕ)
-        → Gives result (range_reading signed (states.ToMinus first minus) (lexeme text token.now)) }
+        → IsResultOf result (range_reading signed (states.ToMinus first minus) (lexeme text token.now)) }
 {
     let last = Some(negative_of(minus, token)?);
     Ok(RangeState::Whole(Range { first, last }))
 }
 
 // Reads a token of a range that is neither a comma nor `;`.
-#[tactic(auto, unfolding(crate::specs::Reading::range_step))]
-fn range_step(
+#[tactic(auto, unfolding(crate::specs::Advancing::advance_range))]
+fn advance_range(
     text: &[u8],
     signed: bool,
     state: RangeState,
     token: &Token,
 ) -> Result<RangeState, ProtoFault>
-    requires { Lies text.now token.now }
-    ensures { Gives result (range_reading signed state (lexeme text.now token.now)) }
+    requires { IsTokenOfText text.now token.now }
+    ensures { IsResultOf result (range_reading signed state (lexeme text.now token.now)) }
 {
     match state {
-        RangeState::Start => first_step(signed, token),
-        RangeState::Minus(minus) => minus_step(signed, minus, token),
+        RangeState::Start => advance_first_number(signed, token),
+        RangeState::Minus(minus) => advance_after_minus(signed, minus, token),
         RangeState::First(first) if is_word(text, token, b"to") => Ok(RangeState::To(first)),
-        RangeState::To(first) => last_step(text, signed, first, token),
-        RangeState::ToMinus(first, minus) => last_minus_step(signed, first, minus, token),
+        RangeState::To(first) => advance_last_number(text, signed, first, token),
+        RangeState::ToMinus(first, minus) => advance_last_after_minus(signed, first, minus, token),
         RangeState::First(_) | RangeState::Whole(_) => Err(unexpected(token)),
     }
 }
@@ -179,30 +181,30 @@ fn of_range(
     state: RangeState,
     token: &Token,
 ) -> Result<ReservedStep, ProtoFault>
-    requires { Lies text.now token.now }
-    ensures { Gives result (reading_of_range signed ranges (range_reading signed state (lexeme text.now token.now))) }
+    requires { IsTokenOfText text.now token.now }
+    ensures { IsResultOf result (reading_of_range signed ranges (range_reading signed state (lexeme text.now token.now))) }
 {
-    let part = ReservedPart::Ranges(ranges, range_step(text, signed, state, token)?);
+    let part = ReservedPart::Ranges(ranges, advance_range(text, signed, state, token)?);
     Ok(ReservedStep::More(ReservedState { signed, part }))
 }
 
-fn ranges_step(
+fn advance_ranges(
     text: &[u8],
     signed: bool,
     mut ranges: Ranges,
     state: RangeState,
     token: &Token,
 ) -> Result<ReservedStep, ProtoFault>
-    requires { Lies text.now token.now }
-    ensures { Gives result (ranges_reading signed ranges state (lexeme text.now token.now)) }
+    requires { IsTokenOfText text.now token.now }
+    ensures { IsResultOf result (ranges_reading signed ranges state (lexeme text.now token.now)) }
 {
     match whole_range(state) {
-        Some(range) if is_mark(token, b',') => {
+        Some(range) if is_punctuator(token, b',') => {
             ranges.push(range)?;
             let part = ReservedPart::Ranges(ranges, RangeState::Start);
             Ok(ReservedStep::More(ReservedState { signed, part }))
         }
-        Some(range) if is_mark(token, b';') => {
+        Some(range) if is_punctuator(token, b';') => {
             ranges.push(range)?;
             Ok(ReservedStep::Ranges(ranges))
         }
@@ -211,13 +213,13 @@ fn ranges_step(
 }
 
 // Reads the token after a name.
-fn behind_name(signed: bool, names: Words, token: &Token) -> Result<ReservedStep, ProtoFault>
-    ensures { (text : List ℕ) → Gives result (reserved_part_step signed (parts.Name names) (lexeme text token.now)) }
+fn after_name(signed: bool, names: Words, token: &Token) -> Result<ReservedStep, ProtoFault>
+    ensures { (text : List ℕ) → IsResultOf result (advance_reserved_part signed (parts.Name names) (lexeme text token.now)) }
 {
-    if is_mark(token, b';') {
+    if is_punctuator(token, b';') {
         return Ok(ReservedStep::Names(names));
     }
-    if is_mark(token, b',') {
+    if is_punctuator(token, b',') {
         let part = ReservedPart::NextName(names);
         return Ok(ReservedStep::More(ReservedState { signed, part }));
     }
@@ -225,26 +227,26 @@ fn behind_name(signed: bool, names: Words, token: &Token) -> Result<ReservedStep
 }
 
 /// Reads one token of reserved numbers or names.
-#[tactic(auto, unfolding(crate::specs::Reading::reserved_step))]
-pub fn reserved_step(
+#[tactic(auto, unfolding(crate::specs::Advancing::advance_reserved))]
+pub fn advance_reserved(
     alloc: Global,
     text: &[u8],
     state: ReservedState,
     token: &Token,
 ) -> Result<ReservedStep, ProtoFault>
-    requires { Lies text.now token.now }
-    ensures { Gives result (reserved_reading state (lexeme text.now token.now)) }
+    requires { IsTokenOfText text.now token.now }
+    ensures { IsResultOf result (reserved_reading state (lexeme text.now token.now)) }
 {
     let ReservedState { signed, part } = state;
     match part {
-        ReservedPart::Start if token.kind == Kind::Text => {
-            name_step(alloc, text, signed, Words::new(alloc), token)
+        ReservedPart::Start if token.kind == TokenKind::Text => {
+            advance_name(alloc, text, signed, Words::new(alloc), token)
         }
         ReservedPart::Start => {
-            ranges_step(text, signed, Ranges::new(alloc), RangeState::Start, token)
+            advance_ranges(text, signed, Ranges::new(alloc), RangeState::Start, token)
         }
-        ReservedPart::Ranges(ranges, range) => ranges_step(text, signed, ranges, range, token),
-        ReservedPart::Name(names) => behind_name(signed, names, token),
-        ReservedPart::NextName(names) => name_step(alloc, text, signed, names, token),
+        ReservedPart::Ranges(ranges, range) => advance_ranges(text, signed, ranges, range, token),
+        ReservedPart::Name(names) => after_name(signed, names, token),
+        ReservedPart::NextName(names) => advance_name(alloc, text, signed, names, token),
     }
 }

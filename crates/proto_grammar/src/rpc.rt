@@ -1,20 +1,20 @@
 //! Methods of a service, token by token.
 
 ghost use Rattle.std.specs.Prelude.{◌≡◌, ℕ, List};
-ghost use Rattle.proto_grammar.specs.Lexemes.{lexeme, word_at, span_of as span_of_token};
-ghost use Rattle.proto_grammar.specs.Reading.{Lies, Gives, if_name, is_streaming as is_streaming_at};
-ghost use Rattle.proto_grammar.specs.Reading.{part_span as reading_part_span, rpc_type_step};
-ghost use Rattle.proto_grammar.specs.Reading.{of_input as reading_of_input, of_output as reading_of_output};
-ghost use Rattle.proto_grammar.specs.Reading.{rpc_step as rpc_reading};
+ghost use Rattle.proto_grammar.specs.Lexemes.{lexeme, make_word, span_of as span_of_token};
+ghost use Rattle.proto_grammar.specs.Advancing.{IsTokenOfText, IsResultOf, if_name, is_streaming as is_streaming_at};
+ghost use Rattle.proto_grammar.specs.Advancing.{part_span as reading_part_span, advance_rpc_type};
+ghost use Rattle.proto_grammar.specs.Advancing.{of_input as reading_of_input, of_output as reading_of_output};
+ghost use Rattle.proto_grammar.specs.Advancing.{advance_rpc as rpc_reading};
 ghost use Rattle.proto_grammar.specs.declared.rpc.RpcState.TheVariants as states;
 ghost use Rattle.proto_grammar.specs.declared.rpc.RpcStep.TheVariants as steps;
 
 use crate::fault::{ProtoFault, ProtoReason};
-use crate::field::typed_step;
-use crate::lexeme::{fault_at, identifier_of, is_mark, is_word, span_of, unexpected};
+use crate::field::advance_field_type_name;
+use crate::lexeme::{identifier_of, is_punctuator, is_word, proto_fault_at, span_of, unexpected};
 use crate::name::{NameState, NameStep};
 use proto_ast::{RpcDecl, Span, Word};
-use proto_lexer::{Kind, Token};
+use proto_lexer::{Token, TokenKind};
 use std::alloc::Global;
 
 /// How much of a method is read.
@@ -51,7 +51,7 @@ fn is_streaming(state: &NameState, token: &Token) -> bool
     match state {
         NameState::Part(word) => {
             word.name.as_slice() == b"stream".as_slice()
-                && (token.kind == Kind::Identifier || is_mark(token, b'.'))
+                && (token.kind == TokenKind::Identifier || is_punctuator(token, b'.'))
         }
         _ => false,
     }
@@ -74,14 +74,14 @@ fn type_in(
     state: NameState,
     token: &Token,
 ) -> Result<NameStep, ProtoFault>
-    requires { Lies text.now token.now }
-    ensures { Gives result (rpc_type_step state (lexeme text.now token.now)) }
+    requires { IsTokenOfText text.now token.now }
+    ensures { IsResultOf result (advance_rpc_type state (lexeme text.now token.now)) }
 {
     if is_streaming(&state, token) {
-        return Err(fault_at(ProtoReason::Stream, part_span(&state, token)));
+        return Err(proto_fault_at(ProtoReason::Stream, part_span(&state, token)));
     }
-    match typed_step(alloc, text, state, token)? {
-        NameStep::Whole(_) if !is_mark(token, b')') => Err(unexpected(token)),
+    match advance_field_type_name(alloc, text, state, token)? {
+        NameStep::Whole(_) if !is_punctuator(token, b')') => Err(unexpected(token)),
         step => Ok(step),
     }
 }
@@ -93,8 +93,8 @@ fn of_input(
     input: NameState,
     token: &Token,
 ) -> Result<RpcStep, ProtoFault>
-    requires { Lies text.now token.now }
-    ensures { Gives result (reading_of_input name (rpc_type_step input (lexeme text.now token.now))) }
+    requires { IsTokenOfText text.now token.now }
+    ensures { IsResultOf result (reading_of_input name (advance_rpc_type input (lexeme text.now token.now))) }
 {
     match type_in(alloc, text, input, token)? {
         NameStep::More(input) => Ok(RpcStep::More(RpcState::Input(name, input))),
@@ -110,8 +110,8 @@ fn of_output(
     output: NameState,
     token: &Token,
 ) -> Result<RpcStep, ProtoFault>
-    requires { Lies text.now token.now }
-    ensures { Gives result (reading_of_output name input (rpc_type_step output (lexeme text.now token.now))) }
+    requires { IsTokenOfText text.now token.now }
+    ensures { IsResultOf result (reading_of_output name input (advance_rpc_type output (lexeme text.now token.now))) }
 {
     match type_in(alloc, text, output, token)? {
         NameStep::More(output) => Ok(RpcStep::More(RpcState::Output(name, input, output))),
@@ -125,22 +125,22 @@ fn of_output(
 
 // Reads the name of a method.
 fn named(alloc: Global, text: &[u8], token: &Token) -> Result<RpcStep, ProtoFault>
-    requires { Lies text.now token.now }
+    requires { IsTokenOfText text.now token.now }
     ensures { let x = lexeme text.now token.now in
-        Gives result (if_name x (λ n. steps.More (states.Named (word_at n x.span)))) }
+        IsResultOf result (if_name x (λ n. steps.More (states.Named (make_word n x.span)))) }
 {
     let name = identifier_of(alloc, text, token)?;
     Ok(RpcStep::More(RpcState::Named(name)))
 }
 
 // Reads the token that ends a method.
-#[tactic(auto, unfolding(crate::specs::Reading::rpc_step))]
-fn end_step(rpc: RpcDecl, token: &Token) -> Result<RpcStep, ProtoFault>
-    ensures { (text : List ℕ) → Gives result (rpc_reading (states.End rpc) (lexeme text token.now)) }
+#[tactic(auto, unfolding(crate::specs::Advancing::advance_rpc))]
+fn advance_end(rpc: RpcDecl, token: &Token) -> Result<RpcStep, ProtoFault>
+    ensures { (text : List ℕ) → IsResultOf result (rpc_reading (states.End rpc) (lexeme text token.now)) }
 {
-    if is_mark(token, b';') {
+    if is_punctuator(token, b';') {
         Ok(RpcStep::Done(rpc, false))
-    } else if is_mark(token, b'{') {
+    } else if is_punctuator(token, b'{') {
         Ok(RpcStep::Done(rpc, true))
     } else {
         Err(unexpected(token))
@@ -148,32 +148,32 @@ fn end_step(rpc: RpcDecl, token: &Token) -> Result<RpcStep, ProtoFault>
 }
 
 /// Reads one token of a method.
-#[tactic(auto, unfolding(crate::specs::Reading::rpc_step))]
-pub fn rpc_step(
+#[tactic(auto, unfolding(crate::specs::Advancing::advance_rpc))]
+pub fn advance_rpc(
     alloc: Global,
     text: &[u8],
     state: RpcState,
     token: &Token,
 ) -> Result<RpcStep, ProtoFault>
-    requires { Lies text.now token.now }
-    ensures { Gives result (rpc_reading state (lexeme text.now token.now)) }
+    requires { IsTokenOfText text.now token.now }
+    ensures { IsResultOf result (rpc_reading state (lexeme text.now token.now)) }
 {
     match state {
         RpcState::Start => named(alloc, text, token),
-        RpcState::Named(name) if is_mark(token, b'(') => {
+        RpcState::Named(name) if is_punctuator(token, b'(') => {
             Ok(RpcStep::More(RpcState::Input(name, NameState::Start)))
         }
         RpcState::Input(name, input) => of_input(alloc, text, name, input, token),
         RpcState::Returns(name, input) if is_word(text, token, b"returns") => {
             Ok(RpcStep::More(RpcState::Open(name, input)))
         }
-        RpcState::Open(name, input) if is_mark(token, b'(') => {
+        RpcState::Open(name, input) if is_punctuator(token, b'(') => {
             Ok(RpcStep::More(RpcState::Output(name, input, NameState::Start)))
         }
         RpcState::Output(name, input, output) => {
             of_output(alloc, text, name, input, output, token)
         }
-        RpcState::End(rpc) => end_step(rpc, token),
+        RpcState::End(rpc) => advance_end(rpc, token),
         RpcState::Named(_) | RpcState::Returns(_, _) | RpcState::Open(_, _) => {
             Err(unexpected(token))
         }

@@ -2,12 +2,12 @@
 
 ghost use Rattle.std.specs.Prelude.{◌≡◌, ◌<◌, ◌^◌, ℕ, List};
 ghost use Rattle.proto_grammar.specs.Lexemes.{lexeme};
-ghost use Rattle.proto_grammar.specs.Reading.{Lies, Gives, behind_option as reading_behind_option};
-ghost use Rattle.proto_grammar.specs.Reading.{tail_step as tail_reading, tail_depth};
+ghost use Rattle.proto_grammar.specs.Advancing.{IsTokenOfText, IsResultOf, after_option as reading_behind_option};
+ghost use Rattle.proto_grammar.specs.Advancing.{advance_tail as tail_reading, tail_depth};
 
 use crate::fault::ProtoFault;
-use crate::lexeme::{is_mark, unexpected};
-use crate::option::{OptionState, OptionStep, option_step};
+use crate::lexeme::{is_punctuator, unexpected};
+use crate::option::{OptionState, OptionStep, advance_option};
 use proto_lexer::Token;
 
 /// How much of it is read.
@@ -33,12 +33,12 @@ pub enum TailStep {
 const NEXT: OptionState = OptionState::Name { first: true };
 
 // Reads a token after an option in brackets.
-fn behind_option(packed: Option<bool>, token: &Token) -> Result<TailStep, ProtoFault>
-    ensures { (text : List ℕ) → Gives result (reading_behind_option packed (lexeme text token.now)) }
+fn after_option(packed: Option<bool>, token: &Token) -> Result<TailStep, ProtoFault>
+    ensures { (text : List ℕ) → IsResultOf result (reading_behind_option packed (lexeme text token.now)) }
 {
-    if is_mark(token, b',') {
+    if is_punctuator(token, b',') {
         Ok(TailStep::More(TailState::Options(packed, NEXT)))
-    } else if is_mark(token, b']') {
+    } else if is_punctuator(token, b']') {
         Ok(TailStep::More(TailState::Closed(packed)))
     } else {
         Err(unexpected(token))
@@ -46,25 +46,25 @@ fn behind_option(packed: Option<bool>, token: &Token) -> Result<TailStep, ProtoF
 }
 
 // Reads a token after the number.
-#[tactic(auto, unfolding(crate::specs::Reading::tail_step))]
-pub(crate) fn tail_step(
+#[tactic(auto, unfolding(crate::specs::Advancing::advance_tail))]
+pub(crate) fn advance_tail(
     text: &[u8],
     state: TailState,
     token: &Token,
 ) -> Result<TailStep, ProtoFault>
-    requires lies { Lies text.now token.now }
+    requires lies { IsTokenOfText text.now token.now }
     requires depth { tail_depth state < 2 ^ 63 }
-    ensures { Gives result (tail_reading state (lexeme text.now token.now)) }
+    ensures { IsResultOf result (tail_reading state (lexeme text.now token.now)) }
 {
     match state {
-        TailState::Start if is_mark(token, b'[') => {
+        TailState::Start if is_punctuator(token, b'[') => {
             Ok(TailStep::More(TailState::Options(None, NEXT)))
         }
-        TailState::Start if is_mark(token, b';') => Ok(TailStep::Done(None)),
-        TailState::Closed(packed) if is_mark(token, b';') => Ok(TailStep::Done(packed)),
-        TailState::Options(packed, option) => match option_step(text, option, token)? {
+        TailState::Start if is_punctuator(token, b';') => Ok(TailStep::Done(None)),
+        TailState::Closed(packed) if is_punctuator(token, b';') => Ok(TailStep::Done(packed)),
+        TailState::Options(packed, option) => match advance_option(text, option, token)? {
             OptionStep::More(option) => Ok(TailStep::More(TailState::Options(packed, option))),
-            OptionStep::Whole(says) => behind_option(says.or(packed), token),
+            OptionStep::Whole(says) => after_option(says.or(packed), token),
         },
         _ => Err(unexpected(token)),
     }

@@ -2,13 +2,13 @@
 
 ghost use Rattle.std.specs.Prelude.{◌≡◌, ◌<◌, ◌^◌, ℕ, List};
 ghost use Rattle.proto_grammar.specs.Lexemes.{lexeme};
-ghost use Rattle.proto_grammar.specs.Reading.{Lies, Gives, tail_step as tail_reading, tail_depth, of_value_tail};
-ghost use Rattle.proto_grammar.specs.Reading.{value_step as value_reading, value_depth};
+ghost use Rattle.proto_grammar.specs.Advancing.{IsTokenOfText, IsResultOf, advance_tail as tail_reading, tail_depth, of_value_tail};
+ghost use Rattle.proto_grammar.specs.Advancing.{advance_value as value_reading, value_depth};
 ghost use Rattle.proto_grammar.specs.declared.value.ValueState.TheVariants as states;
 
 use crate::fault::ProtoFault;
-use crate::lexeme::{is_mark, negative_of, number_of, span_of, unexpected};
-use crate::tail::{TailState, TailStep, tail_step};
+use crate::lexeme::{is_punctuator, negative_of, number_of, span_of, unexpected};
+use crate::tail::{TailState, TailStep, advance_tail};
 use proto_ast::{Number, Span, ValueDecl, Word};
 use proto_lexer::Token;
 
@@ -34,11 +34,11 @@ pub enum ValueStep {
 }
 
 // Reads a number after `=`, or the `-` before one.
-#[tactic(auto, unfolding(crate::specs::Reading::value_step))]
-fn equals_step(name: Word, token: &Token) -> Result<ValueStep, ProtoFault>
-    ensures { (text : List ℕ) → Gives result (value_reading (states.Equals name) (lexeme text token.now)) }
+#[tactic(auto, unfolding(crate::specs::Advancing::advance_value))]
+fn advance_after_equals(name: Word, token: &Token) -> Result<ValueStep, ProtoFault>
+    ensures { (text : List ℕ) → IsResultOf result (value_reading (states.Equals name) (lexeme text token.now)) }
 {
-    if is_mark(token, b'-') {
+    if is_punctuator(token, b'-') {
         return Ok(ValueStep::More(ValueState::Minus(name, span_of(token))));
     }
     let number = number_of(token)?;
@@ -46,9 +46,9 @@ fn equals_step(name: Word, token: &Token) -> Result<ValueStep, ProtoFault>
 }
 
 // Reads a number after `-`.
-#[tactic(auto, unfolding(crate::specs::Reading::value_step))]
-fn minus_step(name: Word, minus: Span, token: &Token) -> Result<ValueStep, ProtoFault>
-    ensures { (text : List ℕ) → Gives result (value_reading (states.Minus name minus) (lexeme text token.now)) }
+#[tactic(auto, unfolding(crate::specs::Advancing::advance_value))]
+fn advance_after_minus(name: Word, minus: Span, token: &Token) -> Result<ValueStep, ProtoFault>
+    ensures { (text : List ℕ) → IsResultOf result (value_reading (states.Minus name minus) (lexeme text token.now)) }
 {
     let number = negative_of(minus, token)?;
     Ok(ValueStep::More(ValueState::Tail(name, number, TailState::Start)))
@@ -61,30 +61,30 @@ fn of_tail(
     tail: TailState,
     token: &Token,
 ) -> Result<ValueStep, ProtoFault>
-    requires lies { Lies text.now token.now }
+    requires lies { IsTokenOfText text.now token.now }
     requires depth { tail_depth tail < 2 ^ 63 }
-    ensures { Gives result (of_value_tail name number (tail_reading tail (lexeme text.now token.now))) }
+    ensures { IsResultOf result (of_value_tail name number (tail_reading tail (lexeme text.now token.now))) }
 {
-    match tail_step(text, tail, token)? {
+    match advance_tail(text, tail, token)? {
         TailStep::More(tail) => Ok(ValueStep::More(ValueState::Tail(name, number, tail))),
         TailStep::Done(_) => Ok(ValueStep::Done(ValueDecl { name, number })),
     }
 }
 
 /// Reads one token of an enum's value.
-#[tactic(auto, unfolding(crate::specs::Reading::value_step))]
-pub fn value_step(text: &[u8], state: ValueState, token: &Token) -> Result<ValueStep, ProtoFault>
-    requires lies { Lies text.now token.now }
+#[tactic(auto, unfolding(crate::specs::Advancing::advance_value))]
+pub fn advance_value(text: &[u8], state: ValueState, token: &Token) -> Result<ValueStep, ProtoFault>
+    requires lies { IsTokenOfText text.now token.now }
     requires depth { value_depth state < 2 ^ 63 }
-    ensures { Gives result (value_reading state (lexeme text.now token.now)) }
+    ensures { IsResultOf result (value_reading state (lexeme text.now token.now)) }
 {
     match state {
-        ValueState::Named(name) if is_mark(token, b'=') => {
+        ValueState::Named(name) if is_punctuator(token, b'=') => {
             Ok(ValueStep::More(ValueState::Equals(name)))
         }
         ValueState::Named(_) => Err(unexpected(token)),
-        ValueState::Equals(name) => equals_step(name, token),
-        ValueState::Minus(name, minus) => minus_step(name, minus, token),
+        ValueState::Equals(name) => advance_after_equals(name, token),
+        ValueState::Minus(name, minus) => advance_after_minus(name, minus, token),
         ValueState::Tail(name, number, tail) => of_tail(text, name, number, tail, token),
     }
 }

@@ -11,11 +11,11 @@ use Rattle.mrpc_table.specs.Names.{is_name_start, is_name_byte, is_name_form}
 use Rattle.proto_lexer.specs.Gaps.{has_no_line_feed}
 use Rattle.proto_lexer.specs.Literals.{is_decimal_digit, is_octal_digit, is_hexadecimal_digit, IsInteger, decimal}
 use Rattle.proto_lexer.specs.Literals.{octal, hexadecimal, is_exponent_letter, is_sign, IsExponent, unsigned, signed}
-use Rattle.proto_lexer.specs.Literals.{IsNumber, point, fraction, exponent, is_quote, is_simple_escape, is_plain}
+use Rattle.proto_lexer.specs.Literals.{IsNumber, point, fraction, exponent, is_quote, is_simple_escape, is_literal_byte}
 use Rattle.proto_lexer.specs.Literals.{IsBody, no_bytes, plain, simple_escape, octal_escape, hexadecimal_escape}
-use Rattle.proto_lexer.specs.Literals.{unicode_escape, wide_escape, is_mark}
-use Rattle.proto_lexer.specs.Tokens.{Stands, identifier, integer, number, string, mark, line_at}
-use Rattle.proto_lexer.specs.declared.token.Kind.{Kind}
+use Rattle.proto_lexer.specs.Literals.{unicode_escape, wide_escape, is_punctuator_byte}
+use Rattle.proto_lexer.specs.Tokens.{IsToken, identifier, integer, number, string, mark, line_of_offset}
+use Rattle.proto_lexer.specs.declared.token.TokenKind.{TokenKind}
 use Rattle.proto_lexer.proofs.Runs.{list_all_weaker, list_all_append, one_of}
 use Rattle.proto_lexer.proofs.NumberLemmas.{decimal_digits}
 
@@ -51,7 +51,7 @@ quote_feed c h = grind (arith, nat_tests)
 simple_feed : (c : ℕ) → is_simple_escape c ≡ true → not (c == 10) ≡ true
 simple_feed c h = one_of (λ d. not (d == 10)) c (codes "abfnrtv\\?'\"") refl h
 
-mark_feed : (c : ℕ) → is_mark c ≡ true → not (c == 10) ≡ true
+mark_feed : (c : ℕ) → is_punctuator_byte c ≡ true → not (c == 10) ≡ true
 mark_feed c h = one_of (λ d. not (d == 10)) c (codes "=;{}()<>[],.-+:/") refl h
 
 name_clean : (name : List ℕ) → is_name_form name ≡ true → has_no_line_feed name ≡ true
@@ -88,7 +88,7 @@ number_clean (point whole part power is h all p) =
 number_clean (fraction part power is some all p) = rw is (append_clean part power (digits_clean part all) (power_clean p))
 number_clean (exponent whole power is h p) = rw is (append_clean whole power (digits_clean whole (decimal_digits whole h)) (exponent_clean p))
 
-plain_feed : (quote c : ℕ) → is_plain quote c ≡ true → not (c == 10) ≡ true
+plain_feed : (quote c : ℕ) → is_literal_byte quote c ≡ true → not (c == 10) ≡ true
 plain_feed quote c h = (and_parts (not (c == 10)) (not (c == 0)) (and_parts (not (c == quote) && not (c == 92)) (not (c == 10) && not (c == 0)) h).1).0
 
 body_clean : {quote : ℕ} {body : List ℕ} → IsBody quote body → has_no_line_feed body ≡ true
@@ -100,7 +100,7 @@ body_clean (hexadecimal_escape more e p b) = rw e (body_clean b)
 body_clean (unicode_escape more e p b) = rw e (body_clean b)
 body_clean (wide_escape more e p b) = rw e (body_clean b)
 
-pub stands_clean : {kind : Kind} {literal rest : List ℕ} → Stands kind literal rest → has_no_line_feed literal ≡ true
+pub stands_clean : {kind : TokenKind} {literal rest : List ℕ} → IsToken kind literal rest → has_no_line_feed literal ≡ true
 stands_clean {literal = l} (identifier k h stops) = name_clean l h
 stands_clean (integer value k h stops) = integer_clean h
 stands_clean (number k h stops) = number_clean h
@@ -125,8 +125,8 @@ front_pieces text n m =
     sym (take-append-drop n (take (n + m) text)) ∙ ap (λ (x : List ℕ). x ++ drop n (take (n + m) text))
     (take-take n (n + m) text (omega arith)) ∙ ap (λ (x : List ℕ). take n text ++ x) (drop-take n m text)
 
-pub line_on : (text : List ℕ) (place start line : ℕ) → place ≤ start → line ≡ line_at text place
-    → line + count_by is_feed (take (start - place) (drop place text)) ≡ line_at text start
+pub line_on : (text : List ℕ) (place start line : ℕ) → place ≤ start → line ≡ line_of_offset text place
+    → line + count_by is_feed (take (start - place) (drop place text)) ≡ line_of_offset text start
 line_on text place start line h e =
     let n : place + (start - place) ≡ start = omega arith in
     let split = front_pieces text place (start - place) in
@@ -134,5 +134,5 @@ line_on text place start line h e =
     let count = ap (count_by is_feed) split ∙ sum_by-append (λ c. cond (is_feed c) 1 0) (take place text) (take (start - place) (drop place text)) in
     omega (arith, whole, count, e)
 
-pub line_same : (text : List ℕ) (start end : ℕ) → start ≤ end → has_no_line_feed (take (end - start) (drop start text)) ≡ true → line_at text end ≡ line_at text start
-line_same text start end h clean = omega (arith, line_on text start end (line_at text start) h refl, clean_count (take (end - start) (drop start text)) clean)
+pub line_same : (text : List ℕ) (start end : ℕ) → start ≤ end → has_no_line_feed (take (end - start) (drop start text)) ≡ true → line_of_offset text end ≡ line_of_offset text start
+line_same text start end h clean = omega (arith, line_on text start end (line_of_offset text start) h refl, clean_count (take (end - start) (drop start text)) clean)

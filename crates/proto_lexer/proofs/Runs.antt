@@ -2,11 +2,11 @@
 use Rattle.std.proofs.Common.{◌≡◌, inl, inr, ℕ, suc, ◌+◌, ◌==◌, Bool, true, false, List, [], ◌∷◌, ◌++◌, length, refl, arith, sym, ◌∙◌, ap}
 use Rattle.std.specs.List.{list_all, list_any, prefix_len}
 use Rattle.std.proofs.lemmas.Bool.{eqb-true, cases_Bool, and_parts, and_from, or_cases}
-use Rattle.proto_lexer.specs.Gaps.{begins}
+use Rattle.proto_lexer.specs.Gaps.{first_satisfies}
 
 -- ---- a run and the bytes after it
 
-pub run_len : (p : ℕ → Bool) (ds rest : List ℕ) → list_all p ds ≡ true → begins p rest ≡ false → prefix_len p (ds ++ rest) ≡ length ds
+pub run_len : (p : ℕ → Bool) (ds rest : List ℕ) → list_all p ds ≡ true → first_satisfies p rest ≡ false → prefix_len p (ds ++ rest) ≡ length ds
 run_len p [] [] all stops = refl
 run_len p [] (c ∷ cs) all stops = rw stops refl
 run_len p (d ∷ ds) rest all stops =
@@ -20,7 +20,7 @@ pub record Run (p : ℕ → Bool) (bytes : List ℕ) : Type 0 where
   pub is : bytes ≡ front ++ rest
   pub long : length front ≡ prefix_len p bytes
   pub all : list_all p front ≡ true
-  pub stops : begins p rest ≡ false
+  pub stops : first_satisfies p rest ≡ false
 
 pub run_of : (p : ℕ → Bool) (bytes : List ℕ) → Run p bytes
 run_of p [] = record { front = []; rest = []; is = refl; long = refl; all = refl; stops = refl }
@@ -46,7 +46,7 @@ list_all_weaker p q h (x ∷ xs) all =
     let parts = and_parts (p x) (list_all p xs) all in
     and_from (q x) (list_all q xs) (h x parts.0) (list_all_weaker p q h xs parts.1)
 
-pub begins_weaker : (p q : ℕ → Bool) → ((c : ℕ) → p c ≡ true → q c ≡ true) → (xs : List ℕ) → begins q xs ≡ false → begins p xs ≡ false
+pub begins_weaker : (p q : ℕ → Bool) → ((c : ℕ) → p c ≡ true → q c ≡ true) → (xs : List ℕ) → first_satisfies q xs ≡ false → first_satisfies p xs ≡ false
 begins_weaker p q h [] stops = refl
 begins_weaker p q h (x ∷ xs) stops = elim (cases_Bool (p x)) [
   | inl e ↦ absurd (let t : true ≡ false = sym (h x e) ∙ stops in cc)

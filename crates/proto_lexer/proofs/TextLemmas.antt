@@ -6,10 +6,10 @@ use Rattle.std.specs.List.{prefix_len}
 use Rattle.std.proofs.lemmas.Bool.{eq-eqb, ne_eqb, eqb-true, eqb-false, cases_eq, cases_Bool, and_parts, and_from}
 use Rattle.std.proofs.lemmas.Bool.{or_parts, or_cases, or_from, or_left, or_right, not-true, not_from_false, leb-true}
 use Rattle.std.proofs.lemmas.Bool.{le-leb}
-use Rattle.proto_lexer.specs.Literals.{is_quote, is_plain, is_simple_escape, is_octal_digit, is_hexadecimal_digit}
+use Rattle.proto_lexer.specs.Literals.{is_quote, is_literal_byte, is_simple_escape, is_octal_digit, is_hexadecimal_digit}
 use Rattle.proto_lexer.specs.Literals.{has_digits, is_wide, IsBody, no_bytes, plain, simple_escape, octal_escape}
 use Rattle.proto_lexer.specs.Literals.{hexadecimal_escape, unicode_escape, wide_escape}
-use Rattle.proto_lexer.specs.Scanning.{is_escape, closes}
+use Rattle.proto_lexer.specs.Scanning.{is_escape, quoted_len}
 use Rattle.proto_lexer.proofs.Closing.{front_quote, front_last, front_escape, front_no_escape, front_break, front_on}
 
 -- ---- digits after an escape belong to the body
@@ -74,7 +74,7 @@ is_wide_quote (a ∷ b ∷ c ∷ xs) ys q h w = rw (has_digits_quote 5 xs ys q (
 
 -- ---- a body is read up to its quote
 
-plain_parts : (quote c : ℕ) → is_plain quote c ≡ true → (c ≢ quote) × (c ≢ 92) × ((c == 10 || c == 0) ≡ false)
+plain_parts : (quote c : ℕ) → is_literal_byte quote c ≡ true → (c ≢ quote) × (c ≢ 92) × ((c == 10 || c == 0) ≡ false)
 plain_parts quote c h =
     let parts = and_parts (not (c == quote) && not (c == 92)) (not (c == 10) && not (c == 0)) h in
     let front = and_parts (not (c == quote)) (not (c == 92)) parts.0 in
@@ -88,13 +88,13 @@ backslash : (quote : ℕ) → is_quote quote ≡ true → 92 ≢ quote
 backslash quote h e = let t : true ≡ false = sym (eq-eqb quote 92 (sym e)) ∙ no_backslash quote h in cc
 
 read_escape : (quote c : ℕ) (more rest : List ℕ) → is_quote quote ≡ true → is_escape c (more ++ quote ∷ rest) ≡ true
-    → closes quote (more ++ quote ∷ rest) ≡ Some (length more + 1)
-    → closes quote (92 ∷ c ∷ more ++ quote ∷ rest) ≡ Some (length (92 ∷ c ∷ more) + 1)
+    → quoted_len quote (more ++ quote ∷ rest) ≡ Some (length more + 1)
+    → quoted_len quote (92 ∷ c ∷ more ++ quote ∷ rest) ≡ Some (length (92 ∷ c ∷ more) + 1)
 read_escape quote c more rest h e ih =
     let n : length more + 1 + 2 ≡ length (92 ∷ c ∷ more) + 1 = omega arith in
     front_escape quote 92 c (more ++ quote ∷ rest) (backslash quote h) refl e ∙ plus _ _ 2 ih ∙ ap Some n
 
-pub closes_body : (quote : ℕ) {body : List ℕ} → is_quote quote ≡ true → IsBody quote body → (rest : List ℕ) → closes quote (body ++ quote ∷ rest) ≡ Some (length body + 1)
+pub closes_body : (quote : ℕ) {body : List ℕ} → is_quote quote ≡ true → IsBody quote body → (rest : List ℕ) → quoted_len quote (body ++ quote ∷ rest) ≡ Some (length body + 1)
 closes_body quote h (no_bytes e) rest = rw e (front_quote quote quote rest refl)
 closes_body quote h (plain c more e p b) rest =
     let parts = plain_parts quote c p in
@@ -124,7 +124,7 @@ some_map : (o : Option ℕ) (k n : ℕ) → option_map (λ m. m + k) o ≡ Some 
 some_map None k n e = absurd cc
 some_map (Some m) k n e = (m, refl, cc)
 
-plain_from : (quote c : ℕ) → c ≢ quote → c ≢ 92 → (c == 10 || c == 0) ≡ false → is_plain quote c ≡ true
+plain_from : (quote c : ℕ) → c ≢ quote → c ≢ 92 → (c == 10 || c == 0) ≡ false → is_literal_byte quote c ≡ true
 plain_from quote c a b e =
     let parts = or_parts (c == 10) (c == 0) e in
     and_from _ _ (and_from _ _ (not_from_false _ (ne_eqb _ _ a)) (not_from_false _ (ne_eqb _ _ b))) (and_from _ _ (not_from_false _ parts.0) (not_from_false _ parts.1))
@@ -153,7 +153,7 @@ escape_body quote c more rest h e b =
           ]
     ]
 
-body_on : (quote c : ℕ) (cs : List ℕ) (m n : ℕ) → n ≡ m + 1 → is_plain quote c ≡ true → Body quote cs m → Body quote (c ∷ cs) n
+body_on : (quote c : ℕ) (cs : List ℕ) (m n : ℕ) → n ≡ m + 1 → is_literal_byte quote c ≡ true → Body quote cs m → Body quote (c ∷ cs) n
 body_on quote c cs m n e p r = record {
   body = c ∷ r.body;
   rest = r.rest;
@@ -174,13 +174,13 @@ body_escape quote c cs m n h e p r = record {
 none_some : {X : Type 0} (x : X) → (o : Option X) → o ≡ None → o ≡ Some x → ⊥
 none_some x o a b = cc
 
-quoted : (quote c : ℕ) (cs : List ℕ) (n : ℕ) → c ≡ quote → closes quote (c ∷ cs) ≡ Some n → Body quote (c ∷ cs) n
+quoted : (quote c : ℕ) (cs : List ℕ) (n : ℕ) → c ≡ quote → quoted_len quote (c ∷ cs) ≡ Some n → Body quote (c ∷ cs) n
 quoted quote c cs n same e =
     let one : n ≡ 1 = let t : Some 1 ≡ Some n = sym (front_quote quote c cs same) ∙ e in cc in
     record { body = []; rest = cs; is = ap (λ (d : ℕ). d ∷ cs) same; long = omega (arith, one); reads = no_bytes refl }
 
-pub body_of : (quote : ℕ) → is_quote quote ≡ true → (bytes : List ℕ) (n : ℕ) → closes quote bytes ≡ Some n → Body quote bytes n
-unfolding closes
+pub body_of : (quote : ℕ) → is_quote quote ≡ true → (bytes : List ℕ) (n : ℕ) → quoted_len quote bytes ≡ Some n → Body quote bytes n
+unfolding quoted_len
 body_of quote h [] n e = absurd (none_some n None refl e)
 body_of quote h (c ∷ []) n e = elim (cases_eq c quote) [
   | inl same ↦ quoted quote c [] n same e
@@ -191,14 +191,14 @@ body_of quote h (c ∷ d ∷ cs) n e = elim (cases_eq c quote) [
   | inr other ↦ elim (cases_eq c 92) [
     | inl slash ↦ elim (cases_Bool (is_escape d cs)) [
       | inl f ↦
-          let m = some_map (closes quote cs) 2 n (sym (front_escape quote c d cs other slash f) ∙ e) in
+          let m = some_map (quoted_len quote cs) 2 n (sym (front_escape quote c d cs other slash f) ∙ e) in
           rw slash (body_escape quote d cs m.0 n h m.2 f (body_of quote h cs m.0 m.1))
       | inr f ↦ absurd (none_some n _ (front_no_escape quote c d cs other slash f) e)
     ]
     | inr no_slash ↦ elim (cases_Bool (c == 10 || c == 0)) [
       | inl f ↦ absurd (none_some n _ (front_break quote c (d ∷ cs) other no_slash f) e)
       | inr f ↦
-          let m = some_map (closes quote (d ∷ cs)) 1 n (sym (front_on quote c (d ∷ cs) other no_slash f) ∙ e) in
+          let m = some_map (quoted_len quote (d ∷ cs)) 1 n (sym (front_on quote c (d ∷ cs) other no_slash f) ∙ e) in
           body_on quote c (d ∷ cs) m.0 n m.2 (plain_from quote c other no_slash f) (body_of quote h (d ∷ cs) m.0 m.1)
     ]
   ]

@@ -8,14 +8,14 @@ use Rattle.std.specs.Str.Parse.{digits_value}
 use Rattle.proto_lexer.specs.Literals.{is_octal_digit}
 
 -- the leading digits of a base, at most n: their count, the number they spell, and the bytes after them
-abbrev pub few : ℕ → ℕ → List ℕ → ℕ
-few base n bytes = min n (prefix_len (λ c. is_digit c base) bytes)
+abbrev pub leading_digit_count : ℕ → ℕ → List ℕ → ℕ
+leading_digit_count base n bytes = min n (prefix_len (λ c. is_digit c base) bytes)
 
-abbrev pub spelled : ℕ → ℕ → List ℕ → ℕ
-spelled base n bytes = digits_value base (take (few base n bytes) bytes)
+abbrev pub leading_number : ℕ → ℕ → List ℕ → ℕ
+leading_number base n bytes = digits_value base (take (leading_digit_count base n bytes) bytes)
 
-abbrev pub behind_digits : ℕ → ℕ → List ℕ → List ℕ
-behind_digits base n bytes = drop (few base n bytes) bytes
+abbrev pub after_leading_digits : ℕ → ℕ → List ℕ → List ℕ
+after_leading_digits base n bytes = drop (leading_digit_count base n bytes) bytes
 
 -- the UTF-8 bytes of a code point; for a number above the code points, the escape that spells it
 abbrev pub low_six : ℕ → ℕ
@@ -35,37 +35,37 @@ utf8 n =
     ∷ hexadecimal_char (n / 256) ∷ hexadecimal_char (n / 16) ∷ hexadecimal_char n ∷ []
 
 -- a high surrogate of UTF-16, and the `\u` escape of a low one
-abbrev pub is_high : ℕ → Bool
-is_high n = nat_le 55296 n && nat_lt n 56320
+abbrev pub is_high_surrogate : ℕ → Bool
+is_high_surrogate n = nat_le 55296 n && nat_lt n 56320
 
-abbrev pub is_low : ℕ → Bool
-is_low n = nat_le 56320 n && nat_lt n 57344
+abbrev pub is_low_surrogate : ℕ → Bool
+is_low_surrogate n = nat_le 56320 n && nat_lt n 57344
 
-abbrev pub is_low_escape : List ℕ → Bool
-is_low_escape (a ∷ b ∷ cs) = (a == 92 && b == 117) && (few 16 4 cs == 4 && is_low (spelled 16 4 cs))
-is_low_escape _ = false
+abbrev pub is_low_surrogate_escape : List ℕ → Bool
+is_low_surrogate_escape (a ∷ b ∷ cs) = (a == 92 && b == 117) && (leading_digit_count 16 4 cs == 4 && is_low_surrogate (leading_number 16 4 cs))
+is_low_surrogate_escape _ = false
 
-abbrev pub joined : ℕ → ℕ → ℕ
-joined high low = 65536 + ((high - 55296) * 1024 + (low - 56320))
+abbrev pub from_surrogates : ℕ → ℕ → ℕ
+from_surrogates high low = 65536 + ((high - 55296) * 1024 + (low - 56320))
 
 -- an escape, given the bytes after its backslash: its value, and the bytes after it
 pub record Escape : Type 0 where
   pub value : List ℕ
   pub behind : List ℕ
 
-abbrev pub is_pair : ℕ → List ℕ → Bool
-is_pair n behind = is_high n && is_low_escape behind
+abbrev pub is_surrogate_pair : ℕ → List ℕ → Bool
+is_surrogate_pair n behind = is_high_surrogate n && is_low_surrogate_escape behind
 
 -- the code point n; a high surrogate followed by the escape of a low one forms one code point with it
 abbrev pub code_point : ℕ → List ℕ → Escape
 code_point n behind =
-    if is_pair n behind
-    then record { value = utf8 (joined n (spelled 16 4 (drop 2 behind))); behind = drop 6 behind }
+    if is_surrogate_pair n behind
+    then record { value = utf8 (from_surrogates n (leading_number 16 4 (drop 2 behind))); behind = drop 6 behind }
     else record { value = utf8 n; behind = behind }
 
 -- a `\u` or `\U` escape, given its number of digits
 abbrev pub unicode_escape : ℕ → List ℕ → Escape
-unicode_escape most cs = code_point (spelled 16 most cs) (behind_digits 16 most cs)
+unicode_escape most cs = code_point (leading_number 16 most cs) (after_leading_digits 16 most cs)
 
 -- `\a`, `\b`, `\f`, `\n`, `\r`, `\t` and `\v` are control bytes; after a backslash every other byte represents itself
 abbrev pub simple_value : ℕ → ℕ
@@ -76,29 +76,29 @@ simple_value c =
 unfoldable pub escape_of : List ℕ → Escape
 escape_of [] = record { value = []; behind = [] }
 escape_of (c ∷ cs) =
-    if is_octal_digit c then record { value = spelled 8 3 (c ∷ cs) % 256 ∷ []; behind = behind_digits 8 3 (c ∷ cs) }
-    else if c == 120 then record { value = spelled 16 2 cs % 256 ∷ []; behind = behind_digits 16 2 cs }
+    if is_octal_digit c then record { value = leading_number 8 3 (c ∷ cs) % 256 ∷ []; behind = after_leading_digits 8 3 (c ∷ cs) }
+    else if c == 120 then record { value = leading_number 16 2 cs % 256 ∷ []; behind = after_leading_digits 16 2 cs }
     else if c == 117 then unicode_escape 4 cs
     else if c == 85 then unicode_escape 8 cs
     else record { value = simple_value c ∷ []; behind = cs }
 
 -- the value of the bytes between the quotes: each byte represents itself, but a backslash starts an escape
-pub data StandsFor : List ℕ → List ℕ → Type 0 where
-  nothing : StandsFor [] []
-  itself : (c : ℕ) (rest value : List ℕ) → c ≢ 92 → StandsFor rest value → StandsFor (c ∷ rest) (c ∷ value)
-  escape : (rest value : List ℕ) → StandsFor (escape_of rest).behind value
-      → StandsFor (92 ∷ rest) ((escape_of rest).value ++ value)
+pub data HasStringValue : List ℕ → List ℕ → Type 0 where
+  nothing : HasStringValue [] []
+  itself : (c : ℕ) (rest value : List ℕ) → c ≢ 92 → HasStringValue rest value → HasStringValue (c ∷ rest) (c ∷ value)
+  escape : (rest value : List ℕ) → HasStringValue (escape_of rest).behind value
+      → HasStringValue (92 ∷ rest) ((escape_of rest).value ++ value)
 
 -- the value as a function; the first n bytes belong to an escape that was already read
-unfoldable pub value_behind : ℕ → List ℕ → List ℕ
-value_behind n [] = []
-value_behind (suc n) (c ∷ cs) = value_behind n cs
-value_behind zero (c ∷ cs) =
-    if c == 92 then (escape_of cs).value ++ value_behind (length cs - length (escape_of cs).behind) cs
-    else c ∷ value_behind zero cs
+unfoldable pub value_skipping : ℕ → List ℕ → List ℕ
+value_skipping n [] = []
+value_skipping (suc n) (c ∷ cs) = value_skipping n cs
+value_skipping zero (c ∷ cs) =
+    if c == 92 then (escape_of cs).value ++ value_skipping (length cs - length (escape_of cs).behind) cs
+    else c ∷ value_skipping zero cs
 
 abbrev pub body_value : List ℕ → List ℕ
-body_value body = value_behind zero body
+body_value body = value_skipping zero body
 
 -- the bytes between the quotes
 abbrev pub body_of : List ℕ → List ℕ

@@ -2,7 +2,7 @@
 
 ghost use Rattle.std.specs.Prelude.{◌≡◌, ◌≤◌, ◌<◌, ◌==◌, ◌+◌, ℕ, List, length, drop, MatchOption, IfSome};
 ghost use Rattle.proto_lexer.specs.Gaps.{is_blank};
-ghost use Rattle.proto_lexer.specs.Scanning.{walk, between, slash, line, block};
+ghost use Rattle.proto_lexer.specs.Scanning.{skip_gap, between, slash, line, block};
 
 fn is_blank(byte: u8) -> bool
     ensures { result ≡ is_blank byte }
@@ -15,7 +15,7 @@ fn is_blank(byte: u8) -> bool
 fn line_end(text: &[u8], at: usize) -> usize
     requires { at ≤ length text.now }
     ensures bound { (at ≤ result) × (result ≤ length text.now) }
-    ensures gap { walk line (drop at text.now) ≡ walk between (drop result text.now) }
+    ensures gap { skip_gap line (drop at text.now) ≡ skip_gap between (drop result text.now) }
 {
     let mut i = at;
     while i < text.len() && text[i] != b'\n' {
@@ -29,8 +29,8 @@ fn line_end(text: &[u8], at: usize) -> usize
 fn block_end(text: &[u8], at: usize) -> Option<usize>
     requires { at ≤ length text.now }
     ensures bound { IfSome result (λ end. (at ≤ end) × (end ≤ length text.now)) }
-    ensures gap { MatchOption result ((start : List ℕ) → walk (block start) (drop at text.now) ≡ start)
-        (λ end. (start : List ℕ) → walk (block start) (drop at text.now) ≡ walk between (drop end text.now)) }
+    ensures gap { MatchOption result ((start : List ℕ) → skip_gap (block start) (drop at text.now) ≡ start)
+        (λ end. (start : List ℕ) → skip_gap (block start) (drop at text.now) ≡ skip_gap between (drop end text.now)) }
 {
     let mut i = at;
     while i < text.len() {
@@ -47,8 +47,8 @@ fn block_end(text: &[u8], at: usize) -> Option<usize>
 fn comment_end(text: &[u8], at: usize) -> Option<usize>
     requires { at < length text.now }
     ensures bound { IfSome result (λ end. (at < end) × (end ≤ length text.now)) }
-    ensures gap { MatchOption result (walk (slash (drop at text.now)) (drop (at + 1) text.now) ≡ drop at text.now)
-        (λ end. walk (slash (drop at text.now)) (drop (at + 1) text.now) ≡ walk between (drop end text.now)) }
+    ensures gap { MatchOption result (skip_gap (slash (drop at text.now)) (drop (at + 1) text.now) ≡ drop at text.now)
+        (λ end. skip_gap (slash (drop at text.now)) (drop (at + 1) text.now) ≡ skip_gap between (drop end text.now)) }
 {
     if at + 1 >= text.len() {
         return None;
@@ -65,7 +65,7 @@ fn comment_end(text: &[u8], at: usize) -> Option<usize>
 pub(crate) fn gap_end(text: &[u8], at: usize) -> usize
     requires { at ≤ length text.now }
     ensures bound { (at ≤ result) × (result ≤ length text.now) }
-    ensures gap { walk between (drop at text.now) ≡ drop result text.now }
+    ensures gap { skip_gap between (drop at text.now) ≡ drop result text.now }
 {
     let mut i = at;
     while i < text.len() {

@@ -10,11 +10,11 @@
 mod gap;
 mod laws;
 mod next;
+mod scan;
 mod string;
 mod token;
-mod word;
 
-pub use laws::{one_list, one_token, one_value};
+pub use laws::{next_token_is_determined, string_value_is_determined, token_list_is_determined};
 pub use next::next_token;
 pub use string::string_value;
-pub use token::{Kind, Token};
+pub use token::{Token, TokenKind};

@@ -1,11 +1,11 @@
 //! The next token of a text.
 
 ghost use Rattle.std.specs.Prelude.{◌≡◌, ◌≤◌, ◌<◌, ◌==◌, ◌+◌, length, count_by, false};
-ghost use Rattle.proto_lexer.specs.Tokens.{IsNext, line_at, is_last};
+ghost use Rattle.proto_lexer.specs.Tokens.{IsNextToken, line_of_offset, is_last};
 
 use crate::gap::gap_end;
-use crate::token::{Kind, Token};
-use crate::word::word_at;
+use crate::scan::leading_token;
+use crate::token::{Token, TokenKind};
 
 fn line_feeds(bytes: &[u8]) -> usize
     ensures { result ≡ count_by (λ c. c == 10) bytes.now }
@@ -18,25 +18,25 @@ fn line_feeds(bytes: &[u8]) -> usize
 /// proportional to the bytes from `place` to the token's end.
 pub fn next_token(text: &[u8], place: usize, line: u64) -> Token
     requires within { place ≤ length text.now }
-    requires line { line ≡ line_at text.now place }
-    ensures next { IsNext text.now place result }
+    requires line { line ≡ line_of_offset text.now place }
+    ensures next { IsNextToken text.now place result }
     ensures goes_on { is_last result.kind ≡ false → place < result.end }
-    ensures same_line { is_last result.kind ≡ false → line_at text.now result.end ≡ result.line }
+    ensures same_line { is_last result.kind ≡ false → line_of_offset text.now result.end ≡ result.line }
 {
     let start = gap_end(text, place);
     let line = line + line_feeds(&text[place..start]) as u64;
     let rest = &text[start..];
     if rest.is_empty() {
         return Token {
-            kind: Kind::End,
+            kind: TokenKind::End,
             start,
             end: start,
             line,
         };
     }
-    match word_at(rest) {
+    match leading_token(rest) {
         None => Token {
-            kind: Kind::Bad,
+            kind: TokenKind::Bad,
             start,
             end: start + 1,
             line,

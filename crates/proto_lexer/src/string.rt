@@ -3,17 +3,17 @@
 ghost use Rattle.std.specs.Prelude.{◌≡◌, ◌≤◌, ◌<◌, ◌+◌, ◌-◌, ◌^◌, ◌++◌, true, length, drop, IfOk, OnOk};
 ghost use Rattle.std.specs.List.{prefix_len};
 ghost use Rattle.std.specs.Char.{is_digit, digit_char};
-ghost use Rattle.proto_lexer.specs.Strings.{few, spelled, utf8, low_six, hexadecimal_char, is_high, is_low};
-ghost use Rattle.proto_lexer.specs.Strings.{is_low_escape, is_pair, code_point, unicode_escape, simple_value};
-ghost use Rattle.proto_lexer.specs.Strings.{escape_of, StandsFor, body_of, string_value};
+ghost use Rattle.proto_lexer.specs.Strings.{leading_digit_count, leading_number, utf8, low_six, hexadecimal_char, is_high_surrogate, is_low_surrogate};
+ghost use Rattle.proto_lexer.specs.Strings.{is_low_surrogate_escape, is_surrogate_pair, code_point, unicode_escape, simple_value};
+ghost use Rattle.proto_lexer.specs.Strings.{escape_of, HasStringValue, body_of, string_value};
 
-use crate::word::{digits_len, is_digit};
+use crate::scan::{digits_len, is_digit};
 use mrpc_table::{Bytes, Memory, number_capped};
 use std::alloc::Global;
 
 // The number of leading digits of a base, at most `most`.
-fn few(bytes: &[u8], base: u8, most: usize) -> usize
-    ensures value { result ≡ few base most bytes.now }
+fn leading_digit_count(bytes: &[u8], base: u8, most: usize) -> usize
+    ensures value { result ≡ leading_digit_count base most bytes.now }
     ensures bound { result ≤ length bytes.now }
 {
     digits_len(bytes, base).min(most)
@@ -21,13 +21,13 @@ fn few(bytes: &[u8], base: u8, most: usize) -> usize
 
 // The number that the leading digits spell, at most `most` digits.
 #[tactic(auto, using(crate::proofs::Spelled::spelled_small))]
-fn spelled(bytes: &[u8], base: u8, most: usize) -> u32
+fn leading_number(bytes: &[u8], base: u8, most: usize) -> u32
     requires base { base ≤ 16 }
     requires most { most ≤ 8 }
     requires some { 0 < base }
-    ensures { result ≡ spelled base most bytes.now }
+    ensures { result ≡ leading_number base most bytes.now }
 {
-    let number = number_capped(&bytes[..few(bytes, base, most)], base);
+    let number = number_capped(&bytes[..leading_digit_count(bytes, base, most)], base);
     number as u32
 }
 
@@ -89,45 +89,46 @@ fn push_utf8(out: &mut Bytes, number: u32) -> Result<(), Memory>
     }
 }
 
-fn is_low_escape(bytes: &[u8]) -> bool
-    ensures value { result ≡ is_low_escape bytes.now }
+fn is_low_surrogate_escape(bytes: &[u8]) -> bool
+    ensures value { result ≡ is_low_surrogate_escape bytes.now }
     ensures long { result ≡ true → 6 ≤ length bytes.now }
 {
     match bytes {
-        [b'\\', b'u', digits @ ..] => few(digits, 16, 4) == 4 && is_low(spelled(digits, 16, 4)),
+        [b'\\', b'u', digits @ ..] => leading_digit_count(digits, 16, 4) == 4
+            && is_low_surrogate(leading_number(digits, 16, 4)),
         _ => false,
     }
 }
 
-fn is_low(number: u32) -> bool
-    ensures { result ≡ is_low number }
+fn is_low_surrogate(number: u32) -> bool
+    ensures { result ≡ is_low_surrogate number }
 {
     number >= 56320 && number < 57344
 }
 
-fn is_high(number: u32) -> bool
-    ensures { result ≡ is_high number }
+fn is_high_surrogate(number: u32) -> bool
+    ensures { result ≡ is_high_surrogate number }
 {
     number >= 55296 && number < 56320
 }
 
 // True if a number and the escape after it form a surrogate pair.
-fn is_pair(number: u32, behind: &[u8]) -> bool
-    ensures value { result ≡ is_pair number behind.now }
+fn is_surrogate_pair(number: u32, behind: &[u8]) -> bool
+    ensures value { result ≡ is_surrogate_pair number behind.now }
     ensures long { result ≡ true → 6 ≤ length behind.now }
     ensures high { result ≡ true → (55296 ≤ number) × (number < 56320) }
 {
-    is_high(number) && is_low_escape(behind)
+    is_high_surrogate(number) && is_low_surrogate_escape(behind)
 }
 
 // The low half of a surrogate pair.
-fn low_half(behind: &[u8]) -> u32
-    requires { is_low_escape behind.now ≡ true }
-    ensures value { result ≡ spelled 16 4 (drop 2 behind.now) }
+fn low_surrogate(behind: &[u8]) -> u32
+    requires { is_low_surrogate_escape behind.now ≡ true }
+    ensures value { result ≡ leading_number 16 4 (drop 2 behind.now) }
     ensures low { (56320 ≤ result) × (result < 57344) }
 {
     match behind {
-        [_, _, digits @ ..] => spelled(digits, 16, 4),
+        [_, _, digits @ ..] => leading_number(digits, 16, 4),
         _ => 0,
     }
 }
@@ -139,8 +140,8 @@ fn push_code_point(out: &mut Bytes, number: u32, behind: &[u8]) -> Result<usize,
     ensures rest { IfOk result (λ n. drop n behind.now ≡ (code_point number behind.now).behind) }
     ensures bound { IfOk result (λ n. n ≤ length behind.now) }
 {
-    if is_pair(number, behind) {
-        let low = low_half(behind);
+    if is_surrogate_pair(number, behind) {
+        let low = low_surrogate(behind);
         push_utf8(out, 65536 + ((number - 55296) * 1024 + (low - 56320)))?;
         Ok(6)
     } else {
@@ -157,8 +158,8 @@ fn push_unicode(out: &mut Bytes, digits: &[u8], most: usize) -> Result<usize, Me
     ensures rest { IfOk result (λ n. drop n digits.now ≡ (unicode_escape most digits.now).behind) }
     ensures bound { IfOk result (λ n. n ≤ length digits.now) }
 {
-    let len = few(digits, 16, most);
-    let more = push_code_point(out, spelled(digits, 16, most), &digits[len..])?;
+    let len = leading_digit_count(digits, 16, most);
+    let more = push_code_point(out, leading_number(digits, 16, most), &digits[len..])?;
     Ok(len + more)
 }
 
@@ -189,11 +190,11 @@ fn push_escape(out: &mut Bytes, behind: &[u8]) -> Result<usize, Memory>
         return Ok(0);
     };
     if is_digit(*first, 8) {
-        out.push((spelled(behind, 8, 3) % 256) as u8)?;
-        Ok(few(behind, 8, 3))
+        out.push((leading_number(behind, 8, 3) % 256) as u8)?;
+        Ok(leading_digit_count(behind, 8, 3))
     } else if *first == b'x' {
-        out.push((spelled(digits, 16, 2) % 256) as u8)?;
-        Ok(few(digits, 16, 2) + 1)
+        out.push((leading_number(digits, 16, 2) % 256) as u8)?;
+        Ok(leading_digit_count(digits, 16, 2) + 1)
     } else if *first == b'u' {
         Ok(1 + push_unicode(out, digits, 4)?)
     } else if *first == b'U' {
@@ -208,7 +209,7 @@ fn push_escape(out: &mut Bytes, behind: &[u8]) -> Result<usize, Memory>
 pub fn string_value(alloc: Global, literal: &[u8]) -> Result<Bytes, Memory>
     requires two { 2 ≤ length literal.now }
     requires small { length literal.now < 2 ^ 62 }
-    ensures stands_for { IfOk result (λ value. StandsFor (body_of literal.now) value) }
+    ensures stands_for { IfOk result (λ value. HasStringValue (body_of literal.now) value) }
     ensures value { IfOk result (λ value. value ≡ string_value literal.now) }
 {
     let body = &literal[1..literal.len() - 1];

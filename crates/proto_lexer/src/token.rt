@@ -4,7 +4,7 @@ use mrpc_table::Decimal;
 
 /// The kind of a token.
 #[derive(Clone, Copy, PartialEq, Eq)]
-pub enum Kind {
+pub enum TokenKind {
     /// A letter or `_`, followed by letters, digits and `_`.
     Identifier,
     /// An integer: decimal, octal after `0`, or hexadecimal after `0x`.
@@ -24,7 +24,7 @@ pub enum Kind {
 /// A token and its position in the text.
 #[derive(Clone, Copy)]
 pub struct Token {
-    pub kind: Kind,
+    pub kind: TokenKind,
     /// The offset of its first byte, from 0. For `End`, the length of the text.
     pub start: usize,
     /// The offset just after its last byte. For `Bad`, just after the first byte at fault.

@@ -5,12 +5,12 @@ use Rattle.std.specs.Prelude.{Option, Some, slice_get, Contains}
 use Rattle.std.proofs.lemmas.Option.{slice_get-get_or}
 use Rattle.proto_grammar.specs.Lexemes.{Lexeme}
 use Rattle.proto_schema.specs.Files
-use Rattle.proto_schema.specs.Files.{Draft, Statement, Says, Forms, ClosesTo, nothing_said, edit_open, edit_last, innermost_of}
-use Rattle.proto_schema.specs.Faults.{IsTextOf}
+use Rattle.proto_schema.specs.Files.{Draft, IsStatement, AreStatementsOf, AreFileTokens, IsBlockEnd, initial_draft, edit_open, edit_last, innermost_of}
+use Rattle.proto_schema.specs.Faults.{IsProtoTextOf}
 use Rattle.proto_ast.specs.Joined.{alone}
 use Rattle.proto_ast.specs.Order
 use Rattle.proto_ast.specs.Together
-use Rattle.proto_ast.specs.Together.{Declaration, StandsAt, package_decl, message_decl, field_decl, oneof_decl, enum_decl, value_decl, service_decl, rpc_decl}
+use Rattle.proto_ast.specs.Together.{DeclIndex, IsPartSpan, package_decl, message_decl, field_decl, oneof_decl, enum_decl, value_decl, service_decl, rpc_decl}
 use Rattle.proto_ast.specs.declared.file.Span.{Span}
 use Rattle.proto_ast.specs.declared.file.MessageDecl.{MessageDecl}
 use Rattle.proto_ast.specs.declared.file.EnumDecl.{EnumDecl}
@@ -92,14 +92,14 @@ zero_in_service F f same k = record {
   ];
 }
 
-zero_close : (d : Draft) {other : Draft} → ClosesTo d other → IsAtZero d.file → IsAtZero other.file
+zero_close : (d : Draft) {other : Draft} → IsBlockEnd d other → IsAtZero d.file → IsAtZero other.file
 zero_close d (Files.message_ends i is b e) k = k
 zero_close d (Files.oneof_ends i b) k = k
 zero_close d (Files.enum_ends b) k = k
 zero_close d (Files.service_ends b) k = k
 zero_close d (Files.rpc_ends b) k = k
 
-zero_statement : (d : Draft) {all : List Lexeme} {other : Draft} → Statement d all other → IsAtZero d.file → IsAtZero other.file
+zero_statement : (d : Draft) {all : List Lexeme} {other : Draft} → IsStatement d all other → IsAtZero d.file → IsAtZero other.file
 zero_statement d (Files.package_name x z i n hx f hz a) k = record { messages = k.messages; enums = k.enums; services = k.services }
 zero_statement d (Files.import x y z path i hx hy hz a) k = record { messages = k.messages; enums = k.enums; services = k.services }
 zero_statement d (Files.public_import x p y z path i hx hp hy hz a) k = record { messages = k.messages; enums = k.enums; services = k.services }
@@ -120,21 +120,21 @@ zero_statement d (Files.rpc z q f hz a) k = zero_in_service d.file _ (λ s. refl
 zero_statement d (Files.rpc_with_options z q f hz a) k = zero_in_service d.file _ (λ s. refl) k
 zero_statement d (Files.close x hx a c) k = zero_close d c k
 
-nothing_zero : IsAtZero nothing_said.file
+nothing_zero : IsAtZero initial_draft.file
 nothing_zero = record {
   messages = λ i m e. absurd (nothing_at i m e);
   enums = λ i e q. absurd (nothing_at i e q);
   services = λ i s e. absurd (nothing_at i s e);
 }
 
-zero_so_far : {xs : List Lexeme} {d : Draft} → Says xs d → IsAtZero d.file
+zero_so_far : {xs : List Lexeme} {d : Draft} → AreStatementsOf xs d → IsAtZero d.file
 zero_so_far (Files.start x) = nothing_zero
 zero_so_far (Files.another {c = c} x y a) = zero_statement c y (zero_so_far x)
 
-zero_file : {xs : List Lexeme} {F : File} → Forms xs F → IsAtZero F
+zero_file : {xs : List Lexeme} {F : File} → AreFileTokens xs F → IsAtZero F
 zero_file (Files.whole x s w m a) = zero_so_far s
 
-at_zero : (text : List ℕ) (F : File) → IsTextOf text F → IsAtZero F
+at_zero : (text : List ℕ) (F : File) → IsProtoTextOf text F → IsAtZero F
 at_zero text F h = zero_file h.reads
 
 -- ---- indices and forms of names
@@ -183,7 +183,7 @@ formed_alone F z f = record {
 -- ---- names and numbers
 
 -- the declaration in a file by itself, and back
-abbrev by_itself : Declaration → Order.Declaration
+abbrev by_itself : DeclIndex → Order.DeclIndex
 by_itself (package_decl k) = Order.package_decl
 by_itself (message_decl i) = Order.message_decl i
 by_itself (field_decl i j) = Order.field_decl i j
@@ -193,7 +193,7 @@ by_itself (value_decl i j) = Order.value_decl i j
 by_itself (service_decl i) = Order.service_decl i
 by_itself (rpc_decl i j) = Order.rpc_decl i j
 
-abbrev back : Order.Declaration → Declaration
+abbrev back : Order.DeclIndex → DeclIndex
 back Order.package_decl = package_decl 0
 back (Order.import_decl i) = package_decl 0
 back (Order.message_decl i) = message_decl i
@@ -204,10 +204,10 @@ back (Order.value_decl i j) = value_decl i j
 back (Order.service_decl i) = service_decl i
 back (Order.rpc_decl i j) = rpc_decl i j
 
-package_at_zero : (F : File) {s : Span} {k : ℕ} {p : Order.Part} → StandsAt (alone F) s (package_decl k) p → k ≡ 0
+package_at_zero : (F : File) {s : Span} {k : ℕ} {p : Order.DeclPart} → IsPartSpan (alone F) s (package_decl k) p → k ≡ 0
 package_at_zero F (Together.package_name k h w e q u) = one_place (head_of F) h k e
 
-there_and_back : (F : File) {s : Span} {p : Order.Part} (x : Declaration) → StandsAt (alone F) s x p → back (by_itself x) ≡ x
+there_and_back : (F : File) {s : Span} {p : Order.DeclPart} (x : DeclIndex) → IsPartSpan (alone F) s x p → back (by_itself x) ≡ x
 there_and_back F (package_decl k) h = ap package_decl (sym (package_at_zero F h))
 there_and_back F (message_decl i) h = refl
 there_and_back F (field_decl i j) h = refl
@@ -217,7 +217,7 @@ there_and_back F (value_decl i j) h = refl
 there_and_back F (service_decl i) h = refl
 there_and_back F (rpc_decl i j) h = refl
 
-stands : {F : File} {s : Span} {x : Declaration} {p : Order.Part} → StandsAt (alone F) s x p → Order.StandsAt F s (by_itself x) p
+stands : {F : File} {s : Span} {x : DeclIndex} {p : Order.DeclPart} → IsPartSpan (alone F) s x p → Order.IsPartSpan F s (by_itself x) p
 stands {F = F} (Together.package_name k h w e q u) =
     Order.package_name w (ap (λ (h : Head). h.package) (one_item (head_of F) h k e) ∙ q) u
 stands (Together.message i m e u) = Order.message i m e u
@@ -228,7 +228,7 @@ stands (Together.value i j e v q g h) = Order.value i j e v q g h
 stands (Together.service i y q u) = Order.service i y q u
 stands (Together.rpc i j y r q g h) = Order.rpc i j y r q g h
 
-precedes : {x y : Declaration} → Together.Precedes x y → Order.Precedes (by_itself x) (by_itself y)
+precedes : {x y : DeclIndex} → Together.IsAlwaysBefore x y → Order.IsAlwaysBefore (by_itself x) (by_itself y)
 precedes (Together.messages i j l) = Order.messages i j l
 precedes (Together.enums i j l) = Order.enums i j l
 precedes (Together.services i j l) = Order.services i j l
@@ -242,8 +242,8 @@ precedes (Together.in_enum i j) = Order.in_enum i j
 precedes (Together.in_service i j) = Order.in_service i j
 
 -- each declaration is of the file with index 0
-of_zero : (F : File) {k : ℕ} {x : Declaration} {s : Span} {p : Order.Part} → IsAtZero F → Together.IsInFile (alone F) k x
-    → StandsAt (alone F) s x p → k ≡ 0
+of_zero : (F : File) {k : ℕ} {x : DeclIndex} {s : Span} {p : Order.DeclPart} → IsAtZero F → Together.IsInFile (alone F) k x
+    → IsPartSpan (alone F) s x p → k ≡ 0
 of_zero F z Together.its_package h = package_at_zero F h
 of_zero F z (Together.in_message_of i m e q) h = sym q ∙ z.messages i m e
 of_zero F z (Together.in_field_of i j m e q) h = sym q ∙ z.messages i m e
@@ -260,14 +260,14 @@ ordered_alone F z o = record {
       (sym (there_and_back F x h) ∙ (ap back a ∙ there_and_back F y g), b, c);
   ascend = λ x y p q s t l h g. o.ascend (by_itself x) (by_itself y) p q s t (precedes l) (stands h) (stands g);
   parts = λ x p q s t l h g. o.parts (by_itself x) p q s t l (stands h) (stands g);
-  enum_behind = o.enum_behind;
+  enum_after = o.enum_after;
   files = λ j k x y p q s t l a b h g. absurd (let e : k ≡ 0 = of_zero F z b g in omega arith);
 }
 
 -- ---- texts
 
-pub text_formed_alone : (text : List ℕ) (F : File) → IsTextOf text F → Together.IsFormed (alone F)
+pub text_formed_alone : (text : List ℕ) (F : File) → IsProtoTextOf text F → Together.IsFormed (alone F)
 text_formed_alone text F h = formed_alone F (at_zero text F h) (well_formed text F h)
 
-pub text_ordered_alone : (text : List ℕ) (F : File) → IsTextOf text F → Together.IsOrdered (alone F)
+pub text_ordered_alone : (text : List ℕ) (F : File) → IsProtoTextOf text F → Together.IsOrdered (alone F)
 text_ordered_alone text F h = ordered_alone F (at_zero text F h) (in_order text F h)

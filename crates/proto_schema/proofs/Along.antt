@@ -12,9 +12,9 @@ use Rattle.mrpc_table.specs.Lines.{is_decimal, in_64_bits}
 use Rattle.proto_lexer.specs.Strings.{string_value}
 use Rattle.proto_lexer.specs.Literals.{IsInteger, IsNumber}
 use Rattle.proto_lexer.specs.Literals
-use Rattle.proto_lexer.specs.Tokens.{Stands, IsHere, AreTokens, literal_of, is_last}
+use Rattle.proto_lexer.specs.Tokens.{IsToken, IsTokenAt, AreTokens, literal_of, is_last}
 use Rattle.proto_lexer.specs.Tokens
-use Rattle.proto_lexer.specs.declared.token.Kind.{Kind}
+use Rattle.proto_lexer.specs.declared.token.TokenKind.{TokenKind}
 use Rattle.proto_lexer.specs.declared.token.Token.{Token}
 use Rattle.proto_ast.specs.Dot.{dot}
 use Rattle.proto_grammar.specs.Lexemes.{identifier, integer, number, string, mark, the_end, none, Lexeme, lexeme, lexemes, meaning, IsWord}
@@ -44,27 +44,27 @@ along_split b (x ∷ xs) ys e (l, s, h) =
 
 -- ---- the tokens of a text
 
-spelt_word : (k : Kind) (literal rest name : List ℕ) → Stands k literal rest → meaning k literal ≡ identifier name
+spelt_word : (k : TokenKind) (literal rest name : List ℕ) → IsToken k literal rest → meaning k literal ≡ identifier name
     → is_name_form name ≡ true
 spelt_word k literal rest name (Tokens.identifier e f b) h =
-    let q : identifier literal ≡ identifier name = ap (λ (k : Kind). meaning k literal) (sym e) ∙ h in
+    let q : identifier literal ≡ identifier name = ap (λ (k : TokenKind). meaning k literal) (sym e) ∙ h in
     let r : literal ≡ name = (cc) in
     subst (λ (l : List ℕ). is_name_form l ≡ true) r f
 spelt_word k literal rest name (Tokens.integer v e f b) h =
-    absurd (let q : integer (in_64_bits v) ≡ identifier name = ap (λ (k : Kind). meaning k literal) (sym e) ∙ h in cc)
+    absurd (let q : integer (in_64_bits v) ≡ identifier name = ap (λ (k : TokenKind). meaning k literal) (sym e) ∙ h in cc)
 spelt_word k literal rest name (Tokens.number e f b) h =
-    absurd (let q : number ≡ identifier name = ap (λ (k : Kind). meaning k literal) (sym e) ∙ h in cc)
+    absurd (let q : number ≡ identifier name = ap (λ (k : TokenKind). meaning k literal) (sym e) ∙ h in cc)
 spelt_word k literal rest name (Tokens.string quote body e f g b) h =
-    absurd (let q : string (string_value literal) ≡ identifier name = ap (λ (k : Kind). meaning k literal) (sym e) ∙ h in cc)
+    absurd (let q : string (string_value literal) ≡ identifier name = ap (λ (k : TokenKind). meaning k literal) (sym e) ∙ h in cc)
 spelt_word k literal rest name (Tokens.mark c e f g b) h =
-    absurd (let q : mark c ≡ identifier name = ap (λ (k : Kind). meaning k literal) (sym e) ∙ h in cc)
+    absurd (let q : mark c ≡ identifier name = ap (λ (k : TokenKind). meaning k literal) (sym e) ∙ h in cc)
 
-spelt_token : (text : List ℕ) (t : Token) → IsHere text t → IsSpelt (lexeme text t)
+spelt_token : (text : List ℕ) (t : Token) → IsTokenAt text t → IsSpelt (lexeme text t)
 spelt_token text t (Tokens.word l s) = record { form = λ name h. spelt_word t.kind (literal_of text t) (drop t.end text) name s h }
 spelt_token text t (Tokens.the_end e s f) =
-    record { form = λ name h. absurd (let q : the_end ≡ identifier name = ap (λ (k : Kind). meaning k (literal_of text t)) (sym e) ∙ h in cc) }
+    record { form = λ name h. absurd (let q : the_end ≡ identifier name = ap (λ (k : TokenKind). meaning k (literal_of text t)) (sym e) ∙ h in cc) }
 spelt_token text t (Tokens.no_word e s f) =
-    record { form = λ name h. absurd (let q : none ≡ identifier name = ap (λ (k : Kind). meaning k (literal_of text t)) (sym e) ∙ h in cc) }
+    record { form = λ name h. absurd (let q : none ≡ identifier name = ap (λ (k : TokenKind). meaning k (literal_of text t)) (sym e) ∙ h in cc) }
 
 -- ---- a token has at least one byte
 
@@ -89,14 +89,14 @@ some_number (Literals.point whole part power e h d p) = no_decimal whole (46 ∷
 some_number (Literals.fraction part power e s d p) = not_nothing 46 (part ++ power) e
 some_number (Literals.exponent whole power e h p) = no_decimal whole power h e
 
-some_bytes : (k : Kind) (rest : List ℕ) → Stands k [] rest → ⊥
+some_bytes : (k : TokenKind) (rest : List ℕ) → IsToken k [] rest → ⊥
 some_bytes k rest (Tokens.identifier e f b) = let t : false ≡ true = f in cc
 some_bytes k rest (Tokens.integer v e f b) = some_integer v f
 some_bytes k rest (Tokens.number e f b) = some_number f
 some_bytes k rest (Tokens.string quote body e f g b) = not_nothing quote (body ++ quote ∷ []) g
 some_bytes k rest (Tokens.mark c e f g b) = not_nothing c [] f
 
-long_token : (text : List ℕ) (t : Token) → t.start ≤ t.end → Stands t.kind (literal_of text t) (drop t.end text)
+long_token : (text : List ℕ) (t : Token) → t.start ≤ t.end → IsToken t.kind (literal_of text t) (drop t.end text)
     → t.start < t.end
 long_token text t l s = by (cases_lt t.start t.end)
   where
@@ -105,14 +105,14 @@ long_token text t l s = by (cases_lt t.start t.end)
     by (inr k) =
         let n : t.end - t.start ≡ 0 = omega arith in
         let e : literal_of text t ≡ [] = ap (λ (n : ℕ). take n (drop t.start text)) n in
-        absurd (some_bytes t.kind (drop t.end text) (subst (λ (l : List ℕ). Stands t.kind l (drop t.end text)) e s))
+        absurd (some_bytes t.kind (drop t.end text) (subst (λ (l : List ℕ). IsToken t.kind l (drop t.end text)) e s))
 
-token_starts : (text : List ℕ) (t : Token) → IsHere text t → t.end ≤ length text → t.start ≤ length text
+token_starts : (text : List ℕ) (t : Token) → IsTokenAt text t → t.end ≤ length text → t.start ≤ length text
 token_starts text t (Tokens.word l s) w = omega arith
 token_starts text t (Tokens.the_end e s f) w = omega arith
 token_starts text t (Tokens.no_word e s f) w = omega arith
 
-pub token_goes : (text : List ℕ) (t : Token) → IsHere text t → is_last t.kind ≡ false → t.start < t.end
+pub token_goes : (text : List ℕ) (t : Token) → IsTokenAt text t → is_last t.kind ≡ false → t.start < t.end
 token_goes text t (Tokens.word l s) n = long_token text t l s
 token_goes text t (Tokens.the_end e s f) n = absurd (not_false (is_last t.kind) n (ap is_last e))
 token_goes text t (Tokens.no_word e s f) n = absurd (not_false (is_last t.kind) n (ap is_last e))

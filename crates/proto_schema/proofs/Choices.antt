@@ -5,9 +5,9 @@ use Rattle.std.specs.Str.{bytes_eq}
 use Rattle.std.proofs.lemmas.Bool.{or_right}
 use Rattle.std.proofs.lemmas.Slice.Eq.{bytes_eq-Decides}
 use Rattle.mrpc_table.specs.declared.words.Decimal.{Decimal}
-use Rattle.proto_grammar.specs.Lexemes.{Meaning, identifier, integer, number, string, mark, the_end, none, Lexeme, IsWord, says}
-use Rattle.proto_grammar.specs.Reading.{wrong, by_name, if_name, by_number, if_number, by_string, if_string, is_string, is_number}
-use Rattle.proto_grammar.specs.Grammar.{AnyNumber, an_integer, a_number}
+use Rattle.proto_grammar.specs.Lexemes.{TokenMeaning, identifier, integer, number, string, mark, the_end, none, Lexeme, IsWord, is_the_word}
+use Rattle.proto_grammar.specs.Advancing.{wrong, by_name, if_name, by_number, if_number, by_string, if_string, is_string, is_number}
+use Rattle.proto_grammar.specs.Grammar.{IsAnyNumber, an_integer, a_number}
 use Rattle.proto_grammar.specs.declared.fault.ProtoFault.{ProtoFault}
 
 pub either_is : {A : Type 0} (P : A → Type 0) (b : Bool) (x y : A) → (b ≡ true → P x) → (b ≡ false → P y)
@@ -19,7 +19,7 @@ pub named_is : {X : Type 0} (P : Result X ProtoFault → Type 0) (x : Lexeme) (f
     → ((n : List ℕ) → IsWord x n → P (Ok (f n))) → P (wrong x) → P (if_name x f)
 named_is {X} P x f h k = by x.means refl
   where
-    by : (m : Meaning) → x.means ≡ m → P (by_name x f m)
+    by : (m : TokenMeaning) → x.means ≡ m → P (by_name x f m)
     by (identifier n) e = h n e
     by (integer value) e = k
     by number e = k
@@ -32,7 +32,7 @@ pub numbered_is : {X : Type 0} (P : Result X ProtoFault → Type 0) (x : Lexeme)
     → ((v : Decimal) → x.means ≡ integer v → P (Ok (f v))) → P (wrong x) → P (if_number x f)
 numbered_is {X} P x f h k = by x.means refl
   where
-    by : (m : Meaning) → x.means ≡ m → P (by_number x f m)
+    by : (m : TokenMeaning) → x.means ≡ m → P (by_number x f m)
     by (identifier n) e = k
     by (integer value) e = h value e
     by number e = k
@@ -45,7 +45,7 @@ pub string_is : {X : Type 0} (P : Result X ProtoFault → Type 0) (x : Lexeme) (
     → ((v : List ℕ) → x.means ≡ string v → P (Ok (f v))) → P (wrong x) → P (if_string x f)
 string_is {X} P x f h k = by x.means refl
   where
-    by : (m : Meaning) → x.means ≡ m → P (by_string x f m)
+    by : (m : TokenMeaning) → x.means ≡ m → P (by_string x f m)
     by (identifier n) e = k
     by (integer value) e = k
     by number e = k
@@ -62,7 +62,7 @@ same_bytes v w h = (bytes_eq-Decides v w).0 h
 pub bytes_same : (v w : List ℕ) → v ≡ w → bytes_eq v w ≡ true
 bytes_same v w h = (bytes_eq-Decides v w).1 h
 
-pub word_is : (m : Meaning) (w : List ℕ) → says m w ≡ true → m ≡ identifier w
+pub word_is : (m : TokenMeaning) (w : List ℕ) → is_the_word m w ≡ true → m ≡ identifier w
 word_is (identifier n) w h = ap identifier (same_bytes n w h)
 word_is (integer value) w h = absurd (let t : false ≡ true = h in cc)
 word_is number w h = absurd (let t : false ≡ true = h in cc)
@@ -71,7 +71,7 @@ word_is (mark c) w h = absurd (let t : false ≡ true = h in cc)
 word_is the_end w h = absurd (let t : false ≡ true = h in cc)
 word_is none w h = absurd (let t : false ≡ true = h in cc)
 
-pub string_meant : (m : Meaning) → is_string m ≡ true → (v : List ℕ) × (m ≡ string v)
+pub string_meant : (m : TokenMeaning) → is_string m ≡ true → (v : List ℕ) × (m ≡ string v)
 string_meant (string v) h = (v, refl)
 string_meant (identifier n) h = absurd (let t : false ≡ true = h in cc)
 string_meant (integer value) h = absurd (let t : false ≡ true = h in cc)
@@ -80,10 +80,10 @@ string_meant (mark c) h = absurd (let t : false ≡ true = h in cc)
 string_meant the_end h = absurd (let t : false ≡ true = h in cc)
 string_meant none h = absurd (let t : false ≡ true = h in cc)
 
-pub number_meant : (x : Lexeme) → is_number x.means ≡ true → AnyNumber x
+pub number_meant : (x : Lexeme) → is_number x.means ≡ true → IsAnyNumber x
 number_meant x h = by x.means refl h
   where
-    by : (m : Meaning) → x.means ≡ m → is_number m ≡ true → AnyNumber x
+    by : (m : TokenMeaning) → x.means ≡ m → is_number m ≡ true → IsAnyNumber x
     by (integer v) e h = an_integer v e
     by number e h = a_number e
     by (identifier n) e h = absurd (let t : false ≡ true = h in cc)

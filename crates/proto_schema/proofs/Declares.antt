@@ -4,7 +4,7 @@ use Rattle.std.proofs.Common.{◌≡◌, ◌⊎◌, inl, inr, ℕ, zero, suc, �
 use Rattle.std.specs.Prelude.{Option, Some, None, slice_get}
 use Rattle.std.proofs.lemmas.Bool.{cases_lt}
 use Rattle.std.proofs.lemmas.Option.{slice_get_within}
-use Rattle.proto_ast.specs.Order.{Declaration, package_decl, import_decl, message_decl, enum_decl, service_decl, Part, its_name, StandsAt, Precedes}
+use Rattle.proto_ast.specs.Order.{DeclIndex, package_decl, import_decl, message_decl, enum_decl, service_decl, DeclPart, its_name, IsPartSpan, IsAlwaysBefore}
 use Rattle.proto_ast.specs.Order
 use Rattle.proto_ast.specs.declared.file.Span.{Span}
 use Rattle.proto_ast.specs.declared.file.MessageDecl.{MessageDecl}
@@ -16,7 +16,7 @@ use Rattle.proto_ast.specs.declared.file.FieldDecl.{FieldDecl}
 use Rattle.proto_ast.specs.declared.file.ValueDecl.{ValueDecl}
 use Rattle.proto_ast.specs.declared.file.ServiceDecl.{ServiceDecl}
 use Rattle.proto_schema.specs.Files.{edit_at, edit_open, edit_last}
-use Rattle.proto_ast.specs.Order.{IsPlaceBelow}
+use Rattle.proto_ast.specs.Order.{IsIndexBelow}
 use Rattle.proto_schema.proofs.Drafts.{edit_beyond}
 use Rattle.proto_schema.proofs.Places.{nothing_at, in_pushed, changed, kept, in_edited_open, in_edited_last}
 use Rattle.proto_schema.proofs.Spans.{IsWithin}
@@ -28,8 +28,8 @@ use Rattle.proto_schema.proofs.KeptOrder.{message_in, field_in, oneof_in, enum_i
 
 -- ---- the package, and imports
 
-pub package_old : (F : File) (w : Word) (x : Declaration) (p : Part) (s : Span) → StandsAt (record F { «package» = Some w }) s x p
-    → StandsAt F s x p ⊎ ((x ≡ package_decl) × IsName w.span s p)
+pub package_old : (F : File) (w : Word) (x : DeclIndex) (p : DeclPart) (s : Span) → IsPartSpan (record F { «package» = Some w }) s x p
+    → IsPartSpan F s x p ⊎ ((x ≡ package_decl) × IsName w.span s p)
 package_old F w x p s (Order.package_name v e h) =
     let t : ◌≡◌ (Some w) (Some v) = e in let q : w ≡ v = (cc) in inr (refl, (refl, h ∙ ap (λ (w : Word). w.span) (sym q)))
 package_old F w x p s (Order.import i y e h) = inl (Order.import i y e h)
@@ -41,10 +41,10 @@ package_old F w x p s (Order.value i j e v q g h) = inl (Order.value i j e v q g
 package_old F w x p s (Order.service i y q h) = inl (Order.service i y q h)
 package_old F w x p s (Order.rpc i j y r q g h) = inl (Order.rpc i j y r q g h)
 
-pub package_first : {y : Declaration} → Precedes package_decl y → ⊥
+pub package_first : {y : DeclIndex} → IsAlwaysBefore package_decl y → ⊥
 package_first o = elim o [ ]
 
-pub package_fresh : {F : File} {s : Span} {p : Part} → F.package ≡ None → StandsAt F s package_decl p → ⊥
+pub package_fresh : {F : File} {s : Span} {p : DeclPart} → F.package ≡ None → IsPartSpan F s package_decl p → ⊥
 package_fresh n (Order.package_name w e h) = let t : ◌≡◌ None (Some w) = sym n ∙ e in cc
 
 pub kept_package : (F : File) (b c : ℕ) (w : Word) → F.package ≡ None → b ≤ c → IsWithin b c w.span.start → Kept F b
@@ -52,10 +52,10 @@ pub kept_package : (F : File) (b c : ℕ) (w : Word) → F.package ≡ None → 
 kept_package F b c w n l i k =
     kept_adds F (record F { «package» = Some w }) b c package_decl (IsName w.span) k l
     (adds_name w.span F (record F { «package» = Some w }) b c package_decl (package_old F w) (λ y p s o h. package_first o) (λ p s h. package_fresh n h) i)
-    k.ordered.enum_behind
+    k.ordered.enum_after
 
-pub import_old : (F : File) (y : Import) (x : Declaration) (p : Part) (s : Span) → StandsAt (record F { imports = F.imports ++ y ∷ [] }) s x p
-    → StandsAt F s x p ⊎ ((x ≡ import_decl (length F.imports)) × IsName y.span s p)
+pub import_old : (F : File) (y : Import) (x : DeclIndex) (p : DeclPart) (s : Span) → IsPartSpan (record F { imports = F.imports ++ y ∷ [] }) s x p
+    → IsPartSpan F s x p ⊎ ((x ≡ import_decl (length F.imports)) × IsName y.span s p)
 import_old F y x p s (Order.package_name v e h) = inl (Order.package_name v e h)
 import_old F y x p s (Order.import i z e h) =
     elim (in_pushed F.imports y i z e) [
@@ -77,7 +77,7 @@ kept_import F b c y l i k =
     (adds_name y.span F (record F { imports = F.imports ++ y ∷ [] }) b c (import_decl (length F.imports)) (import_old F y)
     (λ z p s o h. absurd (let q : length F.imports < length F.imports = import_precedes o h in omega arith))
     (λ p s h. absurd (let q : length F.imports < length F.imports = import_place h in omega arith)) i)
-    k.ordered.enum_behind
+    k.ordered.enum_after
 
 -- ---- a new message, enum or service
 
@@ -88,7 +88,7 @@ pub through : {A B C : Type 0} → (A → C) → A ⊎ B → C ⊎ B
 through f (inl a) = inl (f a)
 through f (inr b) = inr b
 
-pub in_new_message : (ms : List MessageDecl) (parent : Option ℕ) (w : Word) {s : Span} {x : Declaration} {p : Part}
+pub in_new_message : (ms : List MessageDecl) (parent : Option ℕ) (w : Word) {s : Span} {x : DeclIndex} {p : DeclPart}
     → InMessages (ms ++ new_message parent w ∷ []) s x p
     → InMessages ms s x p ⊎ ((x ≡ message_decl (length ms)) × IsName w.span s p)
 in_new_message ms parent w (message_in i m e h) =
@@ -108,7 +108,7 @@ in_new_message ms parent w (oneof_in i j m o e g h) =
     ]
 
 pub kept_message : (F : File) (b c : ℕ) (parent : Option ℕ) (w : Word)
-    → ((j : ℕ) (e : EnumDecl) → slice_get F.enums j ≡ Some e → IsPlaceBelow (length F.messages) e.parent) → b ≤ c
+    → ((j : ℕ) (e : EnumDecl) → slice_get F.enums j ≡ Some e → IsIndexBelow (length F.messages) e.parent) → b ≤ c
     → IsWithin b c w.span.start → Kept F b → Kept (record F { messages = F.messages ++ new_message parent w ∷ [] }) c
 kept_message F b c parent w parents l i k =
     kept_adds F G b c X (IsName w.span) k l
@@ -118,7 +118,7 @@ kept_message F b c parent w parents l i k =
     (λ p s h. absurd (let q : length F.messages < length F.messages = message_place h in omega arith)) i)
     behind
   where
-    X : Declaration
+    X : DeclIndex
     X = message_decl (length F.messages)
 
     G : File
@@ -127,14 +127,14 @@ kept_message F b c parent w parents l i k =
     behind : EnumsBehind G
     behind n j m e q r t =
         elim (in_pushed F.messages (new_message parent w) n m q) [
-          | inl u ↦ k.ordered.enum_behind n j m e u r t
-          | inr (v, u) ↦ absurd (let a : n < length F.messages = subst (λ (o : Option ℕ). IsPlaceBelow (length F.messages) o) t (parents j e r) in omega arith)
+          | inl u ↦ k.ordered.enum_after n j m e u r t
+          | inr (v, u) ↦ absurd (let a : n < length F.messages = subst (λ (o : Option ℕ). IsIndexBelow (length F.messages) o) t (parents j e r) in omega arith)
         ]
 
 abbrev pub new_enum : Option ℕ → Word → EnumDecl
 new_enum parent w = record { name = w; file = 0; parent = parent; values = []; ranges = []; names = [] }
 
-pub in_new_enum : (es : List EnumDecl) (parent : Option ℕ) (w : Word) {s : Span} {x : Declaration} {p : Part}
+pub in_new_enum : (es : List EnumDecl) (parent : Option ℕ) (w : Word) {s : Span} {x : DeclIndex} {p : DeclPart}
     → InEnums (es ++ new_enum parent w ∷ []) s x p → InEnums es s x p ⊎ ((x ≡ enum_decl (length es)) × IsName w.span s p)
 in_new_enum es parent w (enum_in i e q h) =
     elim (in_pushed es (new_enum parent w) i e q) [
@@ -157,7 +157,7 @@ kept_enum F b c parent w l i k =
     (λ p s h. absurd (let q : length F.enums < length F.enums = enum_place h in omega arith)) i)
     behind
   where
-    X : Declaration
+    X : DeclIndex
     X = enum_decl (length F.enums)
 
     G : File
@@ -166,7 +166,7 @@ kept_enum F b c parent w l i k =
     behind : EnumsBehind G
     behind n j m e q r t =
         elim (in_pushed F.enums (new_enum parent w) j e r) [
-          | inl u ↦ k.ordered.enum_behind n j m e q u t
+          | inl u ↦ k.ordered.enum_after n j m e q u t
           | inr (v, u) ↦ (let a : m.name.span.start < b = k.below (message_decl n) its_name m.name.span (Order.message n m q refl) in
               let d : e.name.span.start ≡ w.span.start = ap (λ (e : EnumDecl). e.name.span.start) u in
               let f : b ≤ w.span.start = i.behind in omega arith)
@@ -175,7 +175,7 @@ kept_enum F b c parent w l i k =
 abbrev pub new_service : Word → ServiceDecl
 new_service w = record { name = w; file = 0; rpcs = [] }
 
-pub in_new_service : (ss : List ServiceDecl) (w : Word) {s : Span} {x : Declaration} {p : Part}
+pub in_new_service : (ss : List ServiceDecl) (w : Word) {s : Span} {x : DeclIndex} {p : DeclPart}
     → InServices (ss ++ new_service w ∷ []) s x p → InServices ss s x p ⊎ ((x ≡ service_decl (length ss)) × IsName w.span s p)
 in_new_service ss w (service_in i y q h) =
     elim (in_pushed ss (new_service w) i y q) [
@@ -196,9 +196,9 @@ kept_service F b c w l i k =
     (λ x p s h. elim (in_services F (F.services ++ new_service w ∷ []) h) [ inl g ↦ inl g | inr g ↦ through (of_services F) (in_new_service F.services w g) ])
     (λ y p s o h. absurd (let q : length F.services < length F.services = service_precedes o h in omega arith))
     (λ p s h. absurd (let q : length F.services < length F.services = service_place h in omega arith)) i)
-    k.ordered.enum_behind
+    k.ordered.enum_after
   where
-    X : Declaration
+    X : DeclIndex
     X = service_decl (length F.services)
 
     G : File
@@ -208,14 +208,14 @@ kept_service F b c w l i k =
 
 -- no new declarations
 pub kept_back : (F G : File) (b c : ℕ) → b ≤ c
-    → ((x : Declaration) (p : Part) (s : Span) → StandsAt G s x p → StandsAt F s x p) → EnumsBehind G → Kept F b → Kept G c
+    → ((x : DeclIndex) (p : DeclPart) (s : Span) → IsPartSpan G s x p → IsPartSpan F s x p) → EnumsBehind G → Kept F b → Kept G c
 kept_back F G b c l back enums k = record {
   below = λ x p s h. (let q : s.start < b = k.below x p s (back x p s h) in omega arith);
   ordered = record {
     apart = λ x y p q s t h g e. k.ordered.apart x y p q s t (back x p s h) (back y q t g) e;
     ascend = λ x y p q s t o h g. k.ordered.ascend x y p q s t o (back x p s h) (back y q t g);
     parts = λ x p q s t o h g. k.ordered.parts x p q s t o (back x p s h) (back x q t g);
-    enum_behind = enums;
+    enum_after = enums;
   };
 }
 
@@ -274,7 +274,7 @@ enums_behind_last F f name parent k i j m e q r t =
 -- what is unchanged in a message, an enum or a service
 pub in_same_message : (o : Option ℕ) (f : MessageDecl → MessageDecl) (ms : List MessageDecl) → ((m : MessageDecl) → (f m).name ≡ m.name)
     → ((m : MessageDecl) → (f m).fields ≡ m.fields) → ((m : MessageDecl) → (f m).oneofs ≡ m.oneofs)
-    → {s : Span} {x : Declaration} {p : Part} → InMessages (edit_open o f ms) s x p → InMessages ms s x p
+    → {s : Span} {x : DeclIndex} {p : DeclPart} → InMessages (edit_open o f ms) s x p → InMessages ms s x p
 in_same_message o f ms a b c (message_in i m e h) =
     elim (in_edited_open o f ms i m e) [
       | changed y g l u ↦ message_in i y g (h ∙ (ap (λ (m : MessageDecl). m.name.span) u ∙ ap (λ (w : Word). w.span) (a y)))
@@ -297,11 +297,11 @@ pub kept_same_message : (F : File) (b c : ℕ) (o : Option ℕ) (f : MessageDecl
 kept_same_message F b c o f x y z l k =
     kept_back F (record F { messages = edit_open o f F.messages }) b c l
     (λ d p s h. elim (in_messages F (edit_open o f F.messages) h) [ inl g ↦ g | inr g ↦ of_messages F (in_same_message o f F.messages x y z g) ])
-    (enums_behind_edit F o f x k.ordered.enum_behind) k
+    (enums_behind_edit F o f x k.ordered.enum_after) k
 
 pub in_same_enum : (f : EnumDecl → EnumDecl) (es : List EnumDecl) → ((e : EnumDecl) → (f e).name ≡ e.name)
     → ((e : EnumDecl) → (f e).values ≡ e.values)
-    → {s : Span} {x : Declaration} {p : Part} → InEnums (edit_last f es) s x p → InEnums es s x p
+    → {s : Span} {x : DeclIndex} {p : DeclPart} → InEnums (edit_last f es) s x p → InEnums es s x p
 in_same_enum f es a b (enum_in i e q h) =
     elim (in_edited_last f es i e q) [
       | changed y g l u ↦ enum_in i y g (h ∙ (ap (λ (e : EnumDecl). e.name.span) u ∙ ap (λ (w : Word). w.span) (a y)))
@@ -319,4 +319,4 @@ pub kept_same_enum : (F : File) (b c : ℕ) (f : EnumDecl → EnumDecl) → ((e 
 kept_same_enum F b c f x y z l k =
     kept_back F (record F { enums = edit_last f F.enums }) b c l
     (λ d p s h. elim (in_enums F (edit_last f F.enums) h) [ inl g ↦ g | inr g ↦ of_enums F (in_same_enum f F.enums x z g) ])
-    (enums_behind_last F f x y k.ordered.enum_behind) k
+    (enums_behind_last F f x y k.ordered.enum_after) k

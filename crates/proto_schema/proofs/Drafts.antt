@@ -2,7 +2,7 @@
 use Rattle.std.proofs.Common.{◌≡◌, ℕ, zero, suc, ◌-◌, ◌<◌, ◌≤◌, List, [], ◌∷◌, ◌++◌, length, length-append, take, get_or, set, refl, ap, ◌∙◌, arith}
 use Rattle.std.specs.Prelude.{slice_get}
 use Rattle.proto_schema.specs.Files.{edit_at, innermost_of}
-use Rattle.proto_schema.specs.Running.{without_first, stack}
+use Rattle.proto_schema.specs.StatementReading.{without_first, stack}
 
 -- an element is changed
 pub edit_set : {X : Type 0} (i : ℕ) (f : X → X) (xs : List X) (d : X) → i < length xs

@@ -4,14 +4,14 @@ use Rattle.std.proofs.Common.{◌≡◌, ◌⊎◌, inl, inr, ℕ, zero, suc, �
 use Rattle.std.proofs.Common.{length, length-append, refl, ap, subst, sym, ◌∙◌, arith}
 use Rattle.std.specs.Prelude.{Option, Some, None, slice_get, IfSome, Contains}
 use Rattle.std.proofs.lemmas.Bool.{cases_lt}
-use Rattle.proto_grammar.specs.Lexemes.{Lexeme, word_at}
+use Rattle.proto_grammar.specs.Lexemes.{Lexeme, make_word}
 use Rattle.proto_schema.specs.Files
-use Rattle.proto_schema.specs.Files.{Draft, Block, no_block, a_oneof, an_enum, a_service, an_rpc, Statement, Says}
-use Rattle.proto_schema.specs.Files.{Forms, ClosesTo, nothing_said, edit_open, edit_last, innermost_of, with_file}
+use Rattle.proto_schema.specs.Files.{Draft, OpenBlock, no_block, a_oneof, an_enum, a_service, an_rpc, IsStatement, AreStatementsOf}
+use Rattle.proto_schema.specs.Files.{AreFileTokens, IsBlockEnd, initial_draft, edit_open, edit_last, innermost_of, draft_with_file}
 use Rattle.proto_schema.specs.Files.{with_block, in_message, in_enum, open_message, open_enum}
-use Rattle.proto_schema.specs.Files.{open_service, open_oneof, add_field, add_rpc, oneofs_of, count_oneofs, field}
-use Rattle.proto_schema.specs.Faults.{IsTextOf}
-use Rattle.proto_ast.specs.Order.{IsPlaceBelow, HasName, HasFullName, HasTypeNames, IsFormedField, IsFormedMessage, IsFormedEnum, IsFormedRpc, IsFormedService, IsFormed}
+use Rattle.proto_schema.specs.Files.{open_service, open_oneof, add_field, add_rpc, oneofs_in_message, count_oneofs, make_field}
+use Rattle.proto_schema.specs.Faults.{IsProtoTextOf}
+use Rattle.proto_ast.specs.Order.{IsIndexBelow, HasName, HasFullName, HasTypeNames, IsFormedField, IsFormedMessage, IsFormedEnum, IsFormedRpc, IsFormedService, IsFormed}
 use Rattle.proto_schema.proofs.Places.{nothing_at, all_by_place, contained, in_pushed, before_pushed, pushed, Changed}
 use Rattle.proto_schema.proofs.Places.{changed, kept, in_edited_open, length_edited_open, in_edited_last}
 use Rattle.proto_schema.proofs.Places.{length_edited_last}
@@ -40,25 +40,25 @@ pub record MessageSoFar (unclosed : ℕ → Type 0) (k : ℕ) (m : MessageDecl) 
   pub fields : (j : ℕ) (f : FieldDecl) → slice_get m.fields j ≡ Some f → IsFormedField (length m.oneofs) f
   pub oneofs : (j : ℕ) (o : Word) → slice_get m.oneofs j ≡ Some o → HasName o
   pub filled : (o : ℕ) → o < length m.oneofs → IsFilled m o ⊎ unclosed o
-  pub parent : IsPlaceBelow k m.parent
+  pub parent : IsIndexBelow k m.parent
 
 -- an enum that has a value, unless it is open, in a file with this many messages
 pub record EnumSoFar (unclosed : Type 0) (messages : ℕ) (e : EnumDecl) : Type 0 where
   pub name : HasName e.name
   pub values : (j : ℕ) (v : ValueDecl) → slice_get e.values j ≡ Some v → HasName v.name
   pub filled : (0 < length e.values) ⊎ unclosed
-  pub parent : IsPlaceBelow messages e.parent
+  pub parent : IsIndexBelow messages e.parent
 
 pub record ServiceSoFar (s : ServiceDecl) : Type 0 where
   pub name : HasName s.name
   pub rpcs : (j : ℕ) (r : RpcDecl) → slice_get s.rpcs j ≡ Some r → IsFormedRpc r
 
 -- the oneof o of the message k is open and has no field; likewise the enum k, the last one
-pub record IsOpenOneof (b : Block) (unclosed : List ℕ) (k o : ℕ) : Type 0 where
+pub record IsOpenOneof (b : OpenBlock) (unclosed : List ℕ) (k o : ℕ) : Type 0 where
   pub block : b ≡ a_oneof o false
   pub innermost : innermost_of unclosed ≡ Some k
 
-pub record IsOpenEnum (b : Block) (enums k : ℕ) : Type 0 where
+pub record IsOpenEnum (b : OpenBlock) (enums k : ℕ) : Type 0 where
   pub block : b ≡ an_enum false
   pub last : suc k ≡ enums
 
@@ -75,22 +75,22 @@ pub record SoFar (d : Draft) : Type 0 where
       → innermost_of d.messages ≡ Some k → slice_get d.file.messages k ≡ Some m → i < length m.oneofs
 
 -- blocks that are neither an empty oneof nor an empty enum
-abbrev IsOneofShut : Block → Type 0
+abbrev IsOneofShut : OpenBlock → Type 0
 IsOneofShut (a_oneof i false) = ⊥
 IsOneofShut _ = Unit {0}
 
-abbrev IsEnumShut : Block → Type 0
+abbrev IsEnumShut : OpenBlock → Type 0
 IsEnumShut (an_enum false) = ⊥
 IsEnumShut _ = Unit {0}
 
-no_open_oneof : {b : Block} {unclosed : List ℕ} {k o : ℕ} → IsOneofShut b → IsOpenOneof b unclosed k o → ⊥
+no_open_oneof : {b : OpenBlock} {unclosed : List ℕ} {k o : ℕ} → IsOneofShut b → IsOpenOneof b unclosed k o → ⊥
 no_open_oneof s h = subst IsOneofShut h.block s
 
-no_open_enum : {b : Block} {enums k : ℕ} → IsEnumShut b → IsOpenEnum b enums k → ⊥
+no_open_enum : {b : OpenBlock} {enums k : ℕ} → IsEnumShut b → IsOpenEnum b enums k → ⊥
 no_open_enum s h = subst IsEnumShut h.block s
 
 -- a block of this form isn't a oneof
-no_oneof : {b : Block} (i : ℕ) (filled : Bool) → b ≡ no_block → b ≡ a_oneof i filled → ⊥
+no_oneof : {b : OpenBlock} (i : ℕ) (filled : Bool) → b ≡ no_block → b ≡ a_oneof i filled → ⊥
 no_oneof i filled e h = let t : no_block ≡ a_oneof i filled = sym e ∙ h in cc
 
 -- ---- what preserves them
@@ -104,7 +104,7 @@ message_open k m h g = record {
   parent = g.parent;
 }
 
-place_below : (i n : ℕ) (place : Option ℕ) → i ≤ n → IsPlaceBelow i place → IsPlaceBelow n place
+place_below : (i n : ℕ) (place : Option ℕ) → i ≤ n → IsIndexBelow i place → IsIndexBelow n place
 place_below i n None l h = tt
 place_below i n (Some k) l h = omega arith
 
@@ -175,26 +175,26 @@ first_is : (unclosed : List ℕ) (k : ℕ) → innermost_of unclosed ≡ Some k 
 first_is [] k e = absurd (let t : ◌≡◌ None (Some k) = e in cc)
 first_is (i ∷ is) k e = e
 
-innermost_below : (d : Draft) → SoFar d → IsPlaceBelow (length d.file.messages) (innermost_of d.messages)
+innermost_below : (d : Draft) → SoFar d → IsIndexBelow (length d.file.messages) (innermost_of d.messages)
 innermost_below d s = by (innermost_of d.messages) refl
   where
-    by : (o : Option ℕ) → innermost_of d.messages ≡ o → IsPlaceBelow (length d.file.messages) o
+    by : (o : Option ℕ) → innermost_of d.messages ≡ o → IsIndexBelow (length d.file.messages) o
     by None e = tt
     by (Some k) e = s.unclosed 0 k (first_is d.messages k e)
 
 -- no empty oneof or enum is open
-messages_shut : (d : Draft) (b : Block) (is : List ℕ) → SoFar d → IsOneofShut d.block → (k : ℕ) (m : MessageDecl)
+messages_shut : (d : Draft) (b : OpenBlock) (is : List ℕ) → SoFar d → IsOneofShut d.block → (k : ℕ) (m : MessageDecl)
     → slice_get d.file.messages k ≡ Some m → MessageSoFar (λ o. IsOpenOneof b is k o) k m
 messages_shut d b is s h k m e = message_open k m (λ o p. absurd (no_open_oneof h p)) (s.messages k m e)
 
-enums_shut : (d : Draft) (b : Block) (c n : ℕ) → SoFar d → IsEnumShut d.block → length d.file.messages ≤ n
+enums_shut : (d : Draft) (b : OpenBlock) (c n : ℕ) → SoFar d → IsEnumShut d.block → length d.file.messages ≤ n
     → (k : ℕ) (e : EnumDecl) → slice_get d.file.enums k ≡ Some e → EnumSoFar (IsOpenEnum b c k) n e
 enums_shut d b c n s h l k e q = enum_open (length d.file.messages) n e (λ p. absurd (no_open_enum h p)) l (s.enums k e q)
 
-formed_package : (d : Draft) (w : Word) → HasFullName w → SoFar d → SoFar (with_file d (record d.file { «package» = Some w }))
+formed_package : (d : Draft) (w : Word) → HasFullName w → SoFar d → SoFar (draft_with_file d (record d.file { «package» = Some w }))
 formed_package d w f s = record { package_name = f; messages = s.messages; enums = s.enums; services = s.services; unclosed = s.unclosed; oneof = s.oneof }
 
-formed_import : (d : Draft) (i : Import) → SoFar d → SoFar (with_file d (record d.file { imports = d.file.imports ++ i ∷ [] }))
+formed_import : (d : Draft) (i : Import) → SoFar d → SoFar (draft_with_file d (record d.file { imports = d.file.imports ++ i ∷ [] }))
 formed_import d i s = record { package_name = s.package_name; messages = s.messages; enums = s.enums; services = s.services; unclosed = s.unclosed; oneof = s.oneof }
 
 formed_message : (d : Draft) (w : Word) → d.block ≡ no_block → HasName w → SoFar d → SoFar (open_message d w)
@@ -289,7 +289,7 @@ formed_service d w b n s =
 messages_kept : (d : Draft) (f : MessageDecl → MessageDecl) → length (edit_open (innermost_of d.messages) f d.file.messages) ≡ length d.file.messages
 messages_kept d f = length_edited_open (innermost_of d.messages) f d.file.messages
 
-formed_field : (d : Draft) (f : FieldDecl) (b : Block)
+formed_field : (d : Draft) (f : FieldDecl) (b : OpenBlock)
     → ((k : ℕ) (m : MessageDecl) → innermost_of d.messages ≡ Some k → slice_get d.file.messages k ≡ Some m → IsFormedField (length m.oneofs) f)
     → ((k o : ℕ) → innermost_of d.messages ≡ Some k → IsOpenOneof d.block d.messages k o → (f.oneof ≡ Some o) ⊎ IsOpenOneof b d.messages k o)
     → IsEnumShut d.block
@@ -342,7 +342,7 @@ formed_oneof d w b n s =
 
     count : (k : ℕ) (m : MessageDecl) → innermost_of d.messages ≡ Some k → slice_get d.file.messages k ≡ Some m
         → count_oneofs (innermost_of d.messages) d.file.messages ≡ length m.oneofs
-    count k m i h = ap (λ (o : Option ℕ). count_oneofs o d.file.messages) i ∙ ap oneofs_of h
+    count k m i h = ap (λ (o : Option ℕ). count_oneofs o d.file.messages) i ∙ ap oneofs_in_message h
 
     by : (i : ℕ) (filled : Bool) (k : ℕ) (m : MessageDecl) → (open_oneof d w).block ≡ a_oneof i filled → innermost_of d.messages ≡ Some k
         → Changed (λ k. innermost_of d.messages ≡ Some k) added d.file.messages k m → i < length m.oneofs
@@ -382,7 +382,7 @@ message_same {P} {k} m n a b c e g = record {
     | inl f ↦ inl (by o f)
     | inr p ↦ inr p
   ];
-  parent = subst (λ (p : Option ℕ). IsPlaceBelow k p) e g.parent;
+  parent = subst (λ (p : Option ℕ). IsIndexBelow k p) e g.parent;
 }
   where
     by : (o : ℕ) → IsFilled m o → IsFilled n o
@@ -398,7 +398,7 @@ formed_names d ws b s =
 
 -- ---- additions to the last enum and the last service
 
-formed_enum_edit : (d : Draft) (f : EnumDecl → EnumDecl) (b : Block) (filled : Bool) → d.block ≡ an_enum filled → IsOneofShut b
+formed_enum_edit : (d : Draft) (f : EnumDecl → EnumDecl) (b : OpenBlock) (filled : Bool) → d.block ≡ an_enum filled → IsOneofShut b
     → ((i : ℕ) (filled : Bool) → b ≡ a_oneof i filled → ⊥)
     → ((k n : ℕ) (e : EnumDecl) → suc k ≡ length d.file.enums → EnumSoFar (IsOpenEnum d.block (length d.file.enums) k) n e
     → EnumSoFar (IsOpenEnum b (length (edit_last f d.file.enums)) k) n (f e))
@@ -418,7 +418,7 @@ formed_enum_edit d f b filled q shut never more s =
       oneof = λ i filled k m r. absurd (never i filled r);
     }
 
-an_enum_no_oneof : (b : Block) (filled : Bool) → b ≡ an_enum filled → (i : ℕ) (has : Bool) → b ≡ a_oneof i has → ⊥
+an_enum_no_oneof : (b : OpenBlock) (filled : Bool) → b ≡ an_enum filled → (i : ℕ) (has : Bool) → b ≡ a_oneof i has → ⊥
 an_enum_no_oneof b filled q i has h = let t : an_enum filled ≡ a_oneof i has = sym q ∙ h in cc
 
 formed_value : (d : Draft) (v : ValueDecl) (filled : Bool) → d.block ≡ an_enum filled → HasName v.name → SoFar d
@@ -471,7 +471,7 @@ formed_value_names d ws filled q s =
       parent = g.parent;
     }) s
 
-formed_rpc : (d : Draft) (r : RpcDecl) (b : Block) → d.block ≡ a_service → IsFormedRpc r → ((i : ℕ) (filled : Bool) → b ≡ a_oneof i filled → ⊥)
+formed_rpc : (d : Draft) (r : RpcDecl) (b : OpenBlock) → d.block ≡ a_service → IsFormedRpc r → ((i : ℕ) (filled : Bool) → b ≡ a_oneof i filled → ⊥)
     → SoFar d → SoFar (with_block (add_rpc d r) b)
 formed_rpc d r b q n never s = record {
   package_name = s.package_name;
@@ -499,7 +499,7 @@ formed_rpc d r b q n never s = record {
 
 -- ---- a block ends
 
-formed_shut : (d : Draft) (is : List ℕ) (b : Block) → IsOneofShut d.block → IsEnumShut d.block
+formed_shut : (d : Draft) (is : List ℕ) (b : OpenBlock) → IsOneofShut d.block → IsEnumShut d.block
     → ((i : ℕ) (filled : Bool) → b ≡ a_oneof i filled → ⊥)
     → ((j k : ℕ) → slice_get is j ≡ Some k → k < length d.file.messages)
     → SoFar d → SoFar (record { file = d.file; messages = is; block = b })
@@ -515,7 +515,7 @@ formed_shut d is b oneofs enums never unclosed s = record {
 a_service_no_oneof : (i : ℕ) (filled : Bool) → a_service ≡ a_oneof i filled → ⊥
 a_service_no_oneof i filled e = let t : a_service ≡ a_oneof i filled = e in cc
 
-formed_close : (d : Draft) {other : Draft} → ClosesTo d other → SoFar d → SoFar other
+formed_close : (d : Draft) {other : Draft} → IsBlockEnd d other → SoFar d → SoFar other
 formed_close d (Files.message_ends i is b e) s =
     formed_shut d is no_block (subst IsOneofShut (sym b) tt) (subst IsEnumShut (sym b) tt) (λ i filled. no_oneof i filled refl)
     (λ j k h. s.unclosed (suc j) k (ap (λ (l : List ℕ). slice_get l (suc j)) e ∙ h)) s
@@ -533,12 +533,12 @@ formed_close d (Files.rpc_ends b) s =
 rpc_formed : (b e : ℕ) (r : RpcDecl) → RpcWithin b e r → IsFormedRpc r
 rpc_formed b e r w = record { name = w.name.formed; input = w.input.formed; output = w.output.formed }
 
-formed_statement : (b e : ℕ) (d : Draft) {all : List Lexeme} {other : Draft} → Statement d all other → Along b all e → SoFar d
+formed_statement : (b e : ℕ) (d : Draft) {all : List Lexeme} {other : Draft} → IsStatement d all other → Along b all e → SoFar d
     → SoFar other
 formed_statement b e d {all = all} (Files.package_name x z {ys = ys} {w = w} i n hx f hz a) h s =
     by (along_same b e all (x ∷ ys ++ z ∷ []) a h)
   where
-    by : Along b (x ∷ ys ++ z ∷ []) e → SoFar (with_file d (record d.file { «package» = Some w }))
+    by : Along b (x ∷ ys ++ z ∷ []) e → SoFar (draft_with_file d (record d.file { «package» = Some w }))
     by (l, p, r) =
         let (c, t, u) = along_split (suc x.span.start) ys (z ∷ []) e r in
         let q : NameWithin HasFullName (suc x.span.start) c w = full_along (suc x.span.start) c f t in
@@ -549,30 +549,30 @@ formed_statement b e d (Files.option x z hx o hz a) h s = s
 formed_statement b e d (Files.empty x i hx a) h s = s
 formed_statement b e d {all = all} (Files.message x y z name i hx hy hz a) h s =
     let (l, p, r) = along_same b e all (x ∷ y ∷ z ∷ []) a h in
-    formed_message d (word_at name y.span) i (word_along (suc x.span.start) e y (z ∷ []) name hy r).formed s
+    formed_message d (make_word name y.span) i (word_along (suc x.span.start) e y (z ∷ []) name hy r).formed s
 formed_statement b e d {all = all} (Files.enum x y z name i hx hy hz a) h s =
     let (l, p, r) = along_same b e all (x ∷ y ∷ z ∷ []) a h in
-    formed_enum d (word_at name y.span) i (word_along (suc x.span.start) e y (z ∷ []) name hy r).formed s
+    formed_enum d (make_word name y.span) i (word_along (suc x.span.start) e y (z ∷ []) name hy r).formed s
 formed_statement b e d {all = all} (Files.service x y z name i hx hy hz a) h s =
     let (l, p, r) = along_same b e all (x ∷ y ∷ z ∷ []) a h in
-    formed_service d (word_at name y.span) i.0 (word_along (suc x.span.start) e y (z ∷ []) name hy r).formed s
+    formed_service d (make_word name y.span) i.0 (word_along (suc x.span.start) e y (z ∷ []) name hy r).formed s
 formed_statement b e d {all = all} (Files.oneof x y z name i hx hy hz a) h s =
     let (l, p, r) = along_same b e all (x ∷ y ∷ z ∷ []) a h in
-    formed_oneof d (word_at name y.span) i.0 (word_along (suc x.span.start) e y (z ∷ []) name hy r).formed s
+    formed_oneof d (make_word name y.span) i.0 (word_along (suc x.span.start) e y (z ∷ []) name hy r).formed s
 formed_statement b e d {all = all} (Files.a_field {ls = ls} {ts = ts} {es = es} {label = label} {words =
     words} {kind = kind} {name = name} {number = number} {packed = packed} i l t f a) h s =
     let (g, r, v) = along_split b (ls ++ ts) es e (along_same b e all (ls ++ ts ++ es) a h) in
     let (c, p, u) = along_split b ls ts g r in
     let types : HasTypeNames kind = (types_along c g t u).0 in
     let end : EndWithin g e name number = end_along g e f v in
-    formed_field d (field name number kind label None packed) d.block
+    formed_field d (make_field name number kind label None packed) d.block
     (λ k m x y. record { name = end.name.formed; types = types; oneof = tt })
     (λ k o x y. inr y) (subst IsEnumShut (sym i.0) tt) (λ o filled q. (filled, q)) s
 formed_statement b e d {all = all} (Files.member i filled {ts = ts} {es = es} {kind = kind} {name = name} {number = number} {packed = packed} q t f a) h s =
     let (g, u, v) = along_split b ts es e (along_same b e all (ts ++ es) a h) in
     let types : HasTypeNames kind = (types_along b g t u).0 in
     let end : EndWithin g e name number = end_along g e f v in
-    formed_field d (field name number kind Plain (Some i) packed) (a_oneof i true)
+    formed_field d (make_field name number kind Plain (Some i) packed) (a_oneof i true)
     (λ k m x y. record { name = end.name.formed; types = types; oneof = s.oneof i filled k m q x y })
     (λ k o x y. inl (let p : a_oneof i filled ≡ a_oneof o false = sym q ∙ y.block in cc)) (subst IsEnumShut (sym q) tt)
     (λ o has p. (filled, q ∙ (let r : a_oneof i true ≡ a_oneof o has = p in cc))) s
@@ -581,8 +581,8 @@ formed_statement b e d (Files.reserved_names x z {ws = ws} i hx r hz a) h s = fo
 formed_statement b e d (Files.reserved_values x z filled {rs = rs} q hx r hz a) h s = formed_value_ranges d rs filled q s
 formed_statement b e d (Files.reserved_value_names x z filled {ws = ws} q hx r hz a) h s = formed_value_names d ws filled q s
 formed_statement b e d {all = all} (Files.value x y z name filled {ns = ns} {os = os} {number = number} q hx w hy n o hz a) h s =
-    let end : EndWithin b e (word_at name x.span) number = numbered_along b e x y name os (z ∷ []) hx n (along_same b e all (x ∷ y ∷ ns ++ os ++ z ∷ []) a h) in
-    formed_value d (record { name = word_at name x.span; number = number }) filled q end.name.formed s
+    let end : EndWithin b e (make_word name x.span) number = numbered_along b e x y name os (z ∷ []) hx n (along_same b e all (x ∷ y ∷ ns ++ os ++ z ∷ []) a h) in
+    formed_value d (record { name = make_word name x.span; number = number }) filled q end.name.formed s
 formed_statement b e d {all = all} (Files.rpc z {ys = ys} {r = r} q f hz a) h s =
     let (c, p, u) = along_split b ys (z ∷ []) e (along_same b e all (ys ++ z ∷ []) a h) in
     formed_rpc d r d.block q (rpc_formed b c r (rpc_along b c f p)) (λ i filled t. a_service_no_oneof i filled (sym q ∙ t)) s
@@ -593,7 +593,7 @@ formed_statement b e d (Files.close x hx a c) h s = formed_close d c s
 
 -- ---- texts
 
-nothing_formed : SoFar nothing_said
+nothing_formed : SoFar initial_draft
 nothing_formed = record {
   package_name = tt;
   messages = λ k m e. absurd (nothing_at k m e);
@@ -603,7 +603,7 @@ nothing_formed = record {
   oneof = λ i filled k m e. absurd (no_oneof i filled refl e);
 }
 
-pub formed_so_far : (b e : ℕ) {xs : List Lexeme} {d : Draft} → Says xs d → Along b xs e → SoFar d
+pub formed_so_far : (b e : ℕ) {xs : List Lexeme} {d : Draft} → AreStatementsOf xs d → Along b xs e → SoFar d
 formed_so_far b e (Files.start x) h = nothing_formed
 formed_so_far b e {xs = all} (Files.another {xs = xs} {ys = ys} {c = d} x y a) h =
     let (c, p, q) = along_split b xs ys e (along_same b e all (xs ++ ys) a h) in
@@ -638,13 +638,13 @@ whole_file d b s =
       enums = all_by_place IsFormedEnum d.file.enums (λ k x e. whole_enum x (length d.file.messages) _ (λ p. no_open_enum enums p) (s.enums k x e));
       services = all_by_place IsFormedService d.file.services (λ k x e. let g = s.services k x e in record { name = g.name; rpcs = all_by_place IsFormedRpc x.rpcs g.rpcs });
       parents = λ k m e. (s.messages k m e).parent;
-      enum_parents = all_by_place (λ x. IsPlaceBelow (length d.file.messages) x.parent) d.file.enums (λ k x e. (s.enums k x e).parent);
+      enum_parents = all_by_place (λ x. IsIndexBelow (length d.file.messages) x.parent) d.file.enums (λ k x e. (s.enums k x e).parent);
     }
 
-formed_text : (b e : ℕ) {xs : List Lexeme} {F : File} → Forms xs F → Along b xs e → IsFormed F
+formed_text : (b e : ℕ) {xs : List Lexeme} {F : File} → AreFileTokens xs F → Along b xs e → IsFormed F
 formed_text b e {xs = all} (Files.whole x {xs = xs} {d = d} s w m a) h =
     let (c, p, q) = along_split b xs (x ∷ []) e (along_same b e all (xs ++ x ∷ []) a h) in
     whole_file d w.0 (formed_so_far b c s p)
 
-pub well_formed : (text : List ℕ) (F : File) → IsTextOf text F → IsFormed F
+pub well_formed : (text : List ℕ) (F : File) → IsProtoTextOf text F → IsFormed F
 well_formed text F h = formed_text 0 (suc (length text)) h.reads (tokens_along text 0 h.of_text)

@@ -24,12 +24,12 @@ use Rattle.proto_ast.specs.declared.file.EnumDecl.{EnumDecl}
 use Rattle.proto_ast.specs.declared.file.RpcDecl.{RpcDecl}
 use Rattle.proto_ast.specs.declared.file.ServiceDecl.{ServiceDecl}
 use Rattle.proto_ast.specs.declared.file.File.{File}
-use Rattle.proto_grammar.specs.Lexemes.{Lexeme, lexeme, lexemes, span_to, word_at}
+use Rattle.proto_grammar.specs.Lexemes.{Lexeme, lexeme, lexemes, span_to, make_word}
 use Rattle.proto_grammar.specs.Grammar
-use Rattle.proto_grammar.specs.Grammar.{FullName, TypeName, MapKey, FieldTypeOf, RpcType, NumberOf, RangeOf, RangesOf, NamesOf}
+use Rattle.proto_grammar.specs.Grammar.{IsDottedName, IsTypeName, IsMapKey, IsFieldType, IsRpcType, IsNumberToken, IsRange, AreRanges, AreNameStrings}
 use Rattle.proto_schema.specs.Files
-use Rattle.proto_schema.specs.Files.{Draft, Statement, Says, Forms, ClosesTo, FieldEnd, field_end, RpcHead, rpc_head, nothing_said, edit_at, edit_open, edit_last, innermost_of, add_field, field}
-use Rattle.proto_schema.specs.Faults.{IsTextOf}
+use Rattle.proto_schema.specs.Files.{Draft, IsStatement, AreStatementsOf, AreFileTokens, IsBlockEnd, IsFieldEnd, field_end, IsRpcHead, rpc_head, initial_draft, edit_at, edit_open, edit_last, innermost_of, add_field, make_field}
+use Rattle.proto_schema.specs.Faults.{IsProtoTextOf}
 use Rattle.proto_schema.proofs.Along.{token_goes}
 
 -- ---- a list with one element changed
@@ -67,20 +67,20 @@ module _ (size : ℕ) where
   to_within : (a b : Span) → IsSpanWithin size a → IsSpanWithin size b → IsSpanWithin size (span_to a b)
   to_within a b h k = record { start = h.start; end = k.end }
 
-  full_inside : {ys : List Lexeme} {w : Word} → FullName ys w → Inside ys → IsWordWithin size w
+  full_inside : {ys : List Lexeme} {w : Word} → IsDottedName ys w → Inside ys → IsWordWithin size w
   full_inside (Grammar.one x name h) (a, k) = a
   full_inside (Grammar.more x y name zs w h d f) (a, (b, k)) = to_within x.span w.span a (full_inside f k)
 
-  type_inside : {ys : List Lexeme} {w : Word} → TypeName ys w → Inside ys → IsWordWithin size w
+  type_inside : {ys : List Lexeme} {w : Word} → IsTypeName ys w → Inside ys → IsWordWithin size w
   type_inside (Grammar.relative f) h = full_inside f h
   type_inside (Grammar.absolute x {w = w} m f) (a, k) = to_within x.span w.span a (full_inside f k)
 
-  key_inside : {ks : List Lexeme} {k : Word} → MapKey ks k → Inside ks → IsWordWithin size k
+  key_inside : {ks : List Lexeme} {k : Word} → IsMapKey ks k → Inside ks → IsWordWithin size k
   key_inside {ks = ks} (Grammar.map_key x y z {ys = ys} hx hy t g hz a) h =
       let (p, (q, r)) = inside_same ks (x ∷ y ∷ ys ++ z ∷ []) a h in
       let (u, v) = inside_split ys (z ∷ []) r in type_inside t u
 
-  kind_inside : {words : List (List ℕ)} {ts : List Lexeme} {kind : FieldType} → FieldTypeOf words ts kind → Inside ts
+  kind_inside : {words : List (List ℕ)} {ts : List Lexeme} {kind : FieldType} → IsFieldType words ts kind → Inside ts
       → IsTypeWithin size kind
   kind_inside (Grammar.named t g) h = type_inside t h
   kind_inside {ts = ts} (Grammar.a_map x {ks = ks} {ys = ys} m t g hx a) h =
@@ -90,39 +90,39 @@ module _ (size : ℕ) where
       let (p, q) = inside_split (ks ++ ys) (x ∷ []) (inside_same ts (ks ++ ys ++ x ∷ []) a h) in
       let (u, v) = inside_split ks ys p in key_inside m u
 
-  rpc_type_inside : {is : List Lexeme} {w : Word} → RpcType is w → Inside is → IsWordWithin size w
+  rpc_type_inside : {is : List Lexeme} {w : Word} → IsRpcType is w → Inside is → IsWordWithin size w
   rpc_type_inside (Grammar.stream_type x h) (a, k) = a
   rpc_type_inside (Grammar.other_type t g) k = type_inside t k
 
-  number_inside : {signed : Bool} {ns : List Lexeme} {n : Number} → NumberOf signed ns n → Inside ns → IsNumberWithin size n
+  number_inside : {signed : Bool} {ns : List Lexeme} {n : Number} → IsNumberToken signed ns n → Inside ns → IsNumberWithin size n
   number_inside (Grammar.whole x value h) (a, k) = a
   number_inside (Grammar.negative x y value s h g) (a, (b, k)) = to_within x.span y.span a b
 
   -- a name, a token, and a number with others after it
-  numbered_inside : (x y : Lexeme) {signed : Bool} {ns : List Lexeme} {n : Number} (os zs : List Lexeme) → NumberOf signed ns n
+  numbered_inside : (x y : Lexeme) {signed : Bool} {ns : List Lexeme} {n : Number} (os zs : List Lexeme) → IsNumberToken signed ns n
       → Inside (x ∷ y ∷ ns ++ os ++ zs) → IsSpanWithin size x.span × IsNumberWithin size n
   numbered_inside x y {ns = ns} os zs f (a, (b, r)) =
       let (p, q) = inside_split (ns ++ os) zs r in
       let (u, v) = inside_split ns os p in (a, number_inside f u)
 
-  end_inside : {es : List Lexeme} {name : Word} {number : Number} {packed : Option Bool} → FieldEnd es name number packed
+  end_inside : {es : List Lexeme} {name : Word} {number : Number} {packed : Option Bool} → IsFieldEnd es name number packed
       → Inside es → IsWordWithin size name × IsNumberWithin size number
   end_inside {es = es} (field_end x y z name {ns = ns} {os = os} hx hy n o hz a) h =
       numbered_inside x y os (z ∷ []) n (inside_same es (x ∷ y ∷ ns ++ os ++ z ∷ []) a h)
 
-  rpc_inside : {ys : List Lexeme} {r : RpcDecl} → RpcHead ys r → Inside ys → IsRpcWithin size r
+  rpc_inside : {ys : List Lexeme} {r : RpcDecl} → IsRpcHead ys r → Inside ys → IsRpcWithin size r
   rpc_inside {ys = ys} (rpc_head a n c d e f g name {is = is} {os = os} {input = input} {output = output} ha hn hc ti hd he hf to hg q) h =
       by (inside_same ys (a ∷ n ∷ c ∷ is ++ d ∷ e ∷ f ∷ os ++ g ∷ []) q h)
     where
       by : Inside (a ∷ n ∷ c ∷ is ++ d ∷ e ∷ f ∷ os ++ g ∷ [])
-          → IsRpcWithin size (record { name = word_at name n.span; input = input; output = output })
+          → IsRpcWithin size (record { name = make_word name n.span; input = input; output = output })
       by (ka, (kn, (kc, r))) =
           let (s, t) = inside_split (is ++ d ∷ e ∷ f ∷ os) (g ∷ []) r in
           let (u, (kd, (ke, (kf, v)))) = inside_split is (d ∷ e ∷ f ∷ os) s in
           record { name = kn; input = rpc_type_inside ti u; output = rpc_type_inside to v }
 
   -- reserved numbers and names
-  range_inside : {signed : Bool} {ys : List Lexeme} {r : Range} → RangeOf signed ys r → Inside ys → IsRangeWithin size r
+  range_inside : {signed : Bool} {ys : List Lexeme} {r : Range} → IsRange signed ys r → Inside ys → IsRangeWithin size r
   range_inside (Grammar.single n) h = record { first = number_inside n h; last = number_inside n h }
   range_inside {ys = all} (Grammar.between x {ys = ys} {zs = zs} f hx g a) h =
       let (p, (q, r)) = inside_split ys (x ∷ zs) (inside_same all (ys ++ x ∷ zs) a h) in
@@ -131,7 +131,7 @@ module _ (size : ℕ) where
       let (p, q) = inside_split ys (x ∷ y ∷ []) (inside_same all (ys ++ x ∷ y ∷ []) a h) in
       record { first = number_inside f p; last = tt }
 
-  ranges_inside : {signed : Bool} {ys : List Lexeme} {rs : List Range} → RangesOf signed ys rs → Inside ys
+  ranges_inside : {signed : Bool} {ys : List Lexeme} {rs : List Range} → AreRanges signed ys rs → Inside ys
       → All (IsRangeWithin size) rs
   ranges_inside (Grammar.one_range {r = r} f) h =
       All-cons (IsRangeWithin size) r [] (range_inside f h) (All-nil (IsRangeWithin size))
@@ -139,11 +139,11 @@ module _ (size : ℕ) where
       let (p, (q, k)) = inside_split ys (x ∷ zs) (inside_same all (ys ++ x ∷ zs) a h) in
       All-cons (IsRangeWithin size) r rs (range_inside f p) (ranges_inside g k)
 
-  names_inside : {ys : List Lexeme} {ws : List Word} → NamesOf ys ws → Inside ys → All (IsWordWithin size) ws
+  names_inside : {ys : List Lexeme} {ws : List Word} → AreNameStrings ys ws → Inside ys → All (IsWordWithin size) ws
   names_inside (Grammar.one_name x name h) (a, k) =
-      All-cons (IsWordWithin size) (word_at name x.span) [] a (All-nil (IsWordWithin size))
+      All-cons (IsWordWithin size) (make_word name x.span) [] a (All-nil (IsWordWithin size))
   names_inside (Grammar.names x y name {ws = ws} h g f) (a, (b, k)) =
-      All-cons (IsWordWithin size) (word_at name x.span) ws a (names_inside f k)
+      All-cons (IsWordWithin size) (make_word name x.span) ws a (names_inside f k)
 
   -- ---- declarations
 
@@ -305,7 +305,7 @@ module _ (size : ℕ) where
 
   -- ---- statements
 
-  within_close : (d : Draft) {other : Draft} → ClosesTo d other → IsWithin size d.file → IsWithin size other.file
+  within_close : (d : Draft) {other : Draft} → IsBlockEnd d other → IsWithin size d.file → IsWithin size other.file
   within_close d (Files.message_ends i is b e) k = k
   within_close d (Files.oneof_ends i b) k = k
   within_close d (Files.enum_ends b) k = k
@@ -326,14 +326,14 @@ module _ (size : ℕ) where
   front_inside all ys z a h = let (u, v) = inside_split ys (z ∷ []) (inside_same all (ys ++ z ∷ []) a h) in u
 
   within_field_statement : (d : Draft) {ts es : List Lexeme} {words : List (List ℕ)} {kind : FieldType} {name : Word} {number : Number}
-      {packed : Option Bool} (label : FieldLabel) (oneof : Option ℕ) → FieldTypeOf words ts kind → FieldEnd es name number packed
-      → Inside ts → Inside es → IsWithin size d.file → IsWithin size (add_field d (field name number kind label oneof packed)).file
+      {packed : Option Bool} (label : FieldLabel) (oneof : Option ℕ) → IsFieldType words ts kind → IsFieldEnd es name number packed
+      → Inside ts → Inside es → IsWithin size d.file → IsWithin size (add_field d (make_field name number kind label oneof packed)).file
   within_field_statement d {kind = kind} {name = name} {number = number} {packed = packed} label oneof t f h g k =
       let (a, b) = end_inside f g in
-      within_field d.file (innermost_of d.messages) (field name number kind label oneof packed)
+      within_field d.file (innermost_of d.messages) (make_field name number kind label oneof packed)
       (record { name = a; number = b; kind = kind_inside t h }) k
 
-  within_statement : (d : Draft) {all : List Lexeme} {other : Draft} → Statement d all other → Inside all → IsWithin size d.file
+  within_statement : (d : Draft) {all : List Lexeme} {other : Draft} → IsStatement d all other → Inside all → IsWithin size d.file
       → IsWithin size other.file
   within_statement d {all = all} (Files.package_name x z {ys = ys} {w = w} i n hx f hz a) h k =
       within_package d.file w (full_inside f (middle_inside all x z ys a h)) k
@@ -344,13 +344,13 @@ module _ (size : ℕ) where
   within_statement d (Files.option x z hx o hz a) h k = k
   within_statement d (Files.empty x i hx a) h k = k
   within_statement d {all = all} (Files.message x y z name i hx hy hz a) h k =
-      within_message d.file (word_at name y.span) (innermost_of d.messages) (second_inside all x y (z ∷ []) a h) k
+      within_message d.file (make_word name y.span) (innermost_of d.messages) (second_inside all x y (z ∷ []) a h) k
   within_statement d {all = all} (Files.enum x y z name i hx hy hz a) h k =
-      within_enum d.file (word_at name y.span) (innermost_of d.messages) (second_inside all x y (z ∷ []) a h) k
+      within_enum d.file (make_word name y.span) (innermost_of d.messages) (second_inside all x y (z ∷ []) a h) k
   within_statement d {all = all} (Files.service x y z name i hx hy hz a) h k =
-      within_service d.file (word_at name y.span) (second_inside all x y (z ∷ []) a h) k
+      within_service d.file (make_word name y.span) (second_inside all x y (z ∷ []) a h) k
   within_statement d {all = all} (Files.oneof x y z name i hx hy hz a) h k =
-      within_oneof d.file (innermost_of d.messages) (word_at name y.span) (second_inside all x y (z ∷ []) a h) k
+      within_oneof d.file (innermost_of d.messages) (make_word name y.span) (second_inside all x y (z ∷ []) a h) k
   within_statement d {all = all} (Files.a_field {ls = ls} {ts = ts} {es = es} {label = label} i l t f a) h k =
       let (p, q) = inside_split (ls ++ ts) es (inside_same all (ls ++ ts ++ es) a h) in
       let (u, v) = inside_split ls ts p in within_field_statement d label None t f v q k
@@ -367,7 +367,7 @@ module _ (size : ℕ) where
       within_value_names d.file ws (names_inside r (middle_inside all x z ys a h)) k
   within_statement d {all = all} (Files.value x y z name filled {ns = ns} {os = os} {number = number} q hx w hy n o hz a) h k =
       let (b, c) = numbered_inside x y os (z ∷ []) n (inside_same all (x ∷ y ∷ ns ++ os ++ z ∷ []) a h) in
-      within_value d.file (record { name = word_at name x.span; number = number }) (record { name = b; number = c }) k
+      within_value d.file (record { name = make_word name x.span; number = number }) (record { name = b; number = c }) k
   within_statement d {all = all} (Files.rpc z {ys = ys} {r = r} q f hz a) h k =
       within_rpc d.file r (rpc_inside f (front_inside all ys z a h)) k
   within_statement d {all = all} (Files.rpc_with_options z {ys = ys} {r = r} q f hz a) h k =
@@ -376,7 +376,7 @@ module _ (size : ℕ) where
 
   -- ---- texts
 
-  nothing_within : IsWithin size nothing_said.file
+  nothing_within : IsWithin size initial_draft.file
   nothing_within = record {
     package_name = tt;
     messages = All-nil (IsMessageWithin size);
@@ -384,7 +384,7 @@ module _ (size : ℕ) where
     services = All-nil (IsServiceWithin size);
   }
 
-  within_so_far : {xs : List Lexeme} {d : Draft} → Says xs d → Inside xs → IsWithin size d.file
+  within_so_far : {xs : List Lexeme} {d : Draft} → AreStatementsOf xs d → Inside xs → IsWithin size d.file
   within_so_far (Files.start x) h = nothing_within
   within_so_far {xs = all} (Files.another {xs = xs} {ys = ys} {c = c} x y a) h =
       let (p, q) = inside_split xs ys (inside_same all (xs ++ ys) a h) in within_statement c y q (within_so_far x p)
@@ -393,7 +393,7 @@ module _ (size : ℕ) where
   abbrev AreInside : List Lexeme → Type 0
   AreInside all = (xs : List Lexeme) (x : Lexeme) → all ≡ xs ++ x ∷ [] → Inside xs
 
-  within_file : {all : List Lexeme} {F : File} → Forms all F → AreInside all → IsWithin size F
+  within_file : {all : List Lexeme} {F : File} → AreFileTokens all F → AreInside all → IsWithin size F
   within_file (Files.whole x {xs = xs} s w m a) h = within_so_far s (h xs x a)
 
 not_nothing : (xs : List Lexeme) (x : Lexeme) → [] ≡ xs ++ x ∷ [] → ⊥
@@ -415,5 +415,5 @@ tokens_inside text b (Tokens.another t others e n k a) (y ∷ ys) x q =
       tokens_inside text t.end a ys x (cc),
     )
 
-pub text_within : (text : List ℕ) (F : File) → IsTextOf text F → IsWithin (length text) F
+pub text_within : (text : List ℕ) (F : File) → IsProtoTextOf text F → IsWithin (length text) F
 text_within text F h = within_file (length text) h.reads (tokens_inside text 0 h.of_text)

@@ -6,11 +6,11 @@ use Rattle.std.specs.Str.{bytes_eq}
 use Rattle.std.proofs.lemmas.Bool.{leb-true, leb-false}
 use Rattle.std.proofs.lemmas.List.{append_assoc}
 use Rattle.proto_ast.specs.Dot.{dot}
-use Rattle.proto_grammar.specs.Lexemes.{identifier, Lexeme, comma, less, greater, span_to, word_at, IsWord, IsMark, says}
-use Rattle.proto_grammar.specs.Grammar.{relative, group_word, map_key, NestedMaps, innermost, around, FieldTypeOf, a_map, map_of_maps}
-use Rattle.proto_grammar.specs.Reading.{wrong, is_mark, part, fault_at, full_step, type_step, typed_step, key_step}
-use Rattle.proto_grammar.specs.Reading.{behind_key, map_step, more_map, of_key, of_inner_key, of_value, of_inner_value}
-use Rattle.proto_grammar.specs.Reading.{begins_map, closed}
+use Rattle.proto_grammar.specs.Lexemes.{identifier, Lexeme, comma, less, greater, span_to, make_word, IsWord, IsPunctuator, is_the_word}
+use Rattle.proto_grammar.specs.Grammar.{relative, group_word, map_key, IsNestedMap, innermost, around, IsFieldType, a_map, map_of_maps}
+use Rattle.proto_grammar.specs.Advancing.{wrong, is_punctuator, name_part, proto_fault_at, advance_full_name, advance_type_name, advance_field_type_name, advance_map_key}
+use Rattle.proto_grammar.specs.Advancing.{after_key, advance_map, more_map, of_key, of_inner_key, of_map_value, of_inner_value}
+use Rattle.proto_grammar.specs.Advancing.{is_map_start, close_map}
 use Rattle.proto_schema.proofs.Choices.{either_is, named_is, same_bytes, and_both, dotted_differs}
 use Rattle.proto_schema.proofs.NameLemmas.{mark_is}
 use Rattle.proto_schema.proofs.NameRest.{ends, TypedRest, NameBack, from_start, from_root, from_dot, from_part, from_top, typed_back, no_group}
@@ -43,14 +43,14 @@ not_map v n h = dotted_differs v n (codes "map") refl h
 
 -- the tokens after `map <` in another map
 abbrev pub Body : List Lexeme → Type 0
-Body bs = (m l : Lexeme) → IsWord m (codes "map") → IsMark l less → NestedMaps (m ∷ l ∷ bs)
+Body bs = (m l : Lexeme) → IsWord m (codes "map") → IsPunctuator l less → IsNestedMap (m ∷ l ∷ bs)
 
 pub data ValueAt (s : NameState) (all : List Lexeme) : Option Word → Type 0 where
-  plain : (z : Lexeme) (ys : List Lexeme) {w : Word} → TypedRest s ys w → IsMark z greater → all ≡ ys ++ z ∷ []
+  plain : (z : Lexeme) (ys : List Lexeme) {w : Word} → TypedRest s ys w → IsPunctuator z greater → all ≡ ys ++ z ∷ []
       → ValueAt s all (Some w)
-  nested : (z : Lexeme) {ys : List Lexeme} → s ≡ names.Start → NestedMaps ys → IsMark z greater → all ≡ ys ++ z ∷ []
+  nested : (z : Lexeme) {ys : List Lexeme} → s ≡ names.Start → IsNestedMap ys → IsPunctuator z greater → all ≡ ys ++ z ∷ []
       → ValueAt s all None
-  map_from : (x z : Lexeme) (bs : List Lexeme) → IsPart s (codes "map") → IsMark x less → Body bs → IsMark z greater
+  map_from : (x z : Lexeme) (bs : List Lexeme) → IsPart s (codes "map") → IsPunctuator x less → Body bs → IsPunctuator z greater
       → all ≡ x ∷ bs ++ z ∷ [] → ValueAt s all None
 
 abbrev pub ValueBack : NameState → Lexeme → Result NameStep ProtoFault → Type 0
@@ -67,11 +67,11 @@ later_value s t x b i j ys r (plain z us {w = w} k g e) = plain z (x ∷ us) {w 
 later_value s t x b i j ys r (nested z e m g a) = absurd (i e)
 later_value s t x b i j ys r (map_from y z bs p l m g e) = absurd (j p)
 
-first_value : (x : Lexeme) (n : List ℕ) → IsWord x n → says x.means (codes "group") ≡ false
-    → (ys : List Lexeme) (r : Option Word) → ValueAt (names.Part (word_at n x.span)) ys r
+first_value : (x : Lexeme) (n : List ℕ) → IsWord x n → is_the_word x.means (codes "group") ≡ false
+    → (ys : List Lexeme) (r : Option Word) → ValueAt (names.Part (make_word n x.span)) ys r
     → ValueAt names.Start (x ∷ ys) r
 first_value x n h g ys r (plain z us {w = w} k m e) = plain z (x ∷ us) {w = w} (relative (from_start x n h us w k), no_group x us g) m (ap (λ (l : List Lexeme). x ∷ l) e)
-first_value x n h g ys r (nested z e m k a) = absurd (let t : names.Part (word_at n x.span) ≡ names.Start = e in cc)
+first_value x n h g ys r (nested z e m k a) = absurd (let t : names.Part (make_word n x.span) ≡ names.Start = e in cc)
 first_value x n h g ys r (map_from y z bs p l b m e) =
     nested z refl (b x y (h ∙ ap identifier (same_bytes n (codes "map") p)) l) m (ap (λ (l : List Lexeme). x ∷ l) e)
 
@@ -84,31 +84,31 @@ dot_not_start v e = (cc)
 root_not_start : (s : Span) → names.Rooted s ≡ names.Start → ⊥
 root_not_start s e = (cc)
 
-pub typed_value : (s : NameState) (x : Lexeme) → ValueBack s x (typed_step s x)
-unfolding full_step
+pub typed_value : (s : NameState) (x : Lexeme) → ValueBack s x (advance_field_type_name s x)
+unfolding advance_full_name
 typed_value names.Start x =
-    either_is (ValueBack names.Start x) (says x.means (codes "group")) (Err (fault_at reasons.Group x.span)) (type_step names.Start x) (λ e. tt)
-    (λ e. either_is (ValueBack names.Start x) (is_mark x.means dot) (Ok (name_steps.More (names.Rooted x.span))) (full_step names.Start x)
+    either_is (ValueBack names.Start x) (is_the_word x.means (codes "group")) (Err (proto_fault_at reasons.Group x.span)) (advance_type_name names.Start x) (λ e. tt)
+    (λ e. either_is (ValueBack names.Start x) (is_punctuator x.means dot) (Ok (name_steps.More (names.Rooted x.span))) (advance_full_name names.Start x)
     (λ d. later_value names.Start (names.Rooted x.span) x (λ ys w k. (from_top x (mark_is x.means dot d) ys w k, no_group x ys e)) (root_not_start x.span) (λ p. p))
-    (λ d. named_is (ValueBack names.Start x) x (λ n. part n x.span) (λ n h. first_value x n h e) tt))
+    (λ d. named_is (ValueBack names.Start x) x (λ n. name_part n x.span) (λ n h. first_value x n h e) tt))
 typed_value (names.Rooted s) x =
-    named_is (ValueBack (names.Rooted s) x) x (λ n. part (dot ∷ n) (span_to s x.span))
-    (λ n h. later_value (names.Rooted s) (names.Part (word_at (dot ∷ n) (span_to s x.span))) x (from_root s x n h)
-    (part_not_start (word_at (dot ∷ n) (span_to s x.span))) (not_map [] n)) tt
+    named_is (ValueBack (names.Rooted s) x) x (λ n. name_part (dot ∷ n) (span_to s x.span))
+    (λ n h. later_value (names.Rooted s) (names.Part (make_word (dot ∷ n) (span_to s x.span))) x (from_root s x n h)
+    (part_not_start (make_word (dot ∷ n) (span_to s x.span))) (not_map [] n)) tt
 typed_value (names.Part v) x =
-    either_is (ValueBack (names.Part v) x) (is_mark x.means dot) (Ok (name_steps.More (names.Dot v))) (Ok (name_steps.Whole v))
+    either_is (ValueBack (names.Part v) x) (is_punctuator x.means dot) (Ok (name_steps.More (names.Dot v))) (Ok (name_steps.Whole v))
     (λ e. later_value (names.Part v) (names.Dot v) x (from_part v x (mark_is x.means dot e)) (dot_not_start v) (λ p. p)) (λ e. (ends, refl))
 typed_value (names.Dot v) x =
-    named_is (ValueBack (names.Dot v) x) x (λ n. part (v.name ++ dot ∷ n) (span_to v.span x.span))
-    (λ n h. later_value (names.Dot v) (names.Part (word_at (v.name ++ dot ∷ n) (span_to v.span x.span))) x
-    (from_dot v x n h) (part_not_start (word_at (v.name ++ dot ∷ n) (span_to v.span x.span))) (not_map v.name n))
+    named_is (ValueBack (names.Dot v) x) x (λ n. name_part (v.name ++ dot ∷ n) (span_to v.span x.span))
+    (λ n h. later_value (names.Dot v) (names.Part (make_word (v.name ++ dot ∷ n) (span_to v.span x.span))) x
+    (from_dot v x n h) (part_not_start (make_word (v.name ++ dot ∷ n) (span_to v.span x.span))) (not_map v.name n))
     tt
 
 -- ---- a map, from its key on
 
 -- a key, a comma and a value
 pub data KeyAt (s : NameState) (all : List Lexeme) (k : Word) (r : Option Word) : Type 0 where
-  key_at : (z : Lexeme) (ks : List Lexeme) {vs : List Lexeme} → TypedRest s ks k → IsMark z comma
+  key_at : (z : Lexeme) (ks : List Lexeme) {vs : List Lexeme} → TypedRest s ks k → IsPunctuator z comma
       → ValueAt names.Start vs r → all ≡ ks ++ z ∷ vs → KeyAt s all k r
 
 abbrev pub kind_of : Word → Option Word → FieldType
@@ -118,7 +118,7 @@ kind_of k None = types.NestedMap k
 -- this many maps are closed
 pub data Closings : ℕ → List Lexeme → Type 0 where
   none_left : Closings 0 []
-  one_more : (x : Lexeme) {n : ℕ} {ys : List Lexeme} → IsMark x greater → Closings n ys → Closings (suc n) (x ∷ ys)
+  one_more : (x : Lexeme) {n : ℕ} {ys : List Lexeme} → IsPunctuator x greater → Closings n ys → Closings (suc n) (x ∷ ys)
 
 pub data InnerAt (R : List Lexeme → Type 0) (k0 : Word) (d : ℕ) (all : List Lexeme) (kind : FieldType) : Type 0 where
   inner_at : {bs cs : List Lexeme} → R bs → Closings d cs → all ≡ bs ++ cs → types.NestedMap k0 ≡ kind
@@ -146,7 +146,7 @@ MapBack s x (Err e) = Unit {0}
 pub body_of : (bs : List Lexeme) → SomeKey names.Start bs → Body bs
 body_of bs (k, r, key_at z ks {vs = vs} t c v e) m l hm hl = by r v
   where
-    by : (r : Option Word) → ValueAt names.Start vs r → NestedMaps (m ∷ l ∷ bs)
+    by : (r : Option Word) → ValueAt names.Start vs r → IsNestedMap (m ∷ l ∷ bs)
     by r (plain x ys {w = w} u g a) =
         innermost x (map_key m l z hm hl t.0 t.1 c refl) u.0 u.1 g
         (ap (λ (q : List Lexeme). m ∷ l ∷ q)
@@ -160,18 +160,18 @@ body_of bs (k, r, key_at z ks {vs = vs} t c v e) m l hm hl = by r v
     by r (map_from x y cs p h b g a) = absurd p
 
 -- the same tokens, as the type of a field
-pub kind_from : (m l : Lexeme) (bs : List Lexeme) (kind : FieldType) → IsWord m (codes "map") → IsMark l less
-    → MapRest (maps.Key names.Start) bs kind → FieldTypeOf group_word (m ∷ l ∷ bs) kind
+pub kind_from : (m l : Lexeme) (bs : List Lexeme) (kind : FieldType) → IsWord m (codes "map") → IsPunctuator l less
+    → MapRest (maps.Key names.Start) bs kind → IsFieldType group_word (m ∷ l ∷ bs) kind
 kind_from m l bs kind hm hl (k, r, key_at z ks {vs = vs} t c v e, f) = by r v f
   where
-    by : (r : Option Word) → ValueAt names.Start vs r → kind_of k r ≡ kind → FieldTypeOf group_word (m ∷ l ∷ bs) kind
+    by : (r : Option Word) → ValueAt names.Start vs r → kind_of k r ≡ kind → IsFieldType group_word (m ∷ l ∷ bs) kind
     by r (plain x ys {w = w} u g a) f =
-        subst (λ (kind : FieldType). FieldTypeOf group_word (m ∷ l ∷ bs) kind) f (a_map x (map_key m l z hm hl t.0 t.1 c refl) u.0 u.1 g
+        subst (λ (kind : FieldType). IsFieldType group_word (m ∷ l ∷ bs) kind) f (a_map x (map_key m l z hm hl t.0 t.1 c refl) u.0 u.1 g
         (ap (λ (q : List Lexeme). m ∷ l ∷ q)
         (e ∙ (ap (λ (q : List Lexeme). ks ++ z ∷ q) a
         ∙ (sym (append_assoc ks (z ∷ []) (ys ++ x ∷ [])) ∙ sym (append_assoc (ks ++ z ∷ []) ys (x ∷ [])))))))
     by r (nested x {ys = ys} s n g a) f =
-        subst (λ (kind : FieldType). FieldTypeOf group_word (m ∷ l ∷ bs) kind) f (map_of_maps x (map_key m l z hm hl t.0 t.1 c refl) n g
+        subst (λ (kind : FieldType). IsFieldType group_word (m ∷ l ∷ bs) kind) f (map_of_maps x (map_key m l z hm hl t.0 t.1 c refl) n g
         (ap (λ (q : List Lexeme). m ∷ l ∷ q)
         (e ∙ (ap (λ (q : List Lexeme). ks ++ z ∷ q) a
         ∙ (sym (append_assoc ks (z ∷ []) (ys ++ x ∷ [])) ∙ sym (append_assoc (ks ++ z ∷ []) ys (x ∷ [])))))))
@@ -185,17 +185,17 @@ key_goes s t x b ys k r (key_at z ks h c v e) = key_at z (x ∷ ks) (b ks k h) c
 
 abbrev KeyBack : NameState → Lexeme → Result NameStep ProtoFault → Type 0
 KeyBack s x (Ok (name_steps.More t)) = (ys : List Lexeme) (w : Word) → TypedRest t ys w → TypedRest s (x ∷ ys) w
-KeyBack s x (Ok (name_steps.Whole w)) = (TypedRest s [] w) × IsMark x comma
+KeyBack s x (Ok (name_steps.Whole w)) = (TypedRest s [] w) × IsPunctuator x comma
 KeyBack s x (Err e) = Unit {0}
 
 behind_key_back : (s : NameState) (x : Lexeme) (r : Result NameStep ProtoFault) → NameBack TypedRest s x r
-    → KeyBack s x (behind_key x r)
+    → KeyBack s x (after_key x r)
 behind_key_back s x (Ok (name_steps.More t)) b = b
-behind_key_back s x (Ok (name_steps.Whole w)) b = either_is (KeyBack s x) (is_mark x.means comma) (Ok (name_steps.Whole w)) (wrong x) (λ h. (b, mark_is x.means comma h)) (λ h. tt)
+behind_key_back s x (Ok (name_steps.Whole w)) b = either_is (KeyBack s x) (is_punctuator x.means comma) (Ok (name_steps.Whole w)) (wrong x) (λ h. (b, mark_is x.means comma h)) (λ h. tt)
 behind_key_back s x (Err e) b = tt
 
-key_back : (s : NameState) (x : Lexeme) → KeyBack s x (key_step s x)
-key_back s x = behind_key_back s x (typed_step s x) (typed_back s x)
+key_back : (s : NameState) (x : Lexeme) → KeyBack s x (advance_map_key s x)
+key_back s x = behind_key_back s x (advance_field_type_name s x) (typed_back s x)
 
 of_key_back : (s : NameState) (x : Lexeme) (r : Result NameStep ProtoFault) → KeyBack s x r
     → MapBack (maps.Key s) x (of_key r)
@@ -219,22 +219,22 @@ of_inner_key_back k0 d s x (Err e) b = tt
 -- ---- values
 
 -- the name is `map`, and the token is `<`
-map_begins : (s : NameState) (w : Word) (x : Lexeme) → s ≡ names.Part w → begins_map w x ≡ true
-    → (IsPart s (codes "map")) × IsMark x less
+map_begins : (s : NameState) (w : Word) (x : Lexeme) → s ≡ names.Part w → is_map_start w x ≡ true
+    → (IsPart s (codes "map")) × IsPunctuator x less
 map_begins s w x e h =
-    let b : (is_mark x.means less ≡ true) × (bytes_eq w.name (codes "map") ≡ true) = and_both (is_mark x.means less) (bytes_eq w.name (codes "map")) h in
+    let b : (is_punctuator x.means less ≡ true) × (bytes_eq w.name (codes "map") ≡ true) = and_both (is_punctuator x.means less) (bytes_eq w.name (codes "map")) h in
     (subst (λ (t : NameState). IsPart t (codes "map")) (sym e) b.1, mark_is x.means less b.0)
 
 of_value_back : (k : Word) (s : NameState) (x : Lexeme) (r : Result NameStep ProtoFault) → ValueBack s x r
-    → MapBack (maps.Value k s) x (of_value k x r)
+    → MapBack (maps.Value k s) x (of_map_value k x r)
 of_value_back k s x (Ok (name_steps.More t)) b = λ ys kind q. (q.0, b ys q.0 q.1, q.2)
 of_value_back k s x (Ok (name_steps.Whole w)) b =
-    either_is (MapBack (maps.Value k s) x) (is_mark x.means greater) (Ok (steps.Done (types.Map k w))) (if begins_map w x then more_map (maps.InnerKey k 1 names.Start) else wrong x)
+    either_is (MapBack (maps.Value k s) x) (is_punctuator x.means greater) (Ok (steps.Done (types.Map k w))) (if is_map_start w x then more_map (maps.InnerKey k 1 names.Start) else wrong x)
     (λ h. (Some w, plain x [] {w = w} b.0 (mark_is x.means greater h) refl, refl))
-    (λ h. either_is (MapBack (maps.Value k s) x) (begins_map w x) (more_map (maps.InnerKey k 1 names.Start)) (wrong x)
+    (λ h. either_is (MapBack (maps.Value k s) x) (is_map_start w x) (more_map (maps.InnerKey k 1 names.Start)) (wrong x)
     (λ m. λ ys kind f. by (map_begins s w x b.1 m) ys kind (f (omega arith))) (λ m. tt))
   where
-    by : (IsPart s (codes "map")) × IsMark x less → (ys : List Lexeme) (kind : FieldType)
+    by : (IsPart s (codes "map")) × IsPunctuator x less → (ys : List Lexeme) (kind : FieldType)
         → InnerAt (SomeKey names.Start) k 1 ys kind → (r : Option Word) × ValueAt s (x ∷ ys) r × (kind_of k r ≡ kind)
     by m ys kind (inner_at {bs = bs} a (one_more z g none_left) e q) = (None, map_from x z bs m.0 m.1 (body_of bs a) g (ap (λ (l : List Lexeme). x ∷ l) e), q)
 of_value_back k s x (Err e) b = tt
@@ -246,23 +246,23 @@ of_inner_value_back k0 d s x (Ok (name_steps.More t)) b = λ ys kind f p. by ys 
     by : (ys : List Lexeme) (kind : FieldType) → InnerAt (SomeValue t) k0 d ys kind → InnerAt (SomeValue s) k0 d (x ∷ ys) kind
     by ys kind (inner_at {bs = bs} (r, v) c e q) = inner_at {bs = x ∷ bs} (r, b bs r v) c (ap (λ (l : List Lexeme). x ∷ l) e) q
 of_inner_value_back k0 d s x (Ok (name_steps.Whole w)) b =
-    either_is (MapBack (maps.InnerValue k0 d s) x) (is_mark x.means greater) (more_map (maps.Close k0 d))
-    (if begins_map w x then more_map (maps.InnerKey k0 (d + 1) names.Start) else wrong x)
+    either_is (MapBack (maps.InnerValue k0 d s) x) (is_punctuator x.means greater) (more_map (maps.Close k0 d))
+    (if is_map_start w x then more_map (maps.InnerKey k0 (d + 1) names.Start) else wrong x)
     (λ h. λ ys kind f p. ends_here (mark_is x.means greater h) ys kind (f p))
-    (λ h. either_is (MapBack (maps.InnerValue k0 d s) x) (begins_map w x) (more_map (maps.InnerKey k0 (d + 1) names.Start)) (wrong x)
+    (λ h. either_is (MapBack (maps.InnerValue k0 d s) x) (is_map_start w x) (more_map (maps.InnerKey k0 (d + 1) names.Start)) (wrong x)
     (λ m. λ ys kind f p. goes_deeper (map_begins s w x b.1 m) ys kind (subst (λ (n : ℕ). InnerAt (SomeKey names.Start) k0 n ys kind) (add-one d) (f (omega arith)))) (λ m. tt))
   where
-    ends_here : IsMark x greater → (ys : List Lexeme) (kind : FieldType) → (Closings d ys) × (types.NestedMap k0 ≡ kind)
+    ends_here : IsPunctuator x greater → (ys : List Lexeme) (kind : FieldType) → (Closings d ys) × (types.NestedMap k0 ≡ kind)
         → InnerAt (SomeValue s) k0 d (x ∷ ys) kind
     ends_here g ys kind (c, q) = inner_at {bs = x ∷ []} (Some w, plain x [] {w = w} b.0 g refl) c refl q
 
-    goes_deeper : (IsPart s (codes "map")) × IsMark x less → (ys : List Lexeme) (kind : FieldType)
+    goes_deeper : (IsPart s (codes "map")) × IsPunctuator x less → (ys : List Lexeme) (kind : FieldType)
         → InnerAt (SomeKey names.Start) k0 (suc d) ys kind → InnerAt (SomeValue s) k0 d (x ∷ ys) kind
     goes_deeper m ys kind (inner_at {bs = bs} a (one_more z {ys = cs} g c) e q) =
         inner_at {bs = x ∷ bs ++ z ∷ []} (None, map_from x z bs m.0 m.1 (body_of bs a) g refl) c (ap (λ (l : List Lexeme). x ∷ l) (e ∙ sym (append_assoc bs (z ∷ []) cs))) q
 of_inner_value_back k0 d s x (Err e) b = tt
 
-closed_back : (k0 : Word) (d : ℕ) (x : Lexeme) → IsMark x greater → MapBack (maps.Close k0 d) x (Ok (closed k0 d))
+closed_back : (k0 : Word) (d : ℕ) (x : Lexeme) → IsPunctuator x greater → MapBack (maps.Close k0 d) x (Ok (close_map k0 d))
 closed_back k0 d x g = by (nat_le d 1) refl
   where
     by : (b : Bool) → nat_le d 1 ≡ b
@@ -274,11 +274,11 @@ closed_back k0 d x g = by (nat_le d 1) refl
         let e : suc (d - 1) ≡ d = omega arith in
         (subst (λ (n : ℕ). Closings n (x ∷ ys)) e (one_more x g r.0), r.1)
 
-pub map_back : (s : MapState) (x : Lexeme) → MapBack s x (map_step s x)
-unfolding map_step
-map_back (maps.Key s) x = of_key_back s x (key_step s x) (key_back s x)
-map_back (maps.InnerKey k0 d s) x = of_inner_key_back k0 d s x (key_step s x) (key_back s x)
-map_back (maps.Value k s) x = of_value_back k s x (typed_step s x) (typed_value s x)
-map_back (maps.InnerValue k0 d s) x = of_inner_value_back k0 d s x (typed_step s x) (typed_value s x)
-map_back (maps.Close k0 d) x = either_is (MapBack (maps.Close k0 d) x) (is_mark x.means greater) (Ok (closed k0 d))
+pub map_back : (s : MapState) (x : Lexeme) → MapBack s x (advance_map s x)
+unfolding advance_map
+map_back (maps.Key s) x = of_key_back s x (advance_map_key s x) (key_back s x)
+map_back (maps.InnerKey k0 d s) x = of_inner_key_back k0 d s x (advance_map_key s x) (key_back s x)
+map_back (maps.Value k s) x = of_value_back k s x (advance_field_type_name s x) (typed_value s x)
+map_back (maps.InnerValue k0 d s) x = of_inner_value_back k0 d s x (advance_field_type_name s x) (typed_value s x)
+map_back (maps.Close k0 d) x = either_is (MapBack (maps.Close k0 d) x) (is_punctuator x.means greater) (Ok (close_map k0 d))
     (wrong x) (λ h. closed_back k0 d x (mark_is x.means greater h)) (λ h. tt)

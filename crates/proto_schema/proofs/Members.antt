@@ -1,7 +1,7 @@
 -- A field, a oneof, a value or an rpc that is declared after all others keeps the order.
 use Rattle.std.proofs.Common.{◌≡◌, ◌⊎◌, inl, inr, ℕ, suc, ◌<◌, ◌≤◌, List, [], ◌∷◌, ◌++◌, length, refl, ap, subst, sym, ◌∙◌, arith}
 use Rattle.std.specs.Prelude.{Option, Some, slice_get}
-use Rattle.proto_ast.specs.Order.{Declaration, field_decl, oneof_decl, value_decl, rpc_decl, Part, its_name, rank_of}
+use Rattle.proto_ast.specs.Order.{DeclIndex, field_decl, oneof_decl, value_decl, rpc_decl, DeclPart, its_name, part_rank}
 use Rattle.proto_ast.specs.Order.{IsOfField, field_type, map_key, map_value, outer_key, field_name, field_number}
 use Rattle.proto_ast.specs.Order.{IsOfValue, value_name, value_number, IsOfRpc, rpc_name, rpc_input, rpc_output}
 use Rattle.proto_ast.specs.declared.file.Span.{Span}
@@ -51,7 +51,7 @@ module _ (b g c : ℕ) (f : FieldDecl) (l : b ≤ g) (m : g ≤ c) (k : FieldWit
   type_before : (w : Word) (s : Span) → IsWithin b g w.span.start → s ≡ w.span → (b ≤ s.start) × (s.start < g)
   type_before w s i e = let q : s.start ≡ w.span.start = start_of s w.span e in (omega arith, omega arith)
 
-  field_spans : (p : Part) (s : Span) → IsOfField f s p → (b ≤ s.start) × (s.start < c)
+  field_spans : (p : DeclPart) (s : Span) → IsOfField f s p → (b ≤ s.start) × (s.start < c)
   field_spans p s (field_type w e h) = let (x, y) = type_before w s (of_type w e) h in (x, omega arith)
   field_spans p s (map_key v w e h) = let (x, y) = type_before v s (of_map v w e).0 h in (x, omega arith)
   field_spans p s (map_value v w e h) = let (x, y) = type_before w s (of_map v w e).1 h in (x, omega arith)
@@ -67,7 +67,7 @@ module _ (b g c : ℕ) (f : FieldDecl) (l : b ≤ g) (m : g ≤ c) (k : FieldWit
   not_named : (w x : Word) → f.kind ≡ Named w → f.kind ≡ NestedMap x → ⊥
   not_named w x e d = let q : Named w ≡ NestedMap x = sym e ∙ d in cc
 
-  one_field : (p : Part) (s t : Span) → IsOfField f s p → IsOfField f t p → s ≡ t
+  one_field : (p : DeclPart) (s t : Span) → IsOfField f s p → IsOfField f t p → s ≡ t
   one_field p s t (field_type w e h) (field_type v d u) =
       let q : Named w ≡ Named v = sym e ∙ d in let r : w ≡ v = (cc) in h ∙ (ap (λ (w : Word). w.span) r ∙ sym u)
   one_field p s t (map_key k w e h) (map_key i v d u) =
@@ -91,7 +91,7 @@ module _ (b g c : ℕ) (f : FieldDecl) (l : b ≤ g) (m : g ≤ c) (k : FieldWit
   before_number : (s t : Span) → (b ≤ s.start) × (s.start < g) → t ≡ f.number.span → s.start < t.start
   before_number s t (x, y) h = let q : t.start ≡ f.number.span.start = start_of t f.number.span h in let n = k.number in omega arith
 
-  field_parts : (p q : Part) (s t : Span) → rank_of p < rank_of q → IsOfField f s p → IsOfField f t q → s.start < t.start
+  field_parts : (p q : DeclPart) (s t : Span) → part_rank p < part_rank q → IsOfField f s p → IsOfField f t q → s.start < t.start
   field_parts p q s t r h (field_type w e u) = absurd (omega arith)
   field_parts p q s t r (field_type v d h) (map_key x y e u) = absurd (no_map v x y d e)
   field_parts p q s t r h (map_key x y e u) = absurd (omega arith)
@@ -127,7 +127,7 @@ abbrev pub with_field : FieldDecl → MessageDecl → MessageDecl
 with_field f m = record m { fields = m.fields ++ f ∷ [] }
 
 pub in_new_field : (o : Option ℕ) (f : FieldDecl) (ms : List MessageDecl) (i : ℕ) (m : MessageDecl) → o ≡ Some i → slice_get ms i ≡ Some m
-    → {s : Span} {x : Declaration} {p : Part} → InMessages (edit_open o (with_field f) ms) s x p
+    → {s : Span} {x : DeclIndex} {p : DeclPart} → InMessages (edit_open o (with_field f) ms) s x p
     → InMessages ms s x p ⊎ ((x ≡ field_decl i (length m.fields)) × IsOfField f s p)
 in_new_field o f ms i m oi mi (message_in k n e h) =
     elim (in_edited_open o (with_field f) ms k n e) [
@@ -182,7 +182,7 @@ kept_field F b g c o f l m w k = by (edit_open_cases o (with_field f) F.messages
           one = one_field b g c f l m w;
           parts = field_parts b g c f l m w;
         })
-        (enums_behind_edit F o (with_field f) (λ m. refl) k.ordered.enum_behind)
+        (enums_behind_edit F o (with_field f) (λ m. refl) k.ordered.enum_after)
 
 -- ---- a new oneof
 
@@ -190,7 +190,7 @@ abbrev pub with_oneof : Word → MessageDecl → MessageDecl
 with_oneof w m = record m { oneofs = m.oneofs ++ w ∷ [] }
 
 pub in_new_oneof : (o : Option ℕ) (w : Word) (ms : List MessageDecl) (i : ℕ) (m : MessageDecl) → o ≡ Some i → slice_get ms i ≡ Some m
-    → {s : Span} {x : Declaration} {p : Part} → InMessages (edit_open o (with_oneof w) ms) s x p
+    → {s : Span} {x : DeclIndex} {p : DeclPart} → InMessages (edit_open o (with_oneof w) ms) s x p
     → InMessages ms s x p ⊎ ((x ≡ oneof_decl i (length m.oneofs)) × IsName w.span s p)
 in_new_oneof o w ms i m oi mi (message_in k n e h) =
     elim (in_edited_open o (with_oneof w) ms k n e) [
@@ -236,7 +236,7 @@ kept_oneof F b c o w l i k = by (edit_open_cases o (with_oneof w) F.messages)
         ])
         (λ y p s q h. no_place F.messages (λ m. m.oneofs) d.place (length d.item.oneofs) d.item d.is (omega arith) (oneof_precedes q h))
         (λ p s h. no_place F.messages (λ m. m.oneofs) d.place (length d.item.oneofs) d.item d.is (omega arith) (oneof_place h)) i)
-        (enums_behind_edit F o (with_oneof w) (λ m. refl) k.ordered.enum_behind)
+        (enums_behind_edit F o (with_oneof w) (λ m. refl) k.ordered.enum_after)
 
 -- ---- a new value
 
@@ -246,17 +246,17 @@ pub record ValueWithin (b c : ℕ) (v : ValueDecl) : Type 0 where
   pub ordered : v.name.span.start < v.number.span.start
 
 module _ (b c : ℕ) (v : ValueDecl) (k : ValueWithin b c v) where
-  value_spans : (p : Part) (s : Span) → IsOfValue v s p → (b ≤ s.start) × (s.start < c)
+  value_spans : (p : DeclPart) (s : Span) → IsOfValue v s p → (b ≤ s.start) × (s.start < c)
   value_spans p s (value_name h) =
       let q : s.start ≡ v.name.span.start = start_of s v.name.span h in let n = k.name in (omega arith, omega arith)
   value_spans p s (value_number h) =
       let q : s.start ≡ v.number.span.start = start_of s v.number.span h in let n = k.number in (omega arith, omega arith)
 
-  one_value : (p : Part) (s t : Span) → IsOfValue v s p → IsOfValue v t p → s ≡ t
+  one_value : (p : DeclPart) (s t : Span) → IsOfValue v s p → IsOfValue v t p → s ≡ t
   one_value p s t (value_name h) (value_name u) = h ∙ sym u
   one_value p s t (value_number h) (value_number u) = h ∙ sym u
 
-  value_parts : (p q : Part) (s t : Span) → rank_of p < rank_of q → IsOfValue v s p → IsOfValue v t q → s.start < t.start
+  value_parts : (p q : DeclPart) (s t : Span) → part_rank p < part_rank q → IsOfValue v s p → IsOfValue v t q → s.start < t.start
   value_parts p q s t r (value_name h) (value_name u) = absurd (omega arith)
   value_parts p q s t r (value_number h) (value_name u) = absurd (omega arith)
   value_parts p q s t r (value_name h) (value_number u) =
@@ -270,7 +270,7 @@ abbrev pub with_value : ValueDecl → EnumDecl → EnumDecl
 with_value v e = record e { values = e.values ++ v ∷ [] }
 
 pub in_new_value : (v : ValueDecl) (es : List EnumDecl) (i : ℕ) (e : EnumDecl) → suc i ≡ length es → slice_get es i ≡ Some e
-    → {s : Span} {x : Declaration} {p : Part} → InEnums (edit_last (with_value v) es) s x p
+    → {s : Span} {x : DeclIndex} {p : DeclPart} → InEnums (edit_last (with_value v) es) s x p
     → InEnums es s x p ⊎ ((x ≡ value_decl i (length e.values)) × IsOfValue v s p)
 in_new_value v es i e oi ei (enum_in k n q h) =
     elim (in_edited_last (with_value v) es k n q) [
@@ -316,12 +316,12 @@ kept_value F b c v l w k = by (edit_last_cases (with_value v) F.enums)
           one = one_value b c v w;
           parts = value_parts b c v w;
         })
-        (enums_behind_last F (with_value v) (λ e. refl) (λ e. refl) k.ordered.enum_behind)
+        (enums_behind_last F (with_value v) (λ e. refl) (λ e. refl) k.ordered.enum_after)
 
 -- ---- a new rpc
 
 module _ (b c : ℕ) (r : RpcDecl) (k : RpcWithin b c r) where
-  rpc_spans : (p : Part) (s : Span) → IsOfRpc r s p → (b ≤ s.start) × (s.start < c)
+  rpc_spans : (p : DeclPart) (s : Span) → IsOfRpc r s p → (b ≤ s.start) × (s.start < c)
   rpc_spans p s (rpc_name h) =
       let q : s.start ≡ r.name.span.start = start_of s r.name.span h in let n = k.name.within in (omega arith, omega arith)
   rpc_spans p s (rpc_input h) =
@@ -329,15 +329,15 @@ module _ (b c : ℕ) (r : RpcDecl) (k : RpcWithin b c r) where
   rpc_spans p s (rpc_output h) =
       let q : s.start ≡ r.output.span.start = start_of s r.output.span h in let n = k.output.within in (omega arith, omega arith)
 
-  one_rpc : (p : Part) (s t : Span) → IsOfRpc r s p → IsOfRpc r t p → s ≡ t
+  one_rpc : (p : DeclPart) (s t : Span) → IsOfRpc r s p → IsOfRpc r t p → s ≡ t
   one_rpc p s t (rpc_name h) (rpc_name u) = h ∙ sym u
   one_rpc p s t (rpc_input h) (rpc_input u) = h ∙ sym u
   one_rpc p s t (rpc_output h) (rpc_output u) = h ∙ sym u
 
-  rpc_parts : (p q : Part) (s t : Span) → rank_of p < rank_of q → IsOfRpc r s p → IsOfRpc r t q → s.start < t.start
+  rpc_parts : (p q : DeclPart) (s t : Span) → part_rank p < part_rank q → IsOfRpc r s p → IsOfRpc r t q → s.start < t.start
   rpc_parts p q s t l h (rpc_name u) = absurd (no_name p l h)
     where
-      no_name : (p : Part) → rank_of p < 3 → IsOfRpc r s p → ⊥
+      no_name : (p : DeclPart) → part_rank p < 3 → IsOfRpc r s p → ⊥
       no_name p l (rpc_name h) = omega arith
       no_name p l (rpc_input h) = omega arith
       no_name p l (rpc_output h) = omega arith
@@ -365,7 +365,7 @@ abbrev pub with_rpc : RpcDecl → ServiceDecl → ServiceDecl
 with_rpc r x = record x { rpcs = x.rpcs ++ r ∷ [] }
 
 pub in_new_rpc : (r : RpcDecl) (ss : List ServiceDecl) (i : ℕ) (m : ServiceDecl) → suc i ≡ length ss → slice_get ss i ≡ Some m
-    → {s : Span} {x : Declaration} {p : Part} → InServices (edit_last (with_rpc r) ss) s x p
+    → {s : Span} {x : DeclIndex} {p : DeclPart} → InServices (edit_last (with_rpc r) ss) s x p
     → InServices ss s x p ⊎ ((x ≡ rpc_decl i (length m.rpcs)) × IsOfRpc r s p)
 in_new_rpc r ss i m oi mi (service_in k n q h) =
     elim (in_edited_last (with_rpc r) ss k n q) [
@@ -411,4 +411,4 @@ kept_rpc F b c r l w k = by (edit_last_cases (with_rpc r) F.services)
           one = one_rpc b c r w;
           parts = rpc_parts b c r w;
         })
-        k.ordered.enum_behind
+        k.ordered.enum_after

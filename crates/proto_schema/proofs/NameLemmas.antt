@@ -4,9 +4,9 @@ use Rattle.std.specs.Prelude.{Ok}
 use Rattle.std.proofs.lemmas.Bool.{eqb-true, eq-eqb}
 use Rattle.std.proofs.lemmas.List.{append_assoc}
 use Rattle.proto_ast.specs.Dot.{dot}
-use Rattle.proto_grammar.specs.Lexemes.{Meaning, identifier, integer, number, string, mark, the_end, none, Lexeme, span_to, word_at, IsWord, IsMark}
-use Rattle.proto_grammar.specs.Grammar.{FullName, one, more}
-use Rattle.proto_grammar.specs.Reading.{is_mark, by_name, if_name, part, full_step}
+use Rattle.proto_grammar.specs.Lexemes.{TokenMeaning, identifier, integer, number, string, mark, the_end, none, Lexeme, span_to, make_word, IsWord, IsPunctuator}
+use Rattle.proto_grammar.specs.Grammar.{IsDottedName, one, more}
+use Rattle.proto_grammar.specs.Advancing.{is_punctuator, by_name, if_name, name_part, advance_full_name}
 use Rattle.proto_ast.specs.declared.file.Word.{Word}
 use Rattle.proto_grammar.specs.declared.name.NameState.{NameState}
 use Rattle.proto_grammar.specs.declared.name.NameState.TheVariants as names
@@ -14,7 +14,7 @@ use Rattle.proto_grammar.specs.declared.name.NameStep.TheVariants as name_steps
 
 -- ---- meanings
 
-pub mark_is : (m : Meaning) (c : ℕ) → is_mark m c ≡ true → m ≡ mark c
+pub mark_is : (m : TokenMeaning) (c : ℕ) → is_punctuator m c ≡ true → m ≡ mark c
 mark_is (mark d) c h = ap mark (eqb-true d c h)
 mark_is (identifier name) c h = absurd (let t : false ≡ true = h in cc)
 mark_is (integer value) c h = absurd (let t : false ≡ true = h in cc)
@@ -23,10 +23,10 @@ mark_is (string value) c h = absurd (let t : false ≡ true = h in cc)
 mark_is the_end c h = absurd (let t : false ≡ true = h in cc)
 mark_is none c h = absurd (let t : false ≡ true = h in cc)
 
-pub is_mark_of : (m : Meaning) (c : ℕ) → m ≡ mark c → is_mark m c ≡ true
+pub is_mark_of : (m : TokenMeaning) (c : ℕ) → m ≡ mark c → is_punctuator m c ≡ true
 is_mark_of m c h = rw h (eq-eqb c c refl)
 
-pub word_no_mark : (m : Meaning) (name : List ℕ) (c : ℕ) → m ≡ identifier name → is_mark m c ≡ false
+pub word_no_mark : (m : TokenMeaning) (name : List ℕ) (c : ℕ) → m ≡ identifier name → is_punctuator m c ≡ false
 word_no_mark m name c h = rw h refl
 
 pub is_name : {X : Type 0} (x : Lexeme) (f : List ℕ → X) (name : List ℕ) → IsWord x name → if_name x f ≡ Ok (f name)
@@ -54,35 +54,35 @@ walks_in step wide f lift (go {s} {t} x ys e h w) = go x ys e (lift s t x h) (wa
 -- ---- a full name is read
 
 abbrev pub FullGoes : NameState → Lexeme → NameState → Type 0
-FullGoes s x t = full_step s x ≡ Ok (name_steps.More t)
+FullGoes s x t = advance_full_name s x ≡ Ok (name_steps.More t)
 
-start_goes : (x : Lexeme) (name : List ℕ) → IsWord x name → FullGoes names.Start x (names.Part (word_at name x.span))
-unfolding full_step
-start_goes x name h = is_name x (λ n. part n x.span) name h
+start_goes : (x : Lexeme) (name : List ℕ) → IsWord x name → FullGoes names.Start x (names.Part (make_word name x.span))
+unfolding advance_full_name
+start_goes x name h = is_name x (λ n. name_part n x.span) name h
 
-dot_goes : (x : Lexeme) (w : Word) → IsMark x dot → FullGoes (names.Part w) x (names.Dot w)
-unfolding full_step
+dot_goes : (x : Lexeme) (w : Word) → IsPunctuator x dot → FullGoes (names.Part w) x (names.Dot w)
+unfolding advance_full_name
 dot_goes x w h = rw (is_mark_of x.means dot h) refl
 
 part_goes : (x : Lexeme) (name : List ℕ) (w : Word) → IsWord x name
-    → FullGoes (names.Dot w) x (names.Part (word_at (w.name ++ dot ∷ name) (span_to w.span x.span)))
-unfolding full_step
-part_goes x name w h = is_name x (λ n. part (w.name ++ dot ∷ n) (span_to w.span x.span)) name h
+    → FullGoes (names.Dot w) x (names.Part (make_word (w.name ++ dot ∷ name) (span_to w.span x.span)))
+unfolding advance_full_name
+part_goes x name w h = is_name x (λ n. name_part (w.name ++ dot ∷ n) (span_to w.span x.span)) name h
 
 -- a name after the tokens that are read, with a dot between
 abbrev behind_dot : Word → Word → Word
-behind_dot v w = word_at (v.name ++ dot ∷ w.name) (span_to v.span w.span)
+behind_dot v w = make_word (v.name ++ dot ∷ w.name) (span_to v.span w.span)
 
-full_behind : {ys : List Lexeme} {w : Word} (v : Word) → FullName ys w
+full_behind : {ys : List Lexeme} {w : Word} (v : Word) → IsDottedName ys w
     → Walks FullGoes (names.Dot v) ys (names.Part (behind_dot v w))
 full_behind v (one x name h) = go x [] refl (part_goes x name v h) (stay refl refl)
 full_behind v (more x y name zs w h d f) =
-    let u = word_at (v.name ++ dot ∷ name) (span_to v.span x.span) in
+    let u = make_word (v.name ++ dot ∷ name) (span_to v.span x.span) in
     let same : ◌≡◌ {A = List ℕ} ((v.name ++ dot ∷ name) ++ dot ∷ w.name) (v.name ++ dot ∷ (name ++ dot ∷ w.name)) = append_assoc v.name (dot ∷ name) (dot ∷ w.name) in
     go x (y ∷ zs) refl (part_goes x name v h) (go y zs refl (dot_goes y u d)
-    (subst (λ (b : List ℕ). Walks FullGoes (names.Dot u) zs (names.Part (word_at b (span_to v.span w.span)))) same (full_behind u f)))
+    (subst (λ (b : List ℕ). Walks FullGoes (names.Dot u) zs (names.Part (make_word b (span_to v.span w.span)))) same (full_behind u f)))
 
-pub full_reads : {ys : List Lexeme} {w : Word} → FullName ys w → Walks FullGoes names.Start ys (names.Part w)
+pub full_reads : {ys : List Lexeme} {w : Word} → IsDottedName ys w → Walks FullGoes names.Start ys (names.Part w)
 full_reads (one x name h) = go x [] refl (start_goes x name h) (stay refl refl)
 full_reads (more x y name zs w h d f) =
-    go x (y ∷ zs) refl (start_goes x name h) (go y zs refl (dot_goes y (word_at name x.span) d) (full_behind (word_at name x.span) f))
+    go x (y ∷ zs) refl (start_goes x name h) (go y zs refl (dot_goes y (make_word name x.span) d) (full_behind (make_word name x.span) f))

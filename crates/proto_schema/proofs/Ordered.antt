@@ -2,7 +2,7 @@
 -- after all earlier ones.
 use Rattle.std.proofs.Common.{◌≡◌, ℕ, suc, ◌≤◌, Bool, true, false, List, [], ◌∷◌, ◌++◌, length, refl, ◌∙◌, arith}
 use Rattle.std.specs.Prelude.{Option, Some, None}
-use Rattle.proto_ast.specs.Order.{Declaration, Part, StandsAt, IsOrdered}
+use Rattle.proto_ast.specs.Order.{DeclIndex, DeclPart, IsPartSpan, IsOrdered}
 use Rattle.proto_ast.specs.Order
 use Rattle.proto_ast.specs.declared.file.Span.{Span}
 use Rattle.proto_ast.specs.declared.file.File.{File}
@@ -10,11 +10,11 @@ use Rattle.proto_ast.specs.declared.file.Word.{Word}
 use Rattle.proto_ast.specs.declared.file.Number.{Number}
 use Rattle.proto_ast.specs.declared.file.FieldType.{FieldType}
 use Rattle.std.proofs.lemmas.List.{append_assoc}
-use Rattle.proto_grammar.specs.Lexemes.{Lexeme, word_at}
-use Rattle.proto_grammar.specs.Grammar.{FieldTypeOf}
+use Rattle.proto_grammar.specs.Lexemes.{Lexeme, make_word}
+use Rattle.proto_grammar.specs.Grammar.{IsFieldType}
 use Rattle.proto_schema.specs.Files
-use Rattle.proto_schema.specs.Files.{Draft, Statement, Says, Forms, ClosesTo, FieldEnd, nothing_said, innermost_of, add_field, add_rpc, field}
-use Rattle.proto_schema.specs.Faults.{IsTextOf}
+use Rattle.proto_schema.specs.Files.{Draft, IsStatement, AreStatementsOf, AreFileTokens, IsBlockEnd, IsFieldEnd, initial_draft, innermost_of, add_field, add_rpc, make_field}
+use Rattle.proto_schema.specs.Faults.{IsProtoTextOf}
 use Rattle.proto_ast.specs.Order.{HasFullName}
 use Rattle.proto_ast.specs.declared.file.FieldLabel.{FieldLabel}
 use Rattle.proto_ast.specs.declared.file.FieldLabel.TheVariants.{Plain}
@@ -29,15 +29,15 @@ use Rattle.proto_schema.proofs.Members.{kept_field, kept_oneof, kept_value, kept
 -- ---- statements
 
 pub kept_field_statement : (b e : ℕ) (d : Draft) {ts es : List Lexeme} {words : List (List ℕ)} {kind : FieldType} {name : Word} {number : Number}
-    {packed : Option Bool} (label : FieldLabel) (oneof : Option ℕ) → FieldTypeOf words ts kind → FieldEnd es name number packed
-    → Along b (ts ++ es) e → Kept d.file b → Kept (add_field d (field name number kind label oneof packed)).file e
+    {packed : Option Bool} (label : FieldLabel) (oneof : Option ℕ) → IsFieldType words ts kind → IsFieldEnd es name number packed
+    → Along b (ts ++ es) e → Kept d.file b → Kept (add_field d (make_field name number kind label oneof packed)).file e
 kept_field_statement b e d {ts = ts} {es = es} {kind = kind} {name = name} {number = number} {packed = packed} label oneof t f h k =
     let (g, u, v) = along_split b ts es e h in
     let types : TypesWithin b g kind = (types_along b g t u).1 in
     let ends : EndWithin g e name number = end_along g e f v in
     let l : b ≤ g = along_ends b ts g u in
     let m : g ≤ e = along_ends g es e v in
-    kept_field d.file b g e (innermost_of d.messages) (field name number kind label oneof packed) l m
+    kept_field d.file b g e (innermost_of d.messages) (make_field name number kind label oneof packed) l m
     (record { types = types; name = ends.name.within; number = ends.number; ordered = ends.ordered }) k
 
 -- a name after a first token
@@ -46,7 +46,7 @@ second_within b e x y ys (l, p, r) =
     let q : IsWithin (suc x.span.start) e y.span.start = first_within (suc x.span.start) y ys e r in
     widen b (suc x.span.start) e e y.span.start (omega arith) (omega arith) q
 
-pub kept_statement : (b e : ℕ) (d : Draft) {all : List Lexeme} {other : Draft} → Statement d all other → Along b all e → SoFar d
+pub kept_statement : (b e : ℕ) (d : Draft) {all : List Lexeme} {other : Draft} → IsStatement d all other → Along b all e → SoFar d
     → Kept d.file b → Kept other.file e
 kept_statement b e d {all = all} (Files.package_name x z {ys = ys} {w = w} i n hx f hz a) h s k =
     by (along_same b e all (x ∷ ys ++ z ∷ []) a h)
@@ -68,16 +68,16 @@ kept_statement b e d {all = all} (Files.public_import x p y z path i hx hp hy hz
 kept_statement b e d {all = all} (Files.option x z hx o hz a) h s k = kept_to d.file b e (along_ends b all e h) k
 kept_statement b e d {all = all} (Files.empty x i hx a) h s k = kept_to d.file b e (along_ends b all e h) k
 kept_statement b e d {all = all} (Files.message x y z name i hx hy hz a) h s k =
-    kept_message d.file b e (innermost_of d.messages) (word_at name y.span) (λ j c q. (s.enums j c q).parent) (along_ends b all e h)
+    kept_message d.file b e (innermost_of d.messages) (make_word name y.span) (λ j c q. (s.enums j c q).parent) (along_ends b all e h)
     (second_within b e x y (z ∷ []) (along_same b e all (x ∷ y ∷ z ∷ []) a h)) k
 kept_statement b e d {all = all} (Files.enum x y z name i hx hy hz a) h s k =
-    kept_enum d.file b e (innermost_of d.messages) (word_at name y.span) (along_ends b all e h)
+    kept_enum d.file b e (innermost_of d.messages) (make_word name y.span) (along_ends b all e h)
     (second_within b e x y (z ∷ []) (along_same b e all (x ∷ y ∷ z ∷ []) a h)) k
 kept_statement b e d {all = all} (Files.service x y z name i hx hy hz a) h s k =
-    kept_service d.file b e (word_at name y.span) (along_ends b all e h)
+    kept_service d.file b e (make_word name y.span) (along_ends b all e h)
     (second_within b e x y (z ∷ []) (along_same b e all (x ∷ y ∷ z ∷ []) a h)) k
 kept_statement b e d {all = all} (Files.oneof x y z name i hx hy hz a) h s k =
-    kept_oneof d.file b e (innermost_of d.messages) (word_at name y.span) (along_ends b all e h)
+    kept_oneof d.file b e (innermost_of d.messages) (make_word name y.span) (along_ends b all e h)
     (second_within b e x y (z ∷ []) (along_same b e all (x ∷ y ∷ z ∷ []) a h)) k
 kept_statement b e d {all = all} (Files.a_field {ls = ls} {ts = ts} {es = es} {label = label} i l t f a) h s k =
     let q : Along b (ls ++ (ts ++ es)) e = along_same b e all (ls ++ (ts ++ es)) (a ∙ append_assoc ls ts es) h in
@@ -94,8 +94,8 @@ kept_statement b e d {all = all} (Files.reserved_values x z filled {rs = rs} q h
 kept_statement b e d {all = all} (Files.reserved_value_names x z filled {ws = ws} q hx r hz a) h s k =
     kept_same_enum d.file b e (λ c. record c { names = c.names ++ ws }) (λ c. refl) (λ c. refl) (λ c. refl) (along_ends b all e h) k
 kept_statement b e d {all = all} (Files.value x y z name filled {ns = ns} {os = os} {number = number} q hx w hy n o hz a) h s k =
-    let ends : EndWithin b e (word_at name x.span) number = numbered_along b e x y name os (z ∷ []) hx n (along_same b e all (x ∷ y ∷ ns ++ os ++ z ∷ []) a h) in
-    kept_value d.file b e (record { name = word_at name x.span; number = number }) (along_ends b all e h)
+    let ends : EndWithin b e (make_word name x.span) number = numbered_along b e x y name os (z ∷ []) hx n (along_same b e all (x ∷ y ∷ ns ++ os ++ z ∷ []) a h) in
+    kept_value d.file b e (record { name = make_word name x.span; number = number }) (along_ends b all e h)
     (record { name = ends.name.within; number = ends.number; ordered = ends.ordered }) k
 kept_statement b e d {all = all} (Files.rpc z {ys = ys} {r = r} q f hz a) h s k =
     let (c, p, u) = along_split b ys (z ∷ []) e (along_same b e all (ys ++ z ∷ []) a h) in
@@ -105,7 +105,7 @@ kept_statement b e d {all = all} (Files.rpc_with_options z {ys = ys} {r = r} q f
     kept_to (add_rpc d r).file c e (along_ends c (z ∷ []) e u) (kept_rpc d.file b c r (along_ends b ys c p) (rpc_along b c f p) k)
 kept_statement b e d {all = all} (Files.close x hx a c) h s k = closes c (kept_to d.file b e (along_ends b all e h) k)
   where
-    closes : {other : Draft} → ClosesTo d other → Kept d.file e → Kept other.file e
+    closes : {other : Draft} → IsBlockEnd d other → Kept d.file e → Kept other.file e
     closes (Files.message_ends i is p q) k = k
     closes (Files.oneof_ends i p) k = k
     closes (Files.enum_ends p) k = k
@@ -114,7 +114,7 @@ kept_statement b e d {all = all} (Files.close x hx a c) h s k = closes c (kept_t
 
 -- ---- texts
 
-pub nothing_stands : {s : Span} {x : Declaration} {p : Part} → StandsAt nothing_said.file s x p → ⊥
+pub nothing_stands : {s : Span} {x : DeclIndex} {p : DeclPart} → IsPartSpan initial_draft.file s x p → ⊥
 nothing_stands (Order.package_name w e h) = let t : ◌≡◌ None (Some w) = e in cc
 nothing_stands (Order.import i y e h) = nothing_at i y e
 nothing_stands (Order.message i m e h) = nothing_at i m e
@@ -125,26 +125,26 @@ nothing_stands (Order.value i j e v q g h) = nothing_at i e q
 nothing_stands (Order.service i y q h) = nothing_at i y q
 nothing_stands (Order.rpc i j y r q g h) = nothing_at i y q
 
-pub nothing_kept : (e : ℕ) → Kept nothing_said.file e
+pub nothing_kept : (e : ℕ) → Kept initial_draft.file e
 nothing_kept e = record {
   below = λ x p s h. absurd (nothing_stands h);
   ordered = record {
     apart = λ x y p q s t h g u. absurd (nothing_stands h);
     ascend = λ x y p q s t o h g. absurd (nothing_stands h);
     parts = λ x p q s t o h g. absurd (nothing_stands h);
-    enum_behind = λ i j m c q r t. absurd (nothing_at i m q);
+    enum_after = λ i j m c q r t. absurd (nothing_at i m q);
   };
 }
 
-pub kept_so_far : (b e : ℕ) {xs : List Lexeme} {d : Draft} → Says xs d → Along b xs e → Kept d.file e
+pub kept_so_far : (b e : ℕ) {xs : List Lexeme} {d : Draft} → AreStatementsOf xs d → Along b xs e → Kept d.file e
 kept_so_far b e (Files.start x) h = nothing_kept e
 kept_so_far b e {xs = all} (Files.another {xs = xs} {ys = ys} {c = d} x y a) h =
     let (c, p, q) = along_split b xs ys e (along_same b e all (xs ++ ys) a h) in
     kept_statement c e d y q (formed_so_far b c x p) (kept_so_far b c x p)
 
-pub ordered_text : (b e : ℕ) {xs : List Lexeme} {F : File} → Forms xs F → Along b xs e → IsOrdered F
+pub ordered_text : (b e : ℕ) {xs : List Lexeme} {F : File} → AreFileTokens xs F → Along b xs e → IsOrdered F
 ordered_text b e {xs = all} (Files.whole x {xs = xs} {d = d} s w m a) h =
     let (c, p, q) = along_split b xs (x ∷ []) e (along_same b e all (xs ++ x ∷ []) a h) in (kept_so_far b c s p).ordered
 
-pub in_order : (text : List ℕ) (F : File) → IsTextOf text F → IsOrdered F
+pub in_order : (text : List ℕ) (F : File) → IsProtoTextOf text F → IsOrdered F
 in_order text F h = ordered_text 0 (suc (length text)) h.reads (tokens_along text 0 h.of_text)

@@ -2,15 +2,15 @@
 use Rattle.std.proofs.Common.{ℕ, ◌<◌, false, List, [], ◌∷◌, ◌++◌, codes, refl, arith}
 use Rattle.std.specs.Prelude.{Option, Some, None}
 use Rattle.mrpc_table.specs.declared.words.Decimal.TheVariants.{Small}
-use Rattle.proto_grammar.specs.Lexemes.{Meaning, Lexeme, identifier, integer, string, mark, the_end, word_at, number_at}
+use Rattle.proto_grammar.specs.Lexemes.{TokenMeaning, Lexeme, identifier, integer, string, mark, the_end, make_word, make_number}
 use Rattle.proto_grammar.specs.Grammar
 use Rattle.proto_schema.specs.Files
-use Rattle.proto_schema.specs.Files.{nothing_said}
+use Rattle.proto_schema.specs.Files.{initial_draft}
 use Rattle.proto_schema.specs.Faults
-use Rattle.proto_schema.specs.Faults.{IsNamed}
+use Rattle.proto_schema.specs.Faults.{IsSpecificFault}
 use Rattle.proto_ast.specs.Joined.{Joined, alone}
 use Rattle.proto_ast.specs.Order
-use Rattle.proto_ast.specs.Order.{IsFormed, IsOrdered, StandsAt, message_decl, field_decl, its_type, its_name, its_number}
+use Rattle.proto_ast.specs.Order.{IsFormed, IsOrdered, IsPartSpan, message_decl, field_decl, its_type, its_name, its_number}
 use Rattle.proto_ast.specs.Together
 use Rattle.proto_grammar.specs.declared.fault.ProtoReason.TheVariants as reasons
 use Rattle.proto_ast.specs.declared.file.Span.{Span}
@@ -22,7 +22,7 @@ use Rattle.proto_ast.specs.declared.file.File.{File}
 use Rattle.proto_ast.specs.declared.file.Word.{Word}
 use Rattle.proto_ast.specs.declared.joined.Head.{Head}
 
-abbrev at : ℕ → Meaning → Lexeme
+abbrev at : ℕ → TokenMeaning → Lexeme
 at n m = record { means = m; span = record { start = n; end = n; line = 1 } }
 
 abbrev here : ℕ → Span
@@ -46,13 +46,13 @@ small_says = record {
   «package» = None;
   imports = [];
   messages = record {
-    name = word_at (codes "M") (here 5);
+    name = make_word (codes "M") (here 5);
     file = 0;
     parent = None;
     fields = record {
-      name = word_at (codes "a") (here 8);
-      number = number_at false (Small 1) (here 10);
-      kind = Named (word_at (codes "uint64") (here 7));
+      name = make_word (codes "a") (here 8);
+      number = make_number false (Small 1) (here 10);
+      kind = Named (make_word (codes "uint64") (here 7));
       label = Plain;
       oneof = None;
       packed = None;
@@ -65,7 +65,7 @@ small_says = record {
   services = [];
 }
 
-pub small_file : Files.Forms (header ++ opens ++ a_field ++ closes ++ at 13 the_end ∷ []) small_says
+pub small_file : Files.AreFileTokens (header ++ opens ++ a_field ++ closes ++ at 13 the_end ∷ []) small_says
 small_file =
     Files.whole (at 13 the_end)
     (Files.another
@@ -80,21 +80,21 @@ small_file =
     (refl, refl) refl refl
 
 -- syntax = "proto3"; import x
-pub small_import : IsNamed (header ++ at 4 (identifier (codes "import")) ∷ at 5 (identifier (codes "x")) ∷ []) 5 reasons.Import
+pub small_import : IsSpecificFault (header ++ at 4 (identifier (codes "import")) ∷ at 5 (identifier (codes "x")) ∷ []) 5 reasons.Import
 small_import =
-    Faults.import 4 (at 4 (identifier (codes "import"))) (at 5 (identifier (codes "x"))) nothing_said refl (Files.start (Files.proto3 _ _ _ _ refl refl refl refl))
+    Faults.import 4 (at 4 (identifier (codes "import"))) (at 5 (identifier (codes "x"))) initial_draft refl (Files.start (Files.proto3 _ _ _ _ refl refl refl refl))
     (refl, refl) refl refl refl refl refl
 
 -- the spans of the parts of its field
-small_type : StandsAt small_says (here 7) (field_decl 0 0) its_type
+small_type : IsPartSpan small_says (here 7) (field_decl 0 0) its_type
 small_type = Order.field 0 0 _ _ refl refl (Order.field_type _ refl refl)
 
-small_number : StandsAt small_says (here 10) (field_decl 0 0) its_number
+small_number : IsPartSpan small_says (here 10) (field_decl 0 0) its_number
 small_number = Order.field 0 0 _ _ refl refl (Order.field_number refl)
 
 -- in no file a message comes before an earlier one
 abbrev message_at : ℕ → MessageDecl
-message_at n = record { name = word_at (codes "M") (here n); file = 0; parent = None; fields = []; oneofs = []; ranges = []; names = [] }
+message_at n = record { name = make_word (codes "M") (here n); file = 0; parent = None; fields = []; oneofs = []; ranges = []; names = [] }
 
 abbrev of_messages : List MessageDecl → File
 of_messages ms = record { «package» = None; imports = []; messages = ms; enums = []; services = [] }
@@ -108,9 +108,9 @@ small_disorder h =
 -- no field is in a oneof that its message doesn't have
 abbrev member : FieldDecl
 member = record {
-  name = word_at (codes "a") (here 8);
-  number = number_at false (Small 1) (here 10);
-  kind = Named (word_at (codes "uint64") (here 7));
+  name = make_word (codes "a") (here 8);
+  number = make_number false (Small 1) (here 10);
+  kind = Named (make_word (codes "uint64") (here 7));
   label = Plain;
   oneof = Some 0;
   packed = None;
@@ -122,7 +122,7 @@ small_stray h = let l : 0 < 0 = ((h.messages 0 (message_at 0) (omega arith)).fie
 -- ---- files that are resolved together
 
 -- the spans of the parts of the small file's field, and their file, if it is resolved alone
-small_name_alone : Together.StandsAt (alone small_says) (here 8) (Together.field_decl 0 0) its_name
+small_name_alone : Together.IsPartSpan (alone small_says) (here 8) (Together.field_decl 0 0) its_name
 small_name_alone = Together.field 0 0 _ _ refl refl (Order.field_name refl)
 
 small_home : Together.IsInFile (alone small_says) 0 (Together.field_decl 0 0)
@@ -149,7 +149,7 @@ small_files_mixed h =
     (Together.message 1 _ refl refl) (Together.message 0 _ refl refl) in
     omega arith
 
-small_late_package : Together.IsOrdered (two_files (Some (word_at (codes "p") (here 4))) (message_of 0 5 ∷ [])) → ⊥
+small_late_package : Together.IsOrdered (two_files (Some (make_word (codes "p") (here 4))) (message_of 0 5 ∷ [])) → ⊥
 small_late_package h =
     let l : 5 < 4 = h.files 0 1 (Together.message_decl 0) (Together.package_decl 1) its_name its_name (here 5)
     (here 4) (omega arith) (Together.in_message_of 0 _ refl refl) Together.its_package

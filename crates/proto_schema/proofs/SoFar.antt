@@ -6,29 +6,29 @@ use Rattle.std.specs.Str.{bytes_eq}
 use Rattle.std.proofs.lemmas.Bool.{or_parts}
 use Rattle.std.proofs.lemmas.List.{append_assoc, append-nil}
 use Rattle.proto_ast.specs.Dot.{dot}
-use Rattle.proto_grammar.specs.Lexemes.{Meaning, identifier, integer, number, string, mark, the_end, none, Lexeme}
+use Rattle.proto_grammar.specs.Lexemes.{TokenMeaning, identifier, integer, number, string, mark, the_end, none, Lexeme}
 use Rattle.proto_grammar.specs.Lexemes.{semicolon, equals, opening_brace, closing_brace}
 use Rattle.proto_grammar.specs.Lexemes.{opening_paren, closing_paren, less}
-use Rattle.proto_grammar.specs.Lexemes.{word_at, number_at, IsWord, IsMark, says, says_one_of}
-use Rattle.proto_grammar.specs.Grammar.{group_word, RpcType}
-use Rattle.proto_schema.specs.Files.{Draft, Block, no_block, a_oneof, an_enum, a_service, an_rpc, InFile, InMessage, LabelOf, plain, optional, repeated}
+use Rattle.proto_grammar.specs.Lexemes.{make_word, make_number, IsWord, IsPunctuator, is_the_word, is_one_of_words}
+use Rattle.proto_grammar.specs.Grammar.{group_word, IsRpcType}
+use Rattle.proto_schema.specs.Files.{Draft, OpenBlock, no_block, a_oneof, an_enum, a_service, an_rpc, IsAtFileLevel, IsAtMessageLevel, IsFieldLabel, plain, optional, repeated}
 use Rattle.proto_schema.specs.Faults
 use Rattle.proto_grammar.specs.Lexemes.{is_no_token, is_type_part}
-use Rattle.proto_schema.specs.Faults.{is_path, BeforeRpcType, BeforeMapPart, BeforeType}
-use Rattle.proto_grammar.specs.Reading.{fault_at, unexpected, wrong, is_mark, if_name}
-use Rattle.proto_grammar.specs.Reading.{full_step}
-use Rattle.proto_grammar.specs.Reading.{typed_step}
-use Rattle.proto_grammar.specs.Reading.{begins_map, map_step}
-use Rattle.proto_grammar.specs.Reading.{option_step, next_option, tail_step}
-use Rattle.proto_grammar.specs.Reading.{more_field, head, named_step, of_type, of_map, of_tail, field_step}
-use Rattle.proto_grammar.specs.Reading.{value_step, is_streaming, part_span, behind_type, rpc_type_step}
-use Rattle.proto_grammar.specs.Reading.{more_rpc, of_input, of_output, rpc_step}
-use Rattle.proto_grammar.specs.Reading.{reserved_step}
-use Rattle.proto_schema.specs.Running
-use Rattle.proto_schema.specs.Running.{place_of, place_with, more, done, statement_step, import_step, ended}
-use Rattle.proto_schema.specs.Running.{of_package, of_options, of_reserved, of_rpc, of_field, field_begins}
-use Rattle.proto_schema.specs.Running.{mark_begins, has_fields, is_body, closes_in, opening_of, is_extend}
-use Rattle.proto_schema.specs.Running.{file_begins, reserved_begins, labelled, message_begins, word_begins, begins}
+use Rattle.proto_schema.specs.Faults.{is_path, IsBeforeRpcType, IsBeforeMapPart, IsBeforeType}
+use Rattle.proto_grammar.specs.Advancing.{proto_fault_at, unexpected, wrong, is_punctuator, if_name}
+use Rattle.proto_grammar.specs.Advancing.{advance_full_name}
+use Rattle.proto_grammar.specs.Advancing.{advance_field_type_name}
+use Rattle.proto_grammar.specs.Advancing.{is_map_start, advance_map}
+use Rattle.proto_grammar.specs.Advancing.{advance_option, next_option, advance_tail}
+use Rattle.proto_grammar.specs.Advancing.{more_field, field_head, advance_named_field, of_type, of_map, of_tail, advance_field}
+use Rattle.proto_grammar.specs.Advancing.{advance_value, is_streaming, part_span, after_type, advance_rpc_type}
+use Rattle.proto_grammar.specs.Advancing.{more_rpc, of_input, of_output, advance_rpc}
+use Rattle.proto_grammar.specs.Advancing.{advance_reserved}
+use Rattle.proto_schema.specs.StatementReading
+use Rattle.proto_schema.specs.StatementReading.{statement_place, place_with, more, done, advance_statement, advance_import, end_statement}
+use Rattle.proto_schema.specs.StatementReading.{of_package, of_options, of_reserved, of_rpc, of_field, start_field}
+use Rattle.proto_schema.specs.StatementReading.{start_at_punctuator, has_fields, is_body, closes_in, opening_of, is_extend}
+use Rattle.proto_schema.specs.StatementReading.{start_in_file, start_reserved, labelled, start_in_message, start_at_word, advance_first_token}
 use Rattle.proto_schema.proofs.Choices.{either_is, named_is, numbered_is, same_bytes, word_is, and_both}
 use Rattle.proto_schema.proofs.NameLemmas.{mark_is}
 use Rattle.proto_schema.proofs.MapRest.{ValueBack, typed_value}
@@ -69,14 +69,14 @@ use Rattle.proto_grammar.specs.declared.rpc.RpcStep.{RpcStep}
 use Rattle.proto_grammar.specs.declared.rpc.RpcStep.TheVariants as rpc_steps
 use Rattle.proto_grammar.specs.declared.reserved.ReservedStep.{ReservedStep}
 use Rattle.proto_grammar.specs.declared.reserved.ReservedStep.TheVariants as reserved_steps
-use Rattle.proto_schema.specs.declared.statement.Place.{Place}
+use Rattle.proto_schema.specs.declared.statement.StatementPlace.{StatementPlace}
 use Rattle.proto_schema.specs.declared.statement.Opening.{Opening}
-use Rattle.proto_schema.specs.declared.statement.State.{State}
-use Rattle.proto_schema.specs.declared.statement.State.TheVariants as states
-use Rattle.proto_schema.specs.declared.statement.Said.{Said}
-use Rattle.proto_schema.specs.declared.statement.Said.TheVariants as said
-use Rattle.proto_schema.specs.declared.statement.Step.{Step}
-use Rattle.proto_schema.specs.declared.statement.Step.TheVariants as steps
+use Rattle.proto_schema.specs.declared.statement.StatementState.{StatementState}
+use Rattle.proto_schema.specs.declared.statement.StatementState.TheVariants as states
+use Rattle.proto_schema.specs.declared.statement.StatementEffect.{StatementEffect}
+use Rattle.proto_schema.specs.declared.statement.StatementEffect.TheVariants as said
+use Rattle.proto_schema.specs.declared.statement.StatementStep.{StatementStep}
+use Rattle.proto_schema.specs.declared.statement.StatementStep.TheVariants as steps
 use Rattle.proto_schema.proofs.SoFarWords.{Fault, unlike, extends, imports, groups, streams, Quiet, full_quiet}
 use Rattle.proto_schema.proofs.SoFarWords.{option_quiet, tail_quiet, value_quiet, part_quiet, OnlyWord, NameFault}
 use Rattle.proto_schema.proofs.SoFarWords.{name_unlike, name_group, OnlyOn, only_on, key_so_far, MapSoFar, MapFault}
@@ -86,17 +86,17 @@ use Rattle.proto_schema.proofs.SoFarWords.{map_unlike, map_group, MapOn, map_on}
 
 -- the tokens before a field's type
 pub data LabelSoFar (d : Draft) (ls : List Lexeme) : Type 0 where
-  in_message : {label : FieldLabel} {words : List (List ℕ)} → InMessage d → LabelOf ls label words → LabelSoFar d ls
+  in_message : {label : FieldLabel} {words : List (List ℕ)} → IsAtMessageLevel d → IsFieldLabel ls label words → LabelSoFar d ls
   in_oneof : (i : ℕ) (filled : Bool) → d.block ≡ a_oneof i filled → ls ≡ [] → LabelSoFar d ls
 
-head_type : {d : Draft} {ls : List Lexeme} → LabelSoFar d ls → BeforeType d ls
+head_type : {d : Draft} {ls : List Lexeme} → LabelSoFar d ls → IsBeforeType d ls
 head_type (in_message i l) = Faults.of_field i l
 head_type (in_oneof i filled b e) = Faults.of_member i filled b e
 
-head_map : {d : Draft} {ls ms : List Lexeme} → LabelSoFar d ls → BeforeMapPart ms → BeforeType d (ls ++ ms)
+head_map : {d : Draft} {ls ms : List Lexeme} → LabelSoFar d ls → IsBeforeMapPart ms → IsBeforeType d (ls ++ ms)
 head_map (in_message i l) b = Faults.of_map i l b refl
 head_map {d = d} {ms = ms} (in_oneof i filled h e) b =
-    subst (λ (l : List Lexeme). BeforeType d (l ++ ms)) (sym e) (Faults.of_member_map i filled h b)
+    subst (λ (l : List Lexeme). IsBeforeType d (l ++ ms)) (sym e) (Faults.of_member_map i filled h b)
 
 pub data TypeSoFar (d : Draft) (s : NameState) (all : List Lexeme) : Type 0 where
   type_so_far : {ls : List Lexeme} (ns : List Lexeme) → LabelSoFar d ls → OnlyWord (codes "map") s ns → all ≡ ls ++ ns
@@ -123,18 +123,18 @@ unlike_is : {d : Draft} {ys : List Lexeme} {x : Lexeme} {e : ProtoFault} → e �
 unlike_is {d = d} {ys = ys} {x = x} q = subst (λ (e : ProtoFault). Fault d ys x e) (sym q) unlike
 
 of_type_on : (d : Draft) (label : FieldLabel) (s : NameState) (ys : List Lexeme) (x : Lexeme) → TypeSoFar d s ys
-    → FieldOn d ys x (of_type label x (typed_step s x))
-of_type_on d label s ys x (type_so_far {ls = ls} ns q o a) = by (typed_step s x) (only_on (codes "map") refl s ns x o) (typed_value s x)
+    → FieldOn d ys x (of_type label x (advance_field_type_name s x))
+of_type_on d label s ys x (type_so_far {ls = ls} ns q o a) = by (advance_field_type_name s x) (only_on (codes "map") refl s ns x o) (typed_value s x)
   where
     fault : {e : ProtoFault} → NameFault ns x e → Fault d ys x e
     fault name_unlike = unlike
-    fault (name_group n h) = groups (subst (λ (l : List Lexeme). BeforeType d l) (sym (a ∙ (ap (λ (l : List Lexeme). ls ++ l) n ∙ append-nil ls))) (head_type q)) h
+    fault (name_group n h) = groups (subst (λ (l : List Lexeme). IsBeforeType d l) (sym (a ∙ (ap (λ (l : List Lexeme). ls ++ l) n ∙ append-nil ls))) (head_type q)) h
 
-    into : (w : Word) → s ≡ names.Part w → begins_map w x ≡ true → MapFieldSoFar d (maps.Key names.Start) (ys ++ x ∷ [])
+    into : (w : Word) → s ≡ names.Part w → is_map_start w x ≡ true → MapFieldSoFar d (maps.Key names.Start) (ys ++ x ∷ [])
     into w e b = at (subst (λ (t : NameState). OnlyWord (codes "map") t ns) e o both.1)
       where
-        both : (is_mark x.means less ≡ true) × (bytes_eq w.name (codes "map") ≡ true)
-        both = and_both (is_mark x.means less) (bytes_eq w.name (codes "map")) b
+        both : (is_punctuator x.means less ≡ true) × (bytes_eq w.name (codes "map") ≡ true)
+        both = and_both (is_punctuator x.means less) (bytes_eq w.name (codes "map")) b
 
         at : (m : Lexeme) × IsWord m (codes "map") × (m.span ≡ w.span) × (ns ≡ m ∷ [])
             → MapFieldSoFar d (maps.Key names.Start) (ys ++ x ∷ [])
@@ -146,17 +146,17 @@ of_type_on d label s ys x (type_so_far {ls = ls} ns q o a) = by (typed_step s x)
         → FieldOn d ys x (of_type label x r)
     by (Ok (name_steps.More t)) p b = type_so_far (ns ++ x ∷ []) q p (ap (λ (l : List Lexeme). l ++ x ∷ []) a ∙ append_assoc ls ns (x ∷ []))
     by (Ok (name_steps.Whole w)) p b =
-        either_is (FieldOn d ys x) (begins_map w x) (more_field (fields.Map label (maps.Key names.Start))) (named_step label (types.Named w) x) (λ m. into w b.1 m)
-        (λ m. named_is (FieldOn d ys x) x (λ n. field_steps.More (fields.Named (head label (types.Named w) (word_at n x.span)))) (λ n h. tt) unlike)
+        either_is (FieldOn d ys x) (is_map_start w x) (more_field (fields.Map label (maps.Key names.Start))) (advance_named_field label (types.Named w) x) (λ m. into w b.1 m)
+        (λ m. named_is (FieldOn d ys x) x (λ n. field_steps.More (fields.Named (field_head label (types.Named w) (make_word n x.span)))) (λ n h. tt) unlike)
     by (Err e) p b = fault p
 
 of_map_on : (d : Draft) (label : FieldLabel) (s : MapState) (ys : List Lexeme) (x : Lexeme) → MapFieldSoFar d s ys
-    → FieldOn d ys x (of_map label (map_step s x))
-of_map_on d label s ys x (map_field_so_far {ls = ls} ms q k a) = by (map_step s x) (map_on s ms x k)
+    → FieldOn d ys x (of_map label (advance_map s x))
+of_map_on d label s ys x (map_field_so_far {ls = ls} ms q k a) = by (advance_map s x) (map_on s ms x k)
   where
     fault : {e : ProtoFault} → MapFault ms x e → Fault d ys x e
     fault map_unlike = unlike
-    fault (map_group b h) = groups (subst (λ (l : List Lexeme). BeforeType d l) (sym a) (head_map q b)) h
+    fault (map_group b h) = groups (subst (λ (l : List Lexeme). IsBeforeType d l) (sym a) (head_map q b)) h
 
     by : (r : Result MapStep ProtoFault) → MapOn ms x r → FieldOn d ys x (of_map label r)
     by (Ok (map_steps.More t)) p = map_field_so_far (ms ++ x ∷ []) q p (ap (λ (l : List Lexeme). l ++ x ∷ []) a ∙ append_assoc ls ms (x ∷ []))
@@ -170,22 +170,22 @@ of_tail_on d h n ys x (Ok (tail_steps.Done packed)) q = tt
 of_tail_on d h n ys x (Err e) q = unlike_is q
 
 field_on : (d : Draft) (s : FieldState) (ys : List Lexeme) (x : Lexeme) → FieldSoFar d s ys
-    → FieldOn d ys x (field_step s x)
-unfolding field_step
+    → FieldOn d ys x (advance_field s x)
+unfolding advance_field
 field_on d (fields.Type label s) ys x k = of_type_on d label s ys x k
 field_on d (fields.Map label s) ys x k = of_map_on d label s ys x k
-field_on d (fields.Typed label kind) ys x k = named_is (FieldOn d ys x) x (λ n. field_steps.More (fields.Named (head label kind (word_at n x.span)))) (λ n h. tt) unlike
-field_on d (fields.Named h) ys x k = either_is (FieldOn d ys x) (is_mark x.means equals) (more_field (fields.Equals h)) (wrong x) (λ e. tt) (λ e. unlike)
-field_on d (fields.Equals h) ys x k = numbered_is (FieldOn d ys x) x (λ v. field_steps.More (fields.Tail h (number_at false v x.span) tails.Start)) (λ v e. tt) unlike
-field_on d (fields.Tail h n s) ys x k = of_tail_on d h n ys x (tail_step s x) (tail_quiet s x)
+field_on d (fields.Typed label kind) ys x k = named_is (FieldOn d ys x) x (λ n. field_steps.More (fields.Named (field_head label kind (make_word n x.span)))) (λ n h. tt) unlike
+field_on d (fields.Named h) ys x k = either_is (FieldOn d ys x) (is_punctuator x.means equals) (more_field (fields.Equals h)) (wrong x) (λ e. tt) (λ e. unlike)
+field_on d (fields.Equals h) ys x k = numbered_is (FieldOn d ys x) x (λ v. field_steps.More (fields.Tail h (make_number false v x.span) tails.Start)) (λ v e. tt) unlike
+field_on d (fields.Tail h n s) ys x k = of_tail_on d h n ys x (advance_tail s x) (tail_quiet s x)
 
 -- ---- methods
 
 data RpcNameFault (ns : List Lexeme) (x : Lexeme) : ProtoFault → Type 0 where
   type_unlike : RpcNameFault ns x (unexpected x)
-  type_group : ns ≡ [] → IsWord x (codes "group") → RpcNameFault ns x (fault_at reasons.Group x.span)
+  type_group : ns ≡ [] → IsWord x (codes "group") → RpcNameFault ns x (proto_fault_at reasons.Group x.span)
   type_stream : (z : Lexeme) → ns ≡ z ∷ [] → IsWord z (codes "stream") → is_type_part x.means ≡ true
-      → RpcNameFault ns x (fault_at reasons.Stream z.span)
+      → RpcNameFault ns x (proto_fault_at reasons.Stream z.span)
 
 abbrev RpcNameOn : List Lexeme → Lexeme → Result NameStep ProtoFault → Type 0
 RpcNameOn ns x (Ok (name_steps.More t)) = OnlyWord (codes "stream") t (ns ++ x ∷ [])
@@ -193,7 +193,7 @@ RpcNameOn ns x (Ok (name_steps.Whole w)) = Unit {0}
 RpcNameOn ns x (Err e) = RpcNameFault ns x e
 
 streaming : (s : NameState) (ns : List Lexeme) (x : Lexeme) → OnlyWord (codes "stream") s ns
-    → is_streaming s x ≡ true → RpcNameFault ns x (fault_at reasons.Stream (part_span s x.span))
+    → is_streaming s x ≡ true → RpcNameFault ns x (proto_fault_at reasons.Stream (part_span s x.span))
 streaming names.Start ns x o e = absurd (let t : false ≡ true = e in cc)
 streaming (names.Rooted s) ns x o e = absurd (let t : false ≡ true = e in cc)
 streaming (names.Dot v) ns x o e = absurd (let t : false ≡ true = e in cc)
@@ -203,23 +203,23 @@ streaming (names.Part v) ns x o e = by (o both.0)
     both = and_both (bytes_eq v.name (codes "stream")) (is_type_part x.means) e
 
     by : (m : Lexeme) × IsWord m (codes "stream") × (m.span ≡ v.span) × (ns ≡ m ∷ [])
-        → RpcNameFault ns x (fault_at reasons.Stream v.span)
-    by (m, hm, p, n) = subst (λ (s : Span). RpcNameFault ns x (fault_at reasons.Stream s)) p (type_stream m n hm both.1)
+        → RpcNameFault ns x (proto_fault_at reasons.Stream v.span)
+    by (m, hm, p, n) = subst (λ (s : Span). RpcNameFault ns x (proto_fault_at reasons.Stream s)) p (type_stream m n hm both.1)
 
 rpc_name_on : (s : NameState) (ns : List Lexeme) (x : Lexeme) → OnlyWord (codes "stream") s ns
-    → RpcNameOn ns x (rpc_type_step s x)
+    → RpcNameOn ns x (advance_rpc_type s x)
 rpc_name_on s ns x o =
-    either_is (RpcNameOn ns x) (is_streaming s x) (Err (fault_at reasons.Stream (part_span s x.span))) (behind_type x (typed_step s x)) (streaming s ns x o)
-    (λ e. by (typed_step s x) (only_on (codes "stream") refl s ns x o))
+    either_is (RpcNameOn ns x) (is_streaming s x) (Err (proto_fault_at reasons.Stream (part_span s x.span))) (after_type x (advance_field_type_name s x)) (streaming s ns x o)
+    (λ e. by (advance_field_type_name s x) (only_on (codes "stream") refl s ns x o))
   where
     fault : {e : ProtoFault} → NameFault ns x e → RpcNameFault ns x e
     fault name_unlike = type_unlike
     fault (name_group n h) = type_group n h
 
-    by : (r : Result NameStep ProtoFault) → OnlyOn (codes "stream") ns x r → RpcNameOn ns x (behind_type x r)
+    by : (r : Result NameStep ProtoFault) → OnlyOn (codes "stream") ns x r → RpcNameOn ns x (after_type x r)
     by (Ok (name_steps.More t)) p = p
     by (Ok (name_steps.Whole w)) p =
-        either_is (RpcNameOn ns x) (is_mark x.means closing_paren) (Ok (name_steps.Whole w)) (wrong x) (λ c. tt) (λ c. type_unlike)
+        either_is (RpcNameOn ns x) (is_punctuator x.means closing_paren) (Ok (name_steps.Whole w)) (wrong x) (λ c. tt) (λ c. type_unlike)
     by (Err e) p = fault p
 
 pub data StartSoFar (d : Draft) (all : List Lexeme) : Type 0 where
@@ -231,25 +231,25 @@ pub data NamedSoFar (d : Draft) (all : List Lexeme) : Type 0 where
 
 -- what completes the type makes, with the tokens read so far, the type of an rpc
 abbrev pub RpcTypeSoFar : NameState → List Lexeme → Type 0
-RpcTypeSoFar s ns = (zs : List Lexeme) (w : Word) → RpcTypeRest s zs w → RpcType (ns ++ zs) w
+RpcTypeSoFar s ns = (zs : List Lexeme) (w : Word) → RpcTypeRest s zs w → IsRpcType (ns ++ zs) w
 
 pub data InputSoFar (d : Draft) (s : NameState) (all : List Lexeme) : Type 0 where
   input_so_far : (a b c : Lexeme) (name : List ℕ) (ns : List Lexeme) → d.block ≡ a_service → IsWord a (codes "rpc")
-      → IsWord b name → IsMark c opening_paren → OnlyWord (codes "stream") s ns → RpcTypeSoFar s ns
+      → IsWord b name → IsPunctuator c opening_paren → OnlyWord (codes "stream") s ns → RpcTypeSoFar s ns
       → all ≡ a ∷ b ∷ c ∷ ns → InputSoFar d s all
 
 pub data ReturnsSoFar (d : Draft) (all : List Lexeme) : Type 0 where
   returns_so_far : (a b c e : Lexeme) (name : List ℕ) {is : List Lexeme} {w : Word} → d.block ≡ a_service
-      → IsWord a (codes "rpc") → IsWord b name → IsMark c opening_paren → RpcType is w → IsMark e closing_paren
+      → IsWord a (codes "rpc") → IsWord b name → IsPunctuator c opening_paren → IsRpcType is w → IsPunctuator e closing_paren
       → all ≡ a ∷ b ∷ c ∷ is ++ e ∷ [] → ReturnsSoFar d all
 
 pub data OpenSoFar (d : Draft) (all : List Lexeme) : Type 0 where
   open_so_far : (a b c e f : Lexeme) (name : List ℕ) {is : List Lexeme} {w : Word} → d.block ≡ a_service
-      → IsWord a (codes "rpc") → IsWord b name → IsMark c opening_paren → RpcType is w → IsMark e closing_paren
+      → IsWord a (codes "rpc") → IsWord b name → IsPunctuator c opening_paren → IsRpcType is w → IsPunctuator e closing_paren
       → IsWord f (codes "returns") → all ≡ a ∷ b ∷ c ∷ is ++ e ∷ f ∷ [] → OpenSoFar d all
 
 pub data OutputSoFar (d : Draft) (s : NameState) (all : List Lexeme) : Type 0 where
-  output_so_far : {ps : List Lexeme} (ns : List Lexeme) → BeforeRpcType d ps → OnlyWord (codes "stream") s ns
+  output_so_far : {ps : List Lexeme} (ns : List Lexeme) → IsBeforeRpcType d ps → OnlyWord (codes "stream") s ns
       → all ≡ ps ++ ns → OutputSoFar d s all
 
 abbrev pub RpcSoFar : Draft → RpcState → List Lexeme → Type 0
@@ -267,16 +267,16 @@ RpcOn d ys x (Ok (rpc_steps.Done r block)) = Unit {0}
 RpcOn d ys x (Err e) = Fault d ys x e
 
 -- what a fault in a type means, if these tokens precede the type
-type_fault : {d : Draft} {ps ns ys : List Lexeme} {x : Lexeme} {e : ProtoFault} → BeforeRpcType d ps → ys ≡ ps ++ ns
+type_fault : {d : Draft} {ps ns ys : List Lexeme} {x : Lexeme} {e : ProtoFault} → IsBeforeRpcType d ps → ys ≡ ps ++ ns
     → RpcNameFault ns x e → Fault d ys x e
 type_fault b a type_unlike = unlike
 type_fault {d = d} {ps = ps} b a (type_group n h) =
-    groups (Faults.of_rpc (subst (λ (l : List Lexeme). BeforeRpcType d l) (sym (a ∙ (ap (λ (l : List Lexeme). ps ++ l) n ∙ append-nil ps))) b)) h
+    groups (Faults.of_rpc (subst (λ (l : List Lexeme). IsBeforeRpcType d l) (sym (a ∙ (ap (λ (l : List Lexeme). ps ++ l) n ∙ append-nil ps))) b)) h
 type_fault {ps = ps} b a (type_stream z n h t) = streams ps z (a ∙ ap (λ (l : List Lexeme). ps ++ l) n) b h t
 
 input_on : (d : Draft) (name : Word) (s : NameState) (ys : List Lexeme) (x : Lexeme) → InputSoFar d s ys
-    → RpcOn d ys x (of_input name (rpc_type_step s x))
-input_on d name s ys x (input_so_far a b c word ns k ha hb hc o t q) = by (rpc_type_step s x) (rpc_name_on s ns x o) (type_in_back s x)
+    → RpcOn d ys x (of_input name (advance_rpc_type s x))
+input_on d name s ys x (input_so_far a b c word ns k ha hb hc o t q) = by (advance_rpc_type s x) (rpc_name_on s ns x o) (type_in_back s x)
   where
     longer : ys ++ x ∷ [] ≡ a ∷ b ∷ c ∷ ns ++ x ∷ []
     longer = ap (λ (l : List Lexeme). l ++ x ∷ []) q
@@ -284,14 +284,14 @@ input_on d name s ys x (input_so_far a b c word ns k ha hb hc o t q) = by (rpc_t
     by : (r : Result NameStep ProtoFault) → RpcNameOn ns x r → TypeInBack s x r → RpcOn d ys x (of_input name r)
     by (Ok (name_steps.More u)) p i =
         input_so_far a b c word (ns ++ x ∷ []) k ha hb hc p
-        (λ zs w v. subst (λ (l : List Lexeme). RpcType l w) (sym (append_assoc ns (x ∷ []) zs)) (t (x ∷ zs) w (i zs w v))) longer
+        (λ zs w v. subst (λ (l : List Lexeme). IsRpcType l w) (sym (append_assoc ns (x ∷ []) zs)) (t (x ∷ zs) w (i zs w v))) longer
     by (Ok (name_steps.Whole w)) p i =
-        returns_so_far a b c x word {is = ns} {w = w} k ha hb hc (subst (λ (l : List Lexeme). RpcType l w) (append-nil ns) (t [] w i.0)) i.1 longer
+        returns_so_far a b c x word {is = ns} {w = w} k ha hb hc (subst (λ (l : List Lexeme). IsRpcType l w) (append-nil ns) (t [] w i.0)) i.1 longer
     by (Err e) p i = type_fault (Faults.input k (Faults.rpc_opening a b c word ha hb hc)) q p
 
 output_on : (d : Draft) (name input : Word) (s : NameState) (ys : List Lexeme) (x : Lexeme) → OutputSoFar d s ys
-    → RpcOn d ys x (of_output name input (rpc_type_step s x))
-output_on d name input s ys x (output_so_far {ps = ps} ns b o a) = by (rpc_type_step s x) (rpc_name_on s ns x o)
+    → RpcOn d ys x (of_output name input (advance_rpc_type s x))
+output_on d name input s ys x (output_so_far {ps = ps} ns b o a) = by (advance_rpc_type s x) (rpc_name_on s ns x o)
   where
     by : (r : Result NameStep ProtoFault) → RpcNameOn ns x r → RpcOn d ys x (of_output name input r)
     by (Ok (name_steps.More u)) p = output_so_far (ns ++ x ∷ []) b p (ap (λ (l : List Lexeme). l ++ x ∷ []) a ∙ append_assoc ps ns (x ∷ []))
@@ -304,32 +304,32 @@ one_more : (a b c : Lexeme) (is : List Lexeme) (l ys : List Lexeme) (x : Lexeme)
 one_more a b c is l ys x q = ap (λ (l : List Lexeme). l ++ x ∷ []) q ∙ append_assoc (a ∷ b ∷ c ∷ is) l (x ∷ [])
 
 returns_on : (d : Draft) (name input : Word) (ys : List Lexeme) (x : Lexeme) → ReturnsSoFar d ys
-    → RpcOn d ys x (if says x.means (codes "returns") then more_rpc (rpcs.Open name input) else wrong x)
+    → RpcOn d ys x (if is_the_word x.means (codes "returns") then more_rpc (rpcs.Open name input) else wrong x)
 returns_on d name input ys x (returns_so_far a b c e word {is = is} k ha hb hc t he q) =
-    either_is (RpcOn d ys x) (says x.means (codes "returns")) (more_rpc (rpcs.Open name input)) (wrong x)
+    either_is (RpcOn d ys x) (is_the_word x.means (codes "returns")) (more_rpc (rpcs.Open name input)) (wrong x)
     (λ h. open_so_far a b c e x word k ha hb hc t he (word_is x.means (codes "returns") h) (one_more a b c is (e ∷ []) ys x q)) (λ h. unlike)
 
 open_on : (d : Draft) (name input : Word) (ys : List Lexeme) (x : Lexeme) → OpenSoFar d ys
-    → RpcOn d ys x (if is_mark x.means opening_paren then more_rpc (rpcs.Output name input names.Start) else wrong x)
+    → RpcOn d ys x (if is_punctuator x.means opening_paren then more_rpc (rpcs.Output name input names.Start) else wrong x)
 open_on d name input ys x (open_so_far a b c e f word {is = is} k ha hb hc t he hf q) =
-    either_is (RpcOn d ys x) (is_mark x.means opening_paren) (more_rpc (rpcs.Output name input names.Start)) (wrong x)
+    either_is (RpcOn d ys x) (is_punctuator x.means opening_paren) (more_rpc (rpcs.Output name input names.Start)) (wrong x)
     (λ h. output_so_far [] (Faults.output k (Faults.rpc_opening a b c word ha hb hc) t
     (Faults.returns_opening e f x he hf (mark_is x.means opening_paren h)) (one_more a b c is (e ∷ f ∷ []) ys x q)) refl (sym (append-nil (ys ++ x ∷ []))))
     (λ h. unlike)
 
 start_on : (d : Draft) (ys : List Lexeme) (x : Lexeme) → StartSoFar d ys
-    → RpcOn d ys x (if_name x (λ n. rpc_steps.More (rpcs.Named (word_at n x.span))))
+    → RpcOn d ys x (if_name x (λ n. rpc_steps.More (rpcs.Named (make_word n x.span))))
 start_on d ys x (start_so_far a k ha q) =
-    named_is (RpcOn d ys x) x (λ n. rpc_steps.More (rpcs.Named (word_at n x.span))) (λ n h. named_so_far a x n k ha h (ap (λ (l : List Lexeme). l ++ x ∷ []) q)) unlike
+    named_is (RpcOn d ys x) x (λ n. rpc_steps.More (rpcs.Named (make_word n x.span))) (λ n h. named_so_far a x n k ha h (ap (λ (l : List Lexeme). l ++ x ∷ []) q)) unlike
 
 named_on : (d : Draft) (name : Word) (ys : List Lexeme) (x : Lexeme) → NamedSoFar d ys
-    → RpcOn d ys x (if is_mark x.means opening_paren then more_rpc (rpcs.Input name names.Start) else wrong x)
+    → RpcOn d ys x (if is_punctuator x.means opening_paren then more_rpc (rpcs.Input name names.Start) else wrong x)
 named_on d name ys x (named_so_far a b n k ha hb q) =
-    either_is (RpcOn d ys x) (is_mark x.means opening_paren) (more_rpc (rpcs.Input name names.Start)) (wrong x)
+    either_is (RpcOn d ys x) (is_punctuator x.means opening_paren) (more_rpc (rpcs.Input name names.Start)) (wrong x)
     (λ h. input_so_far a b x n [] k ha hb (mark_is x.means opening_paren h) refl (λ zs w v. v) (ap (λ (l : List Lexeme). l ++ x ∷ []) q)) (λ h. unlike)
 
-rpc_on : (d : Draft) (s : RpcState) (ys : List Lexeme) (x : Lexeme) → RpcSoFar d s ys → RpcOn d ys x (rpc_step s x)
-unfolding rpc_step
+rpc_on : (d : Draft) (s : RpcState) (ys : List Lexeme) (x : Lexeme) → RpcSoFar d s ys → RpcOn d ys x (advance_rpc s x)
+unfolding advance_rpc
 rpc_on d rpcs.Start ys x k = start_on d ys x k
 rpc_on d (rpcs.Named name) ys x k = named_on d name ys x k
 rpc_on d (rpcs.Input name s) ys x k = input_on d name s ys x k
@@ -337,15 +337,15 @@ rpc_on d (rpcs.Returns name input) ys x k = returns_on d name input ys x k
 rpc_on d (rpcs.Open name input) ys x k = open_on d name input ys x k
 rpc_on d (rpcs.Output name input s) ys x k = output_on d name input s ys x k
 rpc_on d (rpcs.End r) ys x k =
-    either_is (RpcOn d ys x) (is_mark x.means semicolon) (Ok (rpc_steps.Done r false)) (if is_mark x.means opening_brace then Ok (rpc_steps.Done r true) else wrong x) (λ e. tt)
-    (λ e. either_is (RpcOn d ys x) (is_mark x.means opening_brace) (Ok (rpc_steps.Done r true)) (wrong x) (λ e. tt) (λ e. unlike))
+    either_is (RpcOn d ys x) (is_punctuator x.means semicolon) (Ok (rpc_steps.Done r false)) (if is_punctuator x.means opening_brace then Ok (rpc_steps.Done r true) else wrong x) (λ e. tt)
+    (λ e. either_is (RpcOn d ys x) (is_punctuator x.means opening_brace) (Ok (rpc_steps.Done r true)) (wrong x) (λ e. tt) (λ e. unlike))
 
 -- ---- statements
 
 pub data ImportSoFar (d : Draft) (ys : List Lexeme) : Type 0 where
-  import_so_far : (i : Lexeme) → ys ≡ i ∷ [] → InFile d → IsWord i (codes "import") → ImportSoFar d ys
+  import_so_far : (i : Lexeme) → ys ≡ i ∷ [] → IsAtFileLevel d → IsWord i (codes "import") → ImportSoFar d ys
 
-abbrev pub SoFar : Draft → State → List Lexeme → Type 0
+abbrev pub SoFar : Draft → StatementState → List Lexeme → Type 0
 SoFar d states.Begin ys = ys ≡ []
 SoFar d (states.Package s) ys = Unit {0}
 SoFar d (states.Import public) ys = public ≡ false → ImportSoFar d ys
@@ -359,17 +359,17 @@ SoFar d (states.Value s) ys = Unit {0}
 SoFar d (states.Rpc s) ys = RpcSoFar d s ys
 
 -- a block is opened by its brace
-abbrev pub OpensBy : Said → Lexeme → Type 0
-OpensBy (said.Open o w) x = IsMark x opening_brace
+abbrev pub OpensBy : StatementEffect → Lexeme → Type 0
+OpensBy (said.Open o w) x = IsPunctuator x opening_brace
 OpensBy v x = Unit {0}
 
-abbrev pub StepOn : Draft → List Lexeme → Lexeme → Result Step ProtoFault → Type 0
+abbrev pub StepOn : Draft → List Lexeme → Lexeme → Result StatementStep ProtoFault → Type 0
 StepOn d ys x (Ok (steps.More t)) = SoFar d t (ys ++ x ∷ [])
 StepOn d ys x (Ok (steps.Done v)) = OpensBy v x
 StepOn d ys x (Err e) = Fault d ys x e
 
-ended_on : (d : Draft) (ys : List Lexeme) (v : Said) (x : Lexeme) → OpensBy v x → StepOn d ys x (ended v x)
-ended_on d ys v x o = either_is (StepOn d ys x) (is_mark x.means semicolon) (done v) (wrong x) (λ e. o) (λ e. unlike)
+ended_on : (d : Draft) (ys : List Lexeme) (v : StatementEffect) (x : Lexeme) → OpensBy v x → StepOn d ys x (end_statement v x)
+ended_on d ys v x o = either_is (StepOn d ys x) (is_punctuator x.means semicolon) (done v) (wrong x) (λ e. o) (λ e. unlike)
 
 package_on : (d : Draft) (ys : List Lexeme) (x : Lexeme) (r : Result NameStep ProtoFault) → Quiet x r
     → StepOn d ys x (of_package x r)
@@ -397,7 +397,7 @@ of_reserved_on d ys x (Ok (reserved_steps.Names ws)) q = tt
 of_reserved_on d ys x (Err e) q = unlike_is q
 
 of_value_steps_on : (d : Draft) (ys : List Lexeme) (x : Lexeme) (r : Result ValueStep ProtoFault) → Quiet x r
-    → StepOn d ys x (Running.of_value r)
+    → StepOn d ys x (StatementReading.of_value r)
 of_value_steps_on d ys x (Ok (value_steps.More t)) q = tt
 of_value_steps_on d ys x (Ok (value_steps.Done v)) q = tt
 of_value_steps_on d ys x (Err e) q = unlike_is q
@@ -408,25 +408,25 @@ of_rpc_on d ys x (Ok (rpc_steps.More t)) k = k
 of_rpc_on d ys x (Ok (rpc_steps.Done r block)) k = tt
 of_rpc_on d ys x (Err e) k = k
 
-import_other_on : (d : Draft) (public : Bool) (ys : List Lexeme) (x : Lexeme) (m : Meaning) → x.means ≡ m
-    → is_path m ≡ says m (codes "public") → (public ≡ false → ImportSoFar d ys)
-    → StepOn d ys x (if not public && says m (codes "public") then more (states.Import true) else if is_no_token m || public then wrong x else Err (fault_at reasons.Import x.span))
+import_other_on : (d : Draft) (public : Bool) (ys : List Lexeme) (x : Lexeme) (m : TokenMeaning) → x.means ≡ m
+    → is_path m ≡ is_the_word m (codes "public") → (public ≡ false → ImportSoFar d ys)
+    → StepOn d ys x (if not public && is_the_word m (codes "public") then more (states.Import true) else if is_no_token m || public then wrong x else Err (proto_fault_at reasons.Import x.span))
 import_other_on d public ys x m e p k =
-    either_is (StepOn d ys x) (not public && says m (codes "public")) (more (states.Import true)) (if is_no_token m || public then wrong x else Err (fault_at reasons.Import x.span))
+    either_is (StepOn d ys x) (not public && is_the_word m (codes "public")) (more (states.Import true)) (if is_no_token m || public then wrong x else Err (proto_fault_at reasons.Import x.span))
     (λ h q. let t : true ≡ false = q in absurd cc)
-    (λ h. either_is (StepOn d ys x) (is_no_token m || public) (wrong x) (Err (fault_at reasons.Import x.span)) (λ c. unlike)
+    (λ h. either_is (StepOn d ys x) (is_no_token m || public) (wrong x) (Err (proto_fault_at reasons.Import x.span)) (λ c. unlike)
     (λ c. let b : (is_no_token m ≡ false) × (public ≡ false) = or_parts (is_no_token m) public c in at b.0 b.1 (k b.1) (unsaid public b.1 h)))
   where
-    unsaid : (b : Bool) → b ≡ false → (not b && says m (codes "public")) ≡ false → says m (codes "public") ≡ false
+    unsaid : (b : Bool) → b ≡ false → (not b && is_the_word m (codes "public")) ≡ false → is_the_word m (codes "public") ≡ false
     unsaid false q h = h
     unsaid true q h = absurd (let t : true ≡ false = q in cc)
 
-    at : is_no_token m ≡ false → public ≡ false → ImportSoFar d ys → says m (codes "public") ≡ false
-        → Fault d ys x (fault_at reasons.Import x.span)
+    at : is_no_token m ≡ false → public ≡ false → ImportSoFar d ys → is_the_word m (codes "public") ≡ false
+        → Fault d ys x (proto_fault_at reasons.Import x.span)
     at n q (import_so_far i a f h) u = imports i a f h (ap is_no_token e ∙ n) (ap is_path e ∙ (p ∙ u))
 
-import_on : (d : Draft) (public : Bool) (ys : List Lexeme) (x : Lexeme) (m : Meaning) → x.means ≡ m
-    → (public ≡ false → ImportSoFar d ys) → StepOn d ys x (import_step public x m)
+import_on : (d : Draft) (public : Bool) (ys : List Lexeme) (x : Lexeme) (m : TokenMeaning) → x.means ≡ m
+    → (public ≡ false → ImportSoFar d ys) → StepOn d ys x (advance_import public x m)
 import_on d public ys x (string path) e k = tt
 import_on d public ys x the_end e k = unlike
 import_on d public ys x (identifier n) e k = import_other_on d public ys x (identifier n) e refl k
@@ -435,31 +435,31 @@ import_on d public ys x number e k = import_other_on d public ys x number e refl
 import_on d public ys x (mark c) e k = import_other_on d public ys x (mark c) e refl k
 import_on d public ys x none e k = import_other_on d public ys x none e refl k
 
-pub later_on : (d : Draft) (p : Place) (s : State) (ys : List Lexeme) (x : Lexeme) → NotBegin s → SoFar d s ys
-    → StepOn d ys x (statement_step p s x)
-unfolding statement_step reserved_step
+pub later_on : (d : Draft) (p : StatementPlace) (s : StatementState) (ys : List Lexeme) (x : Lexeme) → NotBegin s → SoFar d s ys
+    → StepOn d ys x (advance_statement p s x)
+unfolding advance_statement advance_reserved
 later_on d p states.Begin ys x n k = absurd n
-later_on d p (states.Package s) ys x n k = package_on d ys x (full_step s x) (full_quiet s x)
+later_on d p (states.Package s) ys x n k = package_on d ys x (advance_full_name s x) (full_quiet s x)
 later_on d p (states.Import public) ys x n k = import_on d public ys x x.means refl k
 later_on d p (states.Imported i) ys x n k = ended_on d ys (said.Import i) x tt
-later_on d p (states.Option s) ys x n k = options_on d ys x (option_step s x) (option_quiet s x)
-later_on d p (states.Opening o) ys x n k = named_is (StepOn d ys x) x (λ n. steps.More (states.Opened o (word_at n x.span))) (λ n h. tt) unlike
-later_on d p (states.Opened o w) ys x n k = either_is (StepOn d ys x) (is_mark x.means opening_brace) (done (said.Open o w)) (wrong x) (λ e. mark_is x.means opening_brace e) (λ e. unlike)
-later_on d p (states.Field s) ys x n k = of_field_on d ys x (field_step s x) (field_on d s ys x k)
-later_on d p (states.Reserved s) ys x n k = of_reserved_on d ys x (reserved_step s x) (part_quiet s.signed s.part x)
-later_on d p (states.Value s) ys x n k = of_value_steps_on d ys x (value_step s x) (value_quiet s x)
-later_on d p (states.Rpc s) ys x n k = of_rpc_on d ys x (rpc_step s x) (rpc_on d s ys x k)
+later_on d p (states.Option s) ys x n k = options_on d ys x (advance_option s x) (option_quiet s x)
+later_on d p (states.Opening o) ys x n k = named_is (StepOn d ys x) x (λ n. steps.More (states.Opened o (make_word n x.span))) (λ n h. tt) unlike
+later_on d p (states.Opened o w) ys x n k = either_is (StepOn d ys x) (is_punctuator x.means opening_brace) (done (said.Open o w)) (wrong x) (λ e. mark_is x.means opening_brace e) (λ e. unlike)
+later_on d p (states.Field s) ys x n k = of_field_on d ys x (advance_field s x) (field_on d s ys x k)
+later_on d p (states.Reserved s) ys x n k = of_reserved_on d ys x (advance_reserved s x) (part_quiet s.signed s.part x)
+later_on d p (states.Value s) ys x n k = of_value_steps_on d ys x (advance_value s x) (value_quiet s x)
+later_on d p (states.Rpc s) ys x n k = of_rpc_on d ys x (advance_rpc s x) (rpc_on d s ys x k)
 
 -- ---- the first token of a statement
 
-abbrev BeginOn : Draft → Lexeme → Result Step ProtoFault → Type 0
+abbrev BeginOn : Draft → Lexeme → Result StatementStep ProtoFault → Type 0
 BeginOn d x r = StepOn d [] x r
 
 is_same : (x : Lexeme) (n w : List ℕ) → IsWord x n → bytes_eq n w ≡ true → IsWord x w
 is_same x n w h e = h ∙ ap identifier (same_bytes n w e)
 
 extend_said : (x : Lexeme) (n : List ℕ) → IsWord x n → is_extend n ≡ true
-    → says_one_of x (codes "extend" ∷ codes "extensions" ∷ []) ≡ true
+    → is_one_of_words x (codes "extend" ∷ codes "extensions" ∷ []) ≡ true
 extend_said x n h e = rw h (by (bytes_eq n (codes "extend")) (bytes_eq n (codes "extensions")) e)
   where
     by : (a b : Bool) → (a || b) ≡ true → (a || (b || false)) ≡ true
@@ -467,15 +467,15 @@ extend_said x n h e = rw h (by (bytes_eq n (codes "extend")) (bytes_eq n (codes 
     by false true e = refl
     by false false e = e
 
-field_begins_on : (d : Draft) (x : Lexeme) → LabelSoFar d [] → BeginOn d x (field_begins x)
+field_begins_on : (d : Draft) (x : Lexeme) → LabelSoFar d [] → BeginOn d x (start_field x)
 field_begins_on d x h =
-    of_field_on d [] x (field_step (fields.Type labels.Plain names.Start) x) (field_on d (fields.Type labels.Plain names.Start) [] x (type_so_far [] h refl refl))
+    of_field_on d [] x (advance_field (fields.Type labels.Plain names.Start) x) (field_on d (fields.Type labels.Plain names.Start) [] x (type_so_far [] h refl refl))
 
-file_on : (d : Draft) (x : Lexeme) (n : List ℕ) → IsWord x n → InFile d → (o : Option Opening)
-    → BeginOn d x (file_begins (is_some d.file.package) n x o)
+file_on : (d : Draft) (x : Lexeme) (n : List ℕ) → IsWord x n → IsAtFileLevel d → (o : Option Opening)
+    → BeginOn d x (start_in_file (is_some d.file.package) n x o)
 file_on d x n h i (Some o) = tt
 file_on d x n h i None =
-    either_is (BeginOn d x) (is_extend n) (Err (fault_at reasons.Extend x.span))
+    either_is (BeginOn d x) (is_extend n) (Err (proto_fault_at reasons.Extend x.span))
     (if not (is_some d.file.package) && bytes_eq n (codes "package") then more (states.Package names.Start) else if bytes_eq n (codes "import") then more (states.Import false) else wrong x)
     (λ e. extends refl i.0 (extend_said x n h e))
     (λ a. either_is (BeginOn d x) (not (is_some d.file.package) && bytes_eq n (codes "package"))
@@ -483,44 +483,44 @@ file_on d x n h i None =
     else wrong x) (λ e. tt)
     (λ b. either_is (BeginOn d x) (bytes_eq n (codes "import")) (more (states.Import false)) (wrong x) (λ e q. import_so_far x refl i (is_same x n (codes "import") h e)) (λ e. unlike)))
 
-labelled_on : (d : Draft) (x : Lexeme) (label : FieldLabel) → InMessage d → LabelOf (x ∷ []) label group_word
+labelled_on : (d : Draft) (x : Lexeme) (label : FieldLabel) → IsAtMessageLevel d → IsFieldLabel (x ∷ []) label group_word
     → BeginOn d x (labelled label)
 labelled_on d x label i l = type_so_far [] (in_message i l) refl refl
 
-message_on : (d : Draft) (x : Lexeme) (n : List ℕ) → IsWord x n → InMessage d → (o : Option Opening)
-    → BeginOn d x (message_begins n x o)
+message_on : (d : Draft) (x : Lexeme) (n : List ℕ) → IsWord x n → IsAtMessageLevel d → (o : Option Opening)
+    → BeginOn d x (start_in_message n x o)
 message_on d x n h i (Some o) = tt
 message_on d x n h i None =
-    either_is (BeginOn d x) (is_extend n) (Err (fault_at reasons.Extend x.span))
-    (if bytes_eq n (codes "reserved") then reserved_begins false
+    either_is (BeginOn d x) (is_extend n) (Err (proto_fault_at reasons.Extend x.span))
+    (if bytes_eq n (codes "reserved") then start_reserved false
     else if bytes_eq n (codes "optional") then labelled labels.Optional
-    else if bytes_eq n (codes "repeated") then labelled labels.Repeated else field_begins x)
+    else if bytes_eq n (codes "repeated") then labelled labels.Repeated else start_field x)
     (λ e. extends refl i.0 (extend_said x n h e))
-    (λ e. either_is (BeginOn d x) (bytes_eq n (codes "reserved")) (reserved_begins false)
+    (λ e. either_is (BeginOn d x) (bytes_eq n (codes "reserved")) (start_reserved false)
     (if bytes_eq n (codes "optional") then labelled labels.Optional
-    else if bytes_eq n (codes "repeated") then labelled labels.Repeated else field_begins x) (λ w. tt)
-    (λ r. either_is (BeginOn d x) (bytes_eq n (codes "optional")) (labelled labels.Optional) (if bytes_eq n (codes "repeated") then labelled labels.Repeated else field_begins x)
+    else if bytes_eq n (codes "repeated") then labelled labels.Repeated else start_field x) (λ w. tt)
+    (λ r. either_is (BeginOn d x) (bytes_eq n (codes "optional")) (labelled labels.Optional) (if bytes_eq n (codes "repeated") then labelled labels.Repeated else start_field x)
     (λ w. labelled_on d x labels.Optional i (optional x (is_same x n (codes "optional") h w)))
-    (λ o. either_is (BeginOn d x) (bytes_eq n (codes "repeated")) (labelled labels.Repeated) (field_begins x)
+    (λ o. either_is (BeginOn d x) (bytes_eq n (codes "repeated")) (labelled labels.Repeated) (start_field x)
     (λ w. labelled_on d x labels.Repeated i (repeated x (is_same x n (codes "repeated") h w)))
     (λ p. field_begins_on d x (in_message i plain)))))
 
 not_empty : {ms : List ℕ} (i : ℕ) (is : List ℕ) → ms ≡ i ∷ is → ms ≡ [] → ⊥
 not_empty i is f q = let t : ◌≡◌ {A = List ℕ} (i ∷ is) [] = sym f ∙ q in cc
 
-word_on : (d : Draft) (x : Lexeme) (n : List ℕ) (b : Block) (ms : List ℕ) → d.block ≡ b → d.messages ≡ ms → IsWord x n
-    → BeginOn d x (word_begins (place_with b ms d.file.package) x n)
+word_on : (d : Draft) (x : Lexeme) (n : List ℕ) (b : OpenBlock) (ms : List ℕ) → d.block ≡ b → d.messages ≡ ms → IsWord x n
+    → BeginOn d x (start_at_word (place_with b ms d.file.package) x n)
 word_on d x n no_block [] e f h = file_on d x n h (e, f) (opening_of true n)
 word_on d x n no_block (i ∷ is) e f h = message_on d x n h (e, not_empty i is f) (opening_of false n)
 word_on d x n (a_oneof i filled) ms e f h = field_begins_on d x (in_oneof i filled e refl)
 word_on d x n (an_enum filled) ms e f h =
-    either_is (BeginOn d x) (bytes_eq n (codes "reserved")) (reserved_begins true) (more (states.Value (values.Named (word_at n x.span)))) (λ e. tt) (λ e. tt)
+    either_is (BeginOn d x) (bytes_eq n (codes "reserved")) (start_reserved true) (more (states.Value (values.Named (make_word n x.span)))) (λ e. tt) (λ e. tt)
 word_on d x n a_service ms e f h =
     either_is (BeginOn d x) (bytes_eq n (codes "rpc")) (more (states.Rpc rpcs.Start)) (wrong x) (λ r. start_so_far x e (is_same x n (codes "rpc") h r) refl) (λ r. unlike)
 word_on d x n an_rpc ms e f h = unlike
 
-dot_on : (d : Draft) (x : Lexeme) (b : Block) (ms : List ℕ) → d.block ≡ b → d.messages ≡ ms
-    → has_fields (place_with b ms d.file.package) ≡ true → BeginOn d x (field_begins x)
+dot_on : (d : Draft) (x : Lexeme) (b : OpenBlock) (ms : List ℕ) → d.block ≡ b → d.messages ≡ ms
+    → has_fields (place_with b ms d.file.package) ≡ true → BeginOn d x (start_field x)
 dot_on d x no_block [] e f t = absurd (let c : false ≡ true = t in cc)
 dot_on d x no_block (i ∷ is) e f t = field_begins_on d x (in_message (e, not_empty i is f) plain)
 dot_on d x (a_oneof i filled) ms e f t = field_begins_on d x (in_oneof i filled e refl)
@@ -528,17 +528,17 @@ dot_on d x (an_enum filled) ms e f t = absurd (let c : false ≡ true = t in cc)
 dot_on d x a_service ms e f t = absurd (let c : false ≡ true = t in cc)
 dot_on d x an_rpc ms e f t = absurd (let c : false ≡ true = t in cc)
 
-mark_on : (d : Draft) (x : Lexeme) (c : ℕ) → BeginOn d x (mark_begins (place_of d) x c)
+mark_on : (d : Draft) (x : Lexeme) (c : ℕ) → BeginOn d x (start_at_punctuator (statement_place d) x c)
 mark_on d x c =
-    either_is (BeginOn d x) (c == dot && has_fields (place_of d)) (field_begins x)
-    (if c == semicolon && is_body (place_of d) then done said.Nothing else if c == closing_brace && closes_in (place_of d) then done said.Close else wrong x)
-    (λ e. let b : ((c == dot) ≡ true) × (has_fields (place_of d) ≡ true) = and_both (c == dot) (has_fields (place_of d)) e in dot_on d x d.block d.messages refl refl b.1)
-    (λ e. either_is (BeginOn d x) (c == semicolon && is_body (place_of d)) (done said.Nothing) (if c == closing_brace && closes_in (place_of d) then done said.Close else wrong x) (λ e. tt)
-    (λ e. either_is (BeginOn d x) (c == closing_brace && closes_in (place_of d)) (done said.Close) (wrong x) (λ e. tt) (λ e. unlike)))
+    either_is (BeginOn d x) (c == dot && has_fields (statement_place d)) (start_field x)
+    (if c == semicolon && is_body (statement_place d) then done said.Nothing else if c == closing_brace && closes_in (statement_place d) then done said.Close else wrong x)
+    (λ e. let b : ((c == dot) ≡ true) × (has_fields (statement_place d) ≡ true) = and_both (c == dot) (has_fields (statement_place d)) e in dot_on d x d.block d.messages refl refl b.1)
+    (λ e. either_is (BeginOn d x) (c == semicolon && is_body (statement_place d)) (done said.Nothing) (if c == closing_brace && closes_in (statement_place d) then done said.Close else wrong x) (λ e. tt)
+    (λ e. either_is (BeginOn d x) (c == closing_brace && closes_in (statement_place d)) (done said.Close) (wrong x) (λ e. tt) (λ e. unlike)))
 
-meant_on : (d : Draft) (x : Lexeme) (m : Meaning) → x.means ≡ m → BeginOn d x (begins (place_of d) x m)
+meant_on : (d : Draft) (x : Lexeme) (m : TokenMeaning) → x.means ≡ m → BeginOn d x (advance_first_token (statement_place d) x m)
 meant_on d x (identifier n) h =
-    either_is (BeginOn d x) (bytes_eq n (codes "option")) (more (states.Option next_option)) (word_begins (place_of d) x n) (λ e. tt) (λ e. word_on d x n d.block d.messages refl refl h)
+    either_is (BeginOn d x) (bytes_eq n (codes "option")) (more (states.Option next_option)) (start_at_word (statement_place d) x n) (λ e. tt) (λ e. word_on d x n d.block d.messages refl refl h)
 meant_on d x (integer n) h = unlike
 meant_on d x number h = unlike
 meant_on d x (string n) h = unlike
@@ -546,6 +546,6 @@ meant_on d x (mark c) h = mark_on d x c
 meant_on d x the_end h = unlike
 meant_on d x none h = unlike
 
-pub begin_on : (d : Draft) (x : Lexeme) → BeginOn d x (statement_step (place_of d) states.Begin x)
-unfolding statement_step
+pub begin_on : (d : Draft) (x : Lexeme) → BeginOn d x (advance_statement (statement_place d) states.Begin x)
+unfolding advance_statement
 begin_on d x = meant_on d x x.means refl

@@ -1,10 +1,10 @@
 -- Where the names and numbers of a statement start among its tokens, and the forms of its names.
 use Rattle.std.proofs.Common.{◌≡◌, ℕ, suc, ◌<◌, ◌≤◌, Bool, List, [], ◌∷◌, ◌++◌, refl, subst, arith}
 use Rattle.std.specs.Prelude.{Option}
-use Rattle.proto_grammar.specs.Lexemes.{Lexeme, IsWord, word_at}
+use Rattle.proto_grammar.specs.Lexemes.{Lexeme, IsWord, make_word}
 use Rattle.proto_grammar.specs.Grammar
-use Rattle.proto_grammar.specs.Grammar.{FullName, TypeName, MapKey, FieldTypeOf, RpcType, NumberOf}
-use Rattle.proto_schema.specs.Files.{FieldEnd, field_end, RpcHead, rpc_head}
+use Rattle.proto_grammar.specs.Grammar.{IsDottedName, IsTypeName, IsMapKey, IsFieldType, IsRpcType, IsNumberToken}
+use Rattle.proto_schema.specs.Files.{IsFieldEnd, field_end, IsRpcHead, rpc_head}
 use Rattle.proto_ast.specs.Order.{HasName, HasFullName, HasTypeName, relative, absolute, HasTypeNames}
 use Rattle.proto_schema.proofs.Along.{Along, along_ends, along_split, full_of_one, full_of_more}
 use Rattle.proto_ast.specs.declared.file.Word.{Word}
@@ -35,10 +35,10 @@ pub record NameWithin (form : Word → Type 0) (b e : ℕ) (w : Word) : Type 0 w
   pub within : IsWithin b e w.span.start
 
 pub word_along : (b e : ℕ) (x : Lexeme) (xs : List Lexeme) (name : List ℕ) → IsWord x name → Along b (x ∷ xs) e
-    → NameWithin HasName b e (word_at name x.span)
+    → NameWithin HasName b e (make_word name x.span)
 word_along b e x xs name h (l, s, k) = record { formed = s.form name h; within = first_within b x xs e (l, s, k) }
 
-pub full_along : (b e : ℕ) {ys : List Lexeme} {w : Word} → FullName ys w → Along b ys e → NameWithin HasFullName b e w
+pub full_along : (b e : ℕ) {ys : List Lexeme} {w : Word} → IsDottedName ys w → Along b ys e → NameWithin HasFullName b e w
 full_along b e (Grammar.one x name h) (l, s, k) =
     record { formed = full_of_one name (s.form name h); within = first_within b x [] e (l, s, k) }
 full_along b e (Grammar.more x y name zs w h d f) (l, s, (m, t, k)) =
@@ -48,14 +48,14 @@ full_along b e (Grammar.more x y name zs w h d f) (l, s, (m, t, k)) =
       within = first_within b x (y ∷ zs) e (l, s, (m, t, k));
     }
 
-pub type_along : (b e : ℕ) {ys : List Lexeme} {w : Word} → TypeName ys w → Along b ys e → NameWithin HasTypeName b e w
+pub type_along : (b e : ℕ) {ys : List Lexeme} {w : Word} → IsTypeName ys w → Along b ys e → NameWithin HasTypeName b e w
 type_along b e (Grammar.relative f) h =
     let q = full_along b e f h in record { formed = relative q.formed; within = q.within }
 type_along b e (Grammar.absolute x {ys = ys} {w = w} m f) (l, s, k) =
     let q : NameWithin HasFullName (suc x.span.start) e w = full_along (suc x.span.start) e f k in
     record { formed = absolute w.name refl q.formed; within = first_within b x ys e (l, s, k) }
 
-pub key_along : (b e : ℕ) {ks : List Lexeme} {k : Word} → MapKey ks k → Along b ks e → NameWithin HasTypeName b e k
+pub key_along : (b e : ℕ) {ks : List Lexeme} {k : Word} → IsMapKey ks k → Along b ks e → NameWithin HasTypeName b e k
 key_along b e {ks = ks} {k = w} (Grammar.map_key x y z {ys = ys} hx hy t g hz a) h =
     by (along_same b e ks (x ∷ y ∷ ys ++ z ∷ []) a h)
   where
@@ -73,7 +73,7 @@ TypesWithin b e (Map key value) =
     IsWithin b e key.span.start × IsWithin b e value.span.start × (key.span.start < value.span.start)
 TypesWithin b e (NestedMap key) = IsWithin b e key.span.start
 
-pub types_along : (b e : ℕ) {words : List (List ℕ)} {ts : List Lexeme} {kind : FieldType} → FieldTypeOf words ts kind
+pub types_along : (b e : ℕ) {words : List (List ℕ)} {ts : List Lexeme} {kind : FieldType} → IsFieldType words ts kind
     → Along b ts e → HasTypeNames kind × TypesWithin b e kind
 types_along b e (Grammar.named {w = w} t g) h = let q : NameWithin HasTypeName b e w = type_along b e t h in (q.formed, q.within)
 types_along b e {ts = ts} (Grammar.a_map x {ks = ks} {ys = ys} {k = k} {w = w} m t g hx a) h =
@@ -95,13 +95,13 @@ types_along b e {ts = ts} (Grammar.map_of_maps x {ks = ks} {ys = ys} {k = k} m n
     let n : c ≤ d = along_ends c ys d r in
     (key.formed, widen b b c e k.span.start (omega arith) (omega arith) key.within)
 
-pub rpc_type_along : (b e : ℕ) {is : List Lexeme} {w : Word} → RpcType is w → Along b is e → NameWithin HasTypeName b e w
+pub rpc_type_along : (b e : ℕ) {is : List Lexeme} {w : Word} → IsRpcType is w → Along b is e → NameWithin HasTypeName b e w
 rpc_type_along b e (Grammar.stream_type x h) k = record { formed = relative refl; within = first_within b x [] e k }
 rpc_type_along b e (Grammar.other_type t g) k = type_along b e t k
 
 -- ---- numbers
 
-pub number_along : (b e : ℕ) {signed : Bool} {ns : List Lexeme} {n : Number} → NumberOf signed ns n → Along b ns e
+pub number_along : (b e : ℕ) {signed : Bool} {ns : List Lexeme} {n : Number} → IsNumberToken signed ns n → Along b ns e
     → IsWithin b e n.span.start
 number_along b e (Grammar.whole x value h) k = first_within b x [] e k
 number_along b e (Grammar.negative x y value s h g) k =
@@ -116,8 +116,8 @@ pub record EndWithin (b e : ℕ) (w : Word) (n : Number) : Type 0 where
 
 -- a name, a token, and a number with others after it
 pub numbered_along : (b e : ℕ) (x y : Lexeme) (name : List ℕ) {signed : Bool} {ns : List Lexeme} {n : Number}
-    (os zs : List Lexeme) → IsWord x name → NumberOf signed ns n → Along b (x ∷ y ∷ ns ++ os ++ zs) e
-    → EndWithin b e (word_at name x.span) n
+    (os zs : List Lexeme) → IsWord x name → IsNumberToken signed ns n → Along b (x ∷ y ∷ ns ++ os ++ zs) e
+    → EndWithin b e (make_word name x.span) n
 numbered_along b e x y name {ns = ns} {n = n} os zs h f (l, s, (m, u, r)) =
     let (d, v, t) = along_split (suc y.span.start) (ns ++ os) zs e r in
     let (c, p, q) = along_split (suc y.span.start) ns os d v in
@@ -131,7 +131,7 @@ numbered_along b e x y name {ns = ns} {n = n} os zs h f (l, s, (m, u, r)) =
     }
 
 pub end_along : (b e : ℕ) {es : List Lexeme} {name : Word} {number : Number} {packed : Option Bool}
-    → FieldEnd es name number packed → Along b es e → EndWithin b e name number
+    → IsFieldEnd es name number packed → Along b es e → EndWithin b e name number
 end_along b e {es = es} (field_end x y z name {ns = ns} {os = os} hx hy n o hz a) h =
     numbered_along b e x y name os (z ∷ []) hx n (along_same b e es (x ∷ y ∷ ns ++ os ++ z ∷ []) a h)
 
@@ -142,12 +142,12 @@ pub record RpcWithin (b e : ℕ) (r : RpcDecl) : Type 0 where
   pub named : r.name.span.start < r.input.span.start
   pub ordered : r.input.span.start < r.output.span.start
 
-pub rpc_along : (b e : ℕ) {ys : List Lexeme} {r : RpcDecl} → RpcHead ys r → Along b ys e → RpcWithin b e r
+pub rpc_along : (b e : ℕ) {ys : List Lexeme} {r : RpcDecl} → IsRpcHead ys r → Along b ys e → RpcWithin b e r
 rpc_along b z {ys = ys} (rpc_head a n c d e f g name {is = is} {os = os} {input = input} {output = output} ha hn hc ti hd he hf to hg q) h =
     by (along_same b z ys (a ∷ n ∷ c ∷ is ++ d ∷ e ∷ f ∷ os ++ g ∷ []) q h)
   where
     by : Along b (a ∷ n ∷ c ∷ is ++ d ∷ e ∷ f ∷ os ++ g ∷ []) z
-        → RpcWithin b z (record { name = word_at name n.span; input = input; output = output })
+        → RpcWithin b z (record { name = make_word name n.span; input = input; output = output })
     by (la, sa, (ln, sn, (lc, sc, r))) =
         let (o, t, v) = along_split (suc c.span.start) (is ++ d ∷ e ∷ f ∷ os) (g ∷ []) z r in
         let (m, p, (ld, sd, (le, se, (lf, sf, u)))) = along_split (suc c.span.start) is (d ∷ e ∷ f ∷ os) o t in

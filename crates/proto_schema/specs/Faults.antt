@@ -3,11 +3,11 @@ use Rattle.std.specs.Prelude.{◌≡◌, ◌≢◌, ℕ, ◌+◌, ◌<◌, ◌�
 use Rattle.std.specs.Prelude.{length, take, Some, slice_get}
 use Rattle.proto_lexer.specs.Tokens.{AreTokens}
 use Rattle.proto_lexer.specs.declared.token.Token.{Token}
-use Rattle.proto_grammar.specs.Lexemes.{Lexeme, Meaning, string, the_end, lexemes, IsWord, is_no_token, is_type_part}
-use Rattle.proto_grammar.specs.Lexemes.{IsMark, less, equals, opening_brace, opening_paren, closing_paren, says}
-use Rattle.proto_grammar.specs.Lexemes.{says_one_of}
-use Rattle.proto_grammar.specs.Grammar.{MapKey, RpcType}
-use Rattle.proto_schema.specs.Files.{Draft, InFile, InMessage, InBody, a_oneof, a_service, LabelOf, Says, Forms}
+use Rattle.proto_grammar.specs.Lexemes.{Lexeme, TokenMeaning, string, the_end, lexemes, IsWord, is_no_token, is_type_part}
+use Rattle.proto_grammar.specs.Lexemes.{IsPunctuator, less, equals, opening_brace, opening_paren, closing_paren, is_the_word}
+use Rattle.proto_grammar.specs.Lexemes.{is_one_of_words}
+use Rattle.proto_grammar.specs.Grammar.{IsMapKey, IsRpcType}
+use Rattle.proto_schema.specs.Files.{Draft, IsAtFileLevel, IsAtMessageLevel, IsOutsideBlocks, a_oneof, a_service, IsFieldLabel, AreStatementsOf, AreFileTokens}
 use Rattle.proto_schema.specs.declared.limits.TheConstants.{MAX_OPEN}
 use Rattle.proto_ast.specs.declared.file.FieldLabel.{FieldLabel}
 use Rattle.proto_ast.specs.declared.file.Word.{Word}
@@ -22,38 +22,38 @@ use Rattle.proto_grammar.specs.declared.fault.ProtoFault.TheVariants as fault
 -- ---- where a text breaks off
 
 -- these tokens can be continued to a complete text
-abbrev pub CanGoOn : List Lexeme → Type 0
-CanGoOn xs = (ys : List Lexeme) × (file : File) × Forms (xs ++ ys) file
+abbrev pub CanContinue : List Lexeme → Type 0
+CanContinue xs = (ys : List Lexeme) × (file : File) × AreFileTokens (xs ++ ys) file
 
 -- the token at an index
-abbrev pub IsTokenAt : List Lexeme → ℕ → Lexeme → Type 0
-IsTokenAt ts k x = slice_get ts k ≡ Some x
+abbrev pub IsLexemeAt : List Lexeme → ℕ → Lexeme → Type 0
+IsLexemeAt ts k x = slice_get ts k ≡ Some x
 
 -- the tokens before this one can be continued to a complete text, and with it they can't
-pub record BreaksAt (ts : List Lexeme) (k : ℕ) (x : Lexeme) : Type 0 where
-  pub here : IsTokenAt ts k x
-  pub before : CanGoOn (take k ts)
-  pub behind : CanGoOn (take (k + 1) ts) → ⊥
+pub record IsBreak (ts : List Lexeme) (k : ℕ) (x : Lexeme) : Type 0 where
+  pub here : IsLexemeAt ts k x
+  pub before : CanContinue (take k ts)
+  pub behind : CanContinue (take (k + 1) ts) → ⊥
 
 -- a statement starts at an index, after statements that mean this
-abbrev pub Begins : List Lexeme → ℕ → Draft → Type 0
-Begins ts k d = Says (take k ts) d
+abbrev pub IsStatementStart : List Lexeme → ℕ → Draft → Type 0
+IsStatementStart ts k d = AreStatementsOf (take k ts) d
 
 -- ---- what a break means
 
 -- after `import`, not a fault with the reason `Import`
-abbrev pub is_path : Meaning → Bool
+abbrev pub is_path : TokenMeaning → Bool
 is_path (string path) = true
 is_path the_end = true
-is_path m = says m (codes "public")
+is_path m = is_the_word m (codes "public")
 
 -- a token that isn't this word
 abbrev pub IsOtherThan : Lexeme → List ℕ → Type 0
-IsOtherThan x word = says x.means word ≡ false
+IsOtherThan x word = is_the_word x.means word ≡ false
 
 -- it is a token
-abbrev pub IsToken : Lexeme → Type 0
-IsToken x = is_no_token x.means ≡ false
+abbrev pub IsValidToken : Lexeme → Type 0
+IsValidToken x = is_no_token x.means ≡ false
 
 -- it is no token
 abbrev pub IsNoToken : Lexeme → Type 0
@@ -69,7 +69,7 @@ IsTypePart x = is_type_part x.means ≡ true
 
 -- `extend` or `extensions`
 abbrev pub IsExtension : Lexeme → Type 0
-IsExtension x = says_one_of x (codes "extend" ∷ codes "extensions" ∷ []) ≡ true
+IsExtension x = is_one_of_words x (codes "extend" ∷ codes "extensions" ∷ []) ≡ true
 
 -- a statement is one of a service
 abbrev pub InService : Draft → Type 0
@@ -85,84 +85,84 @@ IsTooDeep d = length d.messages ≡ MAX_OPEN + 1
 
 -- `rpc NAME (`
 pub data IsRpcOpening : List Lexeme → Type 0 where
-  rpc_opening : (x y z : Lexeme) (name : List ℕ) → IsWord x (codes "rpc") → IsWord y name → IsMark z opening_paren
+  rpc_opening : (x y z : Lexeme) (name : List ℕ) → IsWord x (codes "rpc") → IsWord y name → IsPunctuator z opening_paren
       → IsRpcOpening (x ∷ y ∷ z ∷ [])
 
 -- `) returns (`
 pub data IsReturnsOpening : List Lexeme → Type 0 where
-  returns_opening : (x y z : Lexeme) → IsMark x closing_paren → IsWord y (codes "returns") → IsMark z opening_paren
+  returns_opening : (x y z : Lexeme) → IsPunctuator x closing_paren → IsWord y (codes "returns") → IsPunctuator z opening_paren
       → IsReturnsOpening (x ∷ y ∷ z ∷ [])
 
 -- the tokens from the start of a statement up to an rpc's type, of its input or of its output
-pub data BeforeRpcType (d : Draft) (all : List Lexeme) : Type 0 where
-  input : InService d → IsRpcOpening all → BeforeRpcType d all
-  output : {hs is rs : List Lexeme} {w : Word} → InService d → IsRpcOpening hs → RpcType is w → IsReturnsOpening rs
-      → all ≡ hs ++ is ++ rs → BeforeRpcType d all
+pub data IsBeforeRpcType (d : Draft) (all : List Lexeme) : Type 0 where
+  input : InService d → IsRpcOpening all → IsBeforeRpcType d all
+  output : {hs is rs : List Lexeme} {w : Word} → InService d → IsRpcOpening hs → IsRpcType is w → IsReturnsOpening rs
+      → all ≡ hs ++ is ++ rs → IsBeforeRpcType d all
 
 -- `map<`, or a map's key and a comma, any number of times
-pub data BeforeMapPart : List Lexeme → Type 0 where
-  key : (x y : Lexeme) → IsWord x (codes "map") → IsMark y less → BeforeMapPart (x ∷ y ∷ [])
-  value : {ks : List Lexeme} {w : Word} → MapKey ks w → BeforeMapPart ks
-  inner : {ks ys all : List Lexeme} {w : Word} → MapKey ks w → BeforeMapPart ys → all ≡ ks ++ ys → BeforeMapPart all
+pub data IsBeforeMapPart : List Lexeme → Type 0 where
+  key : (x y : Lexeme) → IsWord x (codes "map") → IsPunctuator y less → IsBeforeMapPart (x ∷ y ∷ [])
+  value : {ks : List Lexeme} {w : Word} → IsMapKey ks w → IsBeforeMapPart ks
+  inner : {ks ys all : List Lexeme} {w : Word} → IsMapKey ks w → IsBeforeMapPart ys → all ≡ ks ++ ys → IsBeforeMapPart all
 
 -- the tokens from the start of a statement up to an index where a type's name starts
-pub data BeforeType (d : Draft) (all : List Lexeme) : Type 0 where
-  of_rpc : BeforeRpcType d all → BeforeType d all
-  of_field : {label : FieldLabel} {words : List (List ℕ)} → InMessage d → LabelOf all label words → BeforeType d all
-  of_map : {ls ms : List Lexeme} {label : FieldLabel} {words : List (List ℕ)} → InMessage d → LabelOf ls label words
-      → BeforeMapPart ms → all ≡ ls ++ ms → BeforeType d all
-  of_member : (i : ℕ) (filled : Bool) → InOneof d i filled → all ≡ [] → BeforeType d all
-  of_member_map : (i : ℕ) (filled : Bool) → InOneof d i filled → BeforeMapPart all → BeforeType d all
+pub data IsBeforeType (d : Draft) (all : List Lexeme) : Type 0 where
+  of_rpc : IsBeforeRpcType d all → IsBeforeType d all
+  of_field : {label : FieldLabel} {words : List (List ℕ)} → IsAtMessageLevel d → IsFieldLabel all label words → IsBeforeType d all
+  of_map : {ls ms : List Lexeme} {label : FieldLabel} {words : List (List ℕ)} → IsAtMessageLevel d → IsFieldLabel ls label words
+      → IsBeforeMapPart ms → all ≡ ls ++ ms → IsBeforeType d all
+  of_member : (i : ℕ) (filled : Bool) → InOneof d i filled → all ≡ [] → IsBeforeType d all
+  of_member_map : (i : ℕ) (filled : Bool) → InOneof d i filled → IsBeforeMapPart all → IsBeforeType d all
 
 -- the reasons other than `Expected`, each at its token
-pub data IsNamed (ts : List Lexeme) (k : ℕ) : ProtoReason → Type 0 where
+pub data IsSpecificFault (ts : List Lexeme) (k : ℕ) : ProtoReason → Type 0 where
   -- what is at the index is no token
-  no_token : (x : Lexeme) → BreaksAt ts k x → IsNoToken x → IsNamed ts k NoToken
+  no_token : (x : Lexeme) → IsBreak ts k x → IsNoToken x → IsSpecificFault ts k NoToken
   -- `import` starts a statement of the file, and the token after it is no string, not `public` and not the end of the
   -- text
-  import : (j : ℕ) (x y : Lexeme) (d : Draft) → k ≡ j + 1 → Begins ts j d → InFile d → IsTokenAt ts j x
-      → IsWord x (codes "import") → IsTokenAt ts k y → IsToken y → IsNoPath y → IsNamed ts k Import
+  import : (j : ℕ) (x y : Lexeme) (d : Draft) → k ≡ j + 1 → IsStatementStart ts j d → IsAtFileLevel d → IsLexemeAt ts j x
+      → IsWord x (codes "import") → IsLexemeAt ts k y → IsValidToken y → IsNoPath y → IsSpecificFault ts k Import
   -- `stream` is where an rpc's type starts, and a name or a dot follows it
   stream : (xs ys zs : List Lexeme) (x y : Lexeme) (d : Draft) → ts ≡ xs ++ ys ++ x ∷ y ∷ zs → length (xs ++ ys) ≡ k
-      → Says xs d → BeforeRpcType d ys → IsWord x (codes "stream") → IsTypePart y → IsNamed ts k Stream
+      → AreStatementsOf xs d → IsBeforeRpcType d ys → IsWord x (codes "stream") → IsTypePart y → IsSpecificFault ts k Stream
   -- `group` is where a type's name starts
   group : (xs ys zs : List Lexeme) (x : Lexeme) (d : Draft) → ts ≡ xs ++ ys ++ x ∷ zs → length (xs ++ ys) ≡ k
-      → Says xs d → BeforeType d ys → IsWord x (codes "group") → IsNamed ts k Group
+      → AreStatementsOf xs d → IsBeforeType d ys → IsWord x (codes "group") → IsSpecificFault ts k Group
   -- `extend` or `extensions` starts a statement of the file or of a message
-  extend : (x : Lexeme) (d : Draft) → Begins ts k d → InBody d → IsTokenAt ts k x → IsExtension x → IsNamed ts k Extend
+  extend : (x : Lexeme) (d : Draft) → IsStatementStart ts k d → IsOutsideBlocks d → IsLexemeAt ts k x → IsExtension x → IsSpecificFault ts k Extend
   -- the first token isn't `syntax`
-  no_syntax : (x : Lexeme) → k ≡ 0 → IsTokenAt ts 0 x → IsToken x → IsOtherThan x (codes "syntax")
-      → IsNamed ts k Syntax2
+  no_syntax : (x : Lexeme) → k ≡ 0 → IsLexemeAt ts 0 x → IsValidToken x → IsOtherThan x (codes "syntax")
+      → IsSpecificFault ts k Syntax2
   -- the first statement names another syntax
   other_syntax : (x y z : Lexeme) (us : List Lexeme) (value : List ℕ) → k ≡ 0 → ts ≡ x ∷ y ∷ z ∷ us
-      → IsWord x (codes "syntax") → IsMark y equals → z.means ≡ string value → value ≢ codes "proto3"
-      → IsNamed ts k Syntax2
+      → IsWord x (codes "syntax") → IsPunctuator y equals → z.means ≡ string value → value ≢ codes "proto3"
+      → IsSpecificFault ts k Syntax2
   -- a brace opens a message in 32 others: after it no block of the innermost message is open
-  nesting : (x : Lexeme) (d : Draft) → IsTokenAt ts k x → IsMark x opening_brace → Begins ts (k + 1) d → InMessage d
-      → IsTooDeep d → IsNamed ts k Nesting
+  nesting : (x : Lexeme) (d : Draft) → IsLexemeAt ts k x → IsPunctuator x opening_brace → IsStatementStart ts (k + 1) d → IsAtMessageLevel d
+      → IsTooDeep d → IsSpecificFault ts k Nesting
 
 -- a token is at fault for a reason: a specific one, or else `Expected`
-pub data IsFault (ts : List Lexeme) (k : ℕ) : ProtoReason → Type 0 where
-  named : {q : ProtoReason} → IsNamed ts k q → IsFault ts k q
-  expected : (x : Lexeme) → BreaksAt ts k x → ((q : ProtoReason) (j : ℕ) → j ≤ k → IsNamed ts j q → ⊥)
-      → IsFault ts k Expected
+pub data IsTokenFault (ts : List Lexeme) (k : ℕ) : ProtoReason → Type 0 where
+  named : {q : ProtoReason} → IsSpecificFault ts k q → IsTokenFault ts k q
+  expected : (x : Lexeme) → IsBreak ts k x → ((q : ProtoReason) (j : ℕ) → j ≤ k → IsSpecificFault ts j q → ⊥)
+      → IsTokenFault ts k Expected
 
 -- the first token at fault
 pub record IsFirstFault (ts : List Lexeme) (k : ℕ) (q : ProtoReason) : Type 0 where
-  pub here : IsFault ts k q
-  pub none_before : (j : ℕ) (p : ProtoReason) → j < k → IsFault ts j p → ⊥
+  pub here : IsTokenFault ts k q
+  pub none_before : (j : ℕ) (p : ProtoReason) → j < k → IsTokenFault ts j p → ⊥
 
 -- ---- texts
 
 -- a text reads as a file: its tokens are those of a complete text, and no message is nested in 32 others
-pub record IsTextOf (text : List ℕ) (file : File) : Type 0 where
+pub record IsProtoTextOf (text : List ℕ) (file : File) : Type 0 where
   pub tokens : List Token
   pub of_text : AreTokens text 0 tokens
-  pub reads : Forms (lexemes text tokens) file
-  pub shallow : (k : ℕ) → IsNamed (lexemes text tokens) k Nesting → ⊥
+  pub reads : AreFileTokens (lexemes text tokens) file
+  pub shallow : (k : ℕ) → IsSpecificFault (lexemes text tokens) k Nesting → ⊥
 
 -- the first fault of a text is here
-pub record HasFault (text : List ℕ) (q : ProtoReason) (span : Span) : Type 0 where
+pub record HasProtoFault (text : List ℕ) (q : ProtoReason) (span : Span) : Type 0 where
   pub tokens : List Token
   pub of_text : AreTokens text 0 tokens
   pub place : ℕ
@@ -173,5 +173,5 @@ pub record HasFault (text : List ℕ) (q : ProtoReason) (span : Span) : Type 0 w
 
 -- what a fault means for a text; `Memory` means nothing
 abbrev pub IsFaultOf : List ℕ → ProtoFault → Type 0
-IsFaultOf text (fault.At q start end line) = HasFault text q (record { start = start; end = end; line = line })
+IsFaultOf text (fault.At q start end line) = HasProtoFault text q (record { start = start; end = end; line = line })
 IsFaultOf text fault.Memory = Unit {0}

@@ -1,3 +1,3 @@
 pub mod Files
 pub mod Faults
-pub mod Running
+pub mod StatementReading

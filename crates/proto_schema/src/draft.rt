@@ -1,14 +1,14 @@
 //! The declarations of the statements so far.
 
 ghost use Rattle.std.specs.Prelude.{◌≡◌, ◌∷◌, ◌++◌, [], OnOk, length, nat_le, slice_get};
-ghost use Rattle.proto_schema.specs.Files.{edit_at, innermost_of, oneofs_of, nothing_said};
-ghost use Rattle.proto_schema.specs.Running.{draft_of, place_of, added};
+ghost use Rattle.proto_schema.specs.Files.{edit_at, innermost_of, oneofs_in_message, initial_draft};
+ghost use Rattle.proto_schema.specs.StatementReading.{draft_of, statement_place, draft_with};
 ghost use Rattle.proto_schema.specs.declared.limits.TheConstants.{MAX_OPEN};
 ghost use Rattle.proto_schema.specs.declared.statement.Opening.TheVariants as openings;
-ghost use Rattle.proto_schema.specs.declared.statement.Said.TheVariants as said;
+ghost use Rattle.proto_schema.specs.declared.statement.StatementEffect.TheVariants as said;
 
 use crate::limits::MAX_OPEN;
-use crate::statement::{Opening, Place, Said};
+use crate::statement::{Opening, StatementEffect, StatementPlace};
 use mrpc_table::{Memory, Sequence};
 use proto_ast::{
     EnumDecl, EnumDecls, FieldDecl, FieldDecls, File, Import, Imports, MessageDecl, MessageDecls,
@@ -19,7 +19,7 @@ use std::mem;
 
 // The open block in the innermost open message, or in the file if no message is open.
 #[derive(Clone, Copy)]
-pub(crate) enum Block {
+pub(crate) enum OpenBlock {
     None,
     // A oneof: its index in its message, and whether it has a field.
     Oneof(usize, bool),
@@ -39,7 +39,7 @@ pub(crate) struct Draft {
     services: Vec<ServiceDecl>,
     // The indices of the open messages, the outermost first.
     nested: Vec<usize>,
-    block: Block,
+    block: OpenBlock,
 }
 
 impl Drop for Draft {
@@ -173,7 +173,7 @@ fn push_rpc(services: &mut [ServiceDecl], place: usize, rpc: RpcDecl) -> Result<
 
 // The number of oneofs of a message.
 fn oneofs_in(messages: &[MessageDecl], place: usize) -> usize
-    ensures { result ≡ oneofs_of (slice_get messages.now place) }
+    ensures { result ≡ oneofs_in_message (slice_get messages.now place) }
 {
     match messages.get(place) {
         Some(message) => message.oneofs.len(),
@@ -185,7 +185,7 @@ fn oneofs_in(messages: &[MessageDecl], place: usize) -> usize
 impl Draft {
     // An empty draft: nothing is declared and nothing is open.
     pub(crate) fn new(alloc: Global) -> Draft
-        ensures { draft_of result ≡ nothing_said }
+        ensures { draft_of result ≡ initial_draft }
     {
         Draft {
             package: None,
@@ -194,23 +194,23 @@ impl Draft {
             enums: Vec::new(alloc),
             services: Vec::new(alloc),
             nested: Vec::new(alloc),
-            block: Block::None,
+            block: OpenBlock::None,
         }
     }
 
     // Where the next statement is.
-    pub(crate) fn place(&self) -> Place
-        ensures { result ≡ place_of (draft_of self.now) }
+    pub(crate) fn place(&self) -> StatementPlace
+        ensures { result ≡ statement_place (draft_of self.now) }
     {
         match self.block {
-            Block::Oneof(_, filled) => Place::Oneof { filled },
-            Block::Enum(filled) => Place::Enum { filled },
-            Block::Service => Place::Service,
-            Block::Rpc => Place::Rpc,
-            Block::None if self.nested.is_empty() => Place::File {
+            OpenBlock::Oneof(_, filled) => StatementPlace::Oneof { filled },
+            OpenBlock::Enum(filled) => StatementPlace::Enum { filled },
+            OpenBlock::Service => StatementPlace::Service,
+            OpenBlock::Rpc => StatementPlace::Rpc,
+            OpenBlock::None if self.nested.is_empty() => StatementPlace::File {
                 package: self.package.is_some(),
             },
-            Block::None => Place::Message,
+            OpenBlock::None => StatementPlace::Message,
         }
     }
 
@@ -251,7 +251,7 @@ impl Draft {
     }
 
     fn open_message(&mut self, alloc: Global, name: Word) -> Result<(), Memory>
-        ensures { OnOk result (draft_of self.new ≡ added (draft_of self.old) (said.Open openings.Message name)) }
+        ensures { OnOk result (draft_of self.new ≡ draft_with (draft_of self.old) (said.Open openings.Message name)) }
     {
         let place = self.messages.len();
         let parent = self.innermost();
@@ -265,12 +265,12 @@ impl Draft {
             names: Words::new(alloc),
         })?;
         self.nested.push(place)?;
-        self.block = Block::None;
+        self.block = OpenBlock::None;
         Ok(())
     }
 
     fn open_enum(&mut self, alloc: Global, name: Word) -> Result<(), Memory>
-        ensures { OnOk result (draft_of self.new ≡ added (draft_of self.old) (said.Open openings.Enum name)) }
+        ensures { OnOk result (draft_of self.new ≡ draft_with (draft_of self.old) (said.Open openings.Enum name)) }
     {
         let parent = self.innermost();
         self.enums.push(EnumDecl {
@@ -281,42 +281,42 @@ impl Draft {
             ranges: Ranges::new(alloc),
             names: Words::new(alloc),
         })?;
-        self.block = Block::Enum(false);
+        self.block = OpenBlock::Enum(false);
         Ok(())
     }
 
     fn open_service(&mut self, alloc: Global, name: Word) -> Result<(), Memory>
-        ensures { OnOk result (draft_of self.new ≡ added (draft_of self.old) (said.Open openings.Service name)) }
+        ensures { OnOk result (draft_of self.new ≡ draft_with (draft_of self.old) (said.Open openings.Service name)) }
     {
         self.services.push(ServiceDecl {
             name,
             file: 0,
             rpcs: RpcDecls::new(alloc),
         })?;
-        self.block = Block::Service;
+        self.block = OpenBlock::Service;
         Ok(())
     }
 
     fn open_oneof(&mut self, name: Word) -> Result<(), Memory>
-        ensures { OnOk result (draft_of self.new ≡ added (draft_of self.old) (said.Open openings.Oneof name)) }
+        ensures { OnOk result (draft_of self.new ≡ draft_with (draft_of self.old) (said.Open openings.Oneof name)) }
     {
         match self.innermost() {
             Some(message) => {
                 let place = oneofs_in(&self.messages, message);
                 push_oneof(&mut self.messages, message, name)?;
-                self.block = Block::Oneof(place, false);
+                self.block = OpenBlock::Oneof(place, false);
             }
-            None => self.block = Block::Oneof(0, false),
+            None => self.block = OpenBlock::Oneof(0, false),
         }
         Ok(())
     }
 
     fn add_field(&mut self, mut field: FieldDecl) -> Result<(), Memory>
-        ensures { OnOk result (draft_of self.new ≡ added (draft_of self.old) (said.Field field)) }
+        ensures { OnOk result (draft_of self.new ≡ draft_with (draft_of self.old) (said.Field field)) }
     {
-        if let Block::Oneof(place, _) = self.block {
+        if let OpenBlock::Oneof(place, _) = self.block {
             field.oneof = Some(place);
-            self.block = Block::Oneof(place, true);
+            self.block = OpenBlock::Oneof(place, true);
         }
         match self.innermost() {
             Some(message) => push_field(&mut self.messages, message, field),
@@ -325,18 +325,18 @@ impl Draft {
     }
 
     fn add_value(&mut self, value: ValueDecl) -> Result<(), Memory>
-        ensures { OnOk result (draft_of self.new ≡ added (draft_of self.old) (said.Value value)) }
+        ensures { OnOk result (draft_of self.new ≡ draft_with (draft_of self.old) (said.Value value)) }
     {
         let last = self.enums.len().saturating_sub(1);
         push_value(&mut self.enums, last, value)?;
-        self.block = Block::Enum(true);
+        self.block = OpenBlock::Enum(true);
         Ok(())
     }
 
     fn add_ranges(&mut self, alloc: Global, ranges: Ranges) -> Result<(), Memory>
-        ensures { OnOk result (draft_of self.new ≡ added (draft_of self.old) (said.Ranges ranges)) }
+        ensures { OnOk result (draft_of self.new ≡ draft_with (draft_of self.old) (said.Ranges ranges)) }
     {
-        if let Block::Enum(_) = self.block {
+        if let OpenBlock::Enum(_) = self.block {
             let last = self.enums.len().saturating_sub(1);
             return push_value_ranges(alloc, &mut self.enums, last, ranges);
         }
@@ -347,9 +347,9 @@ impl Draft {
     }
 
     fn add_names(&mut self, alloc: Global, names: Words) -> Result<(), Memory>
-        ensures { OnOk result (draft_of self.new ≡ added (draft_of self.old) (said.Names names)) }
+        ensures { OnOk result (draft_of self.new ≡ draft_with (draft_of self.old) (said.Names names)) }
     {
-        if let Block::Enum(_) = self.block {
+        if let OpenBlock::Enum(_) = self.block {
             let last = self.enums.len().saturating_sub(1);
             return push_value_names(alloc, &mut self.enums, last, names);
         }
@@ -360,31 +360,31 @@ impl Draft {
     }
 
     fn add_rpc(&mut self, rpc: RpcDecl, block: bool) -> Result<(), Memory>
-        ensures { OnOk result (draft_of self.new ≡ added (draft_of self.old) (said.Rpc rpc block)) }
+        ensures { OnOk result (draft_of self.new ≡ draft_with (draft_of self.old) (said.Rpc rpc block)) }
     {
         let last = self.services.len().saturating_sub(1);
         push_rpc(&mut self.services, last, rpc)?;
         if block {
-            self.block = Block::Rpc;
+            self.block = OpenBlock::Rpc;
         }
         Ok(())
     }
 
     fn close(&mut self)
-        ensures { draft_of self.new ≡ added (draft_of self.old) said.Close }
+        ensures { draft_of self.new ≡ draft_with (draft_of self.old) said.Close }
     {
         match self.block {
-            Block::None => {
+            OpenBlock::None => {
                 let _ = self.nested.pop();
             }
-            Block::Rpc => self.block = Block::Service,
-            _ => self.block = Block::None,
+            OpenBlock::Rpc => self.block = OpenBlock::Service,
+            _ => self.block = OpenBlock::None,
         }
     }
 
     // Opens a block.
     pub(crate) fn open(&mut self, alloc: Global, opening: Opening, name: Word) -> Result<(), Memory>
-        ensures { OnOk result (draft_of self.new ≡ added (draft_of self.old) (said.Open opening name)) }
+        ensures { OnOk result (draft_of self.new ≡ draft_with (draft_of self.old) (said.Open opening name)) }
     {
         match opening {
             Opening::Message => self.open_message(alloc, name),
@@ -395,23 +395,23 @@ impl Draft {
     }
 
     // Adds what a statement declares.
-    pub(crate) fn add(&mut self, alloc: Global, says: Said) -> Result<(), Memory>
-        ensures { OnOk result (draft_of self.new ≡ added (draft_of self.old) says) }
+    pub(crate) fn add(&mut self, alloc: Global, says: StatementEffect) -> Result<(), Memory>
+        ensures { OnOk result (draft_of self.new ≡ draft_with (draft_of self.old) says) }
     {
         match says {
-            Said::Nothing => Ok(()),
-            Said::Package(name) => {
+            StatementEffect::Nothing => Ok(()),
+            StatementEffect::Package(name) => {
                 self.package = Some(name);
                 Ok(())
             }
-            Said::Import(import) => self.imports.push(import),
-            Said::Open(opening, name) => self.open(alloc, opening, name),
-            Said::Field(field) => self.add_field(field),
-            Said::Ranges(ranges) => self.add_ranges(alloc, ranges),
-            Said::Names(names) => self.add_names(alloc, names),
-            Said::Value(value) => self.add_value(value),
-            Said::Rpc(rpc, block) => self.add_rpc(rpc, block),
-            Said::Close => {
+            StatementEffect::Import(import) => self.imports.push(import),
+            StatementEffect::Open(opening, name) => self.open(alloc, opening, name),
+            StatementEffect::Field(field) => self.add_field(field),
+            StatementEffect::Ranges(ranges) => self.add_ranges(alloc, ranges),
+            StatementEffect::Names(names) => self.add_names(alloc, names),
+            StatementEffect::Value(value) => self.add_value(value),
+            StatementEffect::Rpc(rpc, block) => self.add_rpc(rpc, block),
+            StatementEffect::Close => {
                 self.close();
                 Ok(())
             }

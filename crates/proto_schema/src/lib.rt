@@ -7,8 +7,8 @@
 //!
 //! The layer above relies on the contract of [`read_proto`]. A file that it returns is what the text reads as
 //! (`reads`). If the text reads as a file, it returns that file or runs out of memory (`only`). A fault that it
-//! returns is the text's first one (`fault`). A text reads as at most one file ([`one_file`]), has at most one first
-//! fault ([`one_fault`]), and has exactly one of the two ([`file_or_fault`]).
+//! returns is the text's first one (`fault`). A text reads as at most one file ([`file_is_unique`]), has at most one first
+//! fault ([`text_fault_is_unique`]), and has exactly one of the two ([`file_or_fault`]).
 //!
 //! The file is well-formed, and its names and numbers start in the order of its lists (`Order` of `proto_ast`,
 //! [`file_is_ordered`]). The same is true of it as a file that is resolved alone (`Together` of `proto_ast`,
@@ -22,7 +22,8 @@ mod read;
 mod statement;
 
 pub use laws::{
-    alone_is_ordered, file_is_ordered, file_is_within, file_or_fault, one_fault, one_file,
+    alone_is_ordered, file_is_ordered, file_is_unique, file_is_within, file_or_fault,
+    text_fault_is_unique,
 };
 pub use limits::MAX_OPEN;
 pub use read::read_proto;

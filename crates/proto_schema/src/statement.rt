@@ -3,31 +3,31 @@
 ghost use Rattle.std.specs.Prelude.{◌≡◌, ◌<◌, ◌^◌, ℕ, List, Ok, true, false, if◌then◌else◌};
 ghost use Rattle.std.specs.Str.{bytes_eq};
 ghost use Rattle.proto_lexer.specs.Tokens.{literal_of};
-ghost use Rattle.proto_lexer.specs.declared.token.Kind.TheVariants as kinds;
-ghost use Rattle.proto_grammar.specs.Lexemes.{lexeme, word_at, opening_brace, semicolon};
-ghost use Rattle.proto_grammar.specs.Reading.{Lies, Gives, wrong, if_name, is_mark as is_the_mark};
-ghost use Rattle.proto_grammar.specs.Reading.{full_step as full_reading, option_step as option_reading, option_depth};
-ghost use Rattle.proto_grammar.specs.Reading.{field_step as field_reading, field_depth, value_step as value_reading};
-ghost use Rattle.proto_grammar.specs.Reading.{value_depth, reserved_step as reserved_reading, rpc_step as rpc_reading};
-ghost use Rattle.proto_schema.specs.Running;
-ghost use Rattle.proto_schema.specs.declared.statement.Place.TheVariants as places;
-ghost use Rattle.proto_schema.specs.declared.statement.State.TheVariants as states;
-ghost use Rattle.proto_schema.specs.declared.statement.Said.TheVariants as said;
-ghost use Rattle.proto_schema.specs.declared.statement.Step.TheVariants as steps;
+ghost use Rattle.proto_lexer.specs.declared.token.TokenKind.TheVariants as kinds;
+ghost use Rattle.proto_grammar.specs.Lexemes.{lexeme, make_word, opening_brace, semicolon};
+ghost use Rattle.proto_grammar.specs.Advancing.{IsTokenOfText, IsResultOf, wrong, if_name, is_punctuator as is_the_mark};
+ghost use Rattle.proto_grammar.specs.Advancing.{advance_full_name as full_reading, advance_option as option_reading, option_depth};
+ghost use Rattle.proto_grammar.specs.Advancing.{advance_field as field_reading, field_depth, advance_value as value_reading};
+ghost use Rattle.proto_grammar.specs.Advancing.{value_depth, advance_reserved as reserved_reading, advance_rpc as rpc_reading};
+ghost use Rattle.proto_schema.specs.StatementReading;
+ghost use Rattle.proto_schema.specs.declared.statement.StatementPlace.TheVariants as places;
+ghost use Rattle.proto_schema.specs.declared.statement.StatementState.TheVariants as states;
+ghost use Rattle.proto_schema.specs.declared.statement.StatementEffect.TheVariants as said;
+ghost use Rattle.proto_schema.specs.declared.statement.StatementStep.TheVariants as steps;
 
 use proto_ast::{FieldDecl, FieldLabel, Import, Ranges, RpcDecl, ValueDecl, Word, Words};
 use proto_grammar::{
     FieldState, FieldStep, NameState, NameStep, OptionState, OptionStep, ProtoFault, ProtoReason,
-    ReservedPart, ReservedState, ReservedStep, RpcState, RpcStep, ValueState, ValueStep, bytes_of,
-    fault_at, field_step, full_step, identifier_of, is_mark, is_word, option_step, reserved_step,
-    rpc_step, span_of, unexpected, value_step, word_of,
+    ReservedPart, ReservedState, ReservedStep, RpcState, RpcStep, ValueState, ValueStep,
+    advance_field, advance_full_name, advance_option, advance_reserved, advance_rpc, advance_value,
+    bytes_of, identifier_of, is_punctuator, is_word, proto_fault_at, span_of, unexpected, word_of,
 };
-use proto_lexer::{Kind, Token, string_value};
+use proto_lexer::{Token, TokenKind, string_value};
 use std::alloc::Global;
 
 // Where a statement is.
 #[derive(Clone, Copy)]
-pub(crate) enum Place {
+pub(crate) enum StatementPlace {
     // In the file; `package` if there was a package statement.
     File { package: bool },
     Message,
@@ -51,7 +51,7 @@ pub(crate) enum Opening {
 
 // How much of a statement is read.
 #[derive(Drop)]
-pub(crate) enum State {
+pub(crate) enum StatementState {
     // Nothing of it is read.
     Begin,
     Package(NameState),
@@ -72,7 +72,7 @@ pub(crate) enum State {
 
 // What a complete statement declares.
 #[derive(Drop)]
-pub(crate) enum Said {
+pub(crate) enum StatementEffect {
     Nothing,
     Package(Word),
     Import(Import),
@@ -89,10 +89,10 @@ pub(crate) enum Said {
 
 // The result of reading one token of a statement.
 #[derive(Drop)]
-pub(crate) enum Step {
-    More(State),
+pub(crate) enum StatementStep {
+    More(StatementState),
     // The token is its last one.
-    Done(Said),
+    Done(StatementEffect),
 }
 
 // True if a name is this word.
@@ -102,35 +102,38 @@ fn is(name: &[u8], word: &[u8]) -> bool
     name == word
 }
 
-fn more(state: State) -> Result<Step, ProtoFault>
-    ensures { result ≡ Running.more state }
+fn more(state: StatementState) -> Result<StatementStep, ProtoFault>
+    ensures { result ≡ StatementReading.more state }
 {
-    Ok(Step::More(state))
+    Ok(StatementStep::More(state))
 }
 
 // True if `}` closes a block here.
-fn closes_in(place: Place) -> bool
-    ensures { result ≡ Running.closes_in place }
+fn closes_in(place: StatementPlace) -> bool
+    ensures { result ≡ StatementReading.closes_in place }
 {
     match place {
-        Place::File { .. } => false,
-        Place::Oneof { filled } | Place::Enum { filled } => filled,
-        Place::Message | Place::Service | Place::Rpc => true,
+        StatementPlace::File { .. } => false,
+        StatementPlace::Oneof { filled } | StatementPlace::Enum { filled } => filled,
+        StatementPlace::Message | StatementPlace::Service | StatementPlace::Rpc => true,
     }
 }
 
 // True if `;` is a statement here.
-fn is_body(place: Place) -> bool
-    ensures { result ≡ Running.is_body place }
+fn is_body(place: StatementPlace) -> bool
+    ensures { result ≡ StatementReading.is_body place }
 {
-    matches!(place, Place::File { .. } | Place::Message)
+    matches!(place, StatementPlace::File { .. } | StatementPlace::Message)
 }
 
 // True if a field without a label may start here.
-fn has_fields(place: Place) -> bool
-    ensures { result ≡ Running.has_fields place }
+fn has_fields(place: StatementPlace) -> bool
+    ensures { result ≡ StatementReading.has_fields place }
 {
-    matches!(place, Place::Message | Place::Oneof { .. })
+    matches!(
+        place,
+        StatementPlace::Message | StatementPlace::Oneof { .. }
+    )
 }
 
 fn of_field(
@@ -138,43 +141,43 @@ fn of_field(
     text: &[u8],
     field: FieldState,
     token: &Token,
-) -> Result<Step, ProtoFault>
-    requires lies { Lies text.now token.now }
+) -> Result<StatementStep, ProtoFault>
+    requires lies { IsTokenOfText text.now token.now }
     requires depth { field_depth field < 2 ^ 63 }
-    ensures { Gives result (Running.of_field (field_reading field (lexeme text.now token.now))) }
+    ensures { IsResultOf result (StatementReading.of_field (field_reading field (lexeme text.now token.now))) }
 {
-    match field_step(alloc, text, field, token)? {
-        FieldStep::More(field) => more(State::Field(field)),
-        FieldStep::Done(field) => Ok(Step::Done(Said::Field(field))),
+    match advance_field(alloc, text, field, token)? {
+        FieldStep::More(field) => more(StatementState::Field(field)),
+        FieldStep::Done(field) => Ok(StatementStep::Done(StatementEffect::Field(field))),
     }
 }
 
 // Starts a field without a label.
-fn field_begins(alloc: Global, text: &[u8], token: &Token) -> Result<Step, ProtoFault>
-    requires { Lies text.now token.now }
-    ensures { Gives result (Running.field_begins (lexeme text.now token.now)) }
+fn start_field(alloc: Global, text: &[u8], token: &Token) -> Result<StatementStep, ProtoFault>
+    requires { IsTokenOfText text.now token.now }
+    ensures { IsResultOf result (StatementReading.start_field (lexeme text.now token.now)) }
 {
     let state = FieldState::Type(FieldLabel::Plain, NameState::Start);
     of_field(alloc, text, state, token)
 }
 
 // Starts a statement at a punctuator.
-fn mark_begins(
+fn start_at_punctuator(
     alloc: Global,
     text: &[u8],
-    place: Place,
+    place: StatementPlace,
     token: &Token,
     mark: u8,
-) -> Result<Step, ProtoFault>
-    requires { Lies text.now token.now }
-    ensures { Gives result (Running.mark_begins place (lexeme text.now token.now) mark) }
+) -> Result<StatementStep, ProtoFault>
+    requires { IsTokenOfText text.now token.now }
+    ensures { IsResultOf result (StatementReading.start_at_punctuator place (lexeme text.now token.now) mark) }
 {
     if mark == b'.' && has_fields(place) {
-        field_begins(alloc, text, token)
+        start_field(alloc, text, token)
     } else if mark == b';' && is_body(place) {
-        Ok(Step::Done(Said::Nothing))
+        Ok(StatementStep::Done(StatementEffect::Nothing))
     } else if mark == b'}' && closes_in(place) {
-        Ok(Step::Done(Said::Close))
+        Ok(StatementStep::Done(StatementEffect::Close))
     } else {
         Err(unexpected(token))
     }
@@ -182,7 +185,7 @@ fn mark_begins(
 
 // `message`, `enum`, `service` or `oneof`, if it is allowed here.
 fn opening_of(in_file: bool, name: &[u8]) -> Option<Opening>
-    ensures { result ≡ Running.opening_of in_file name.now }
+    ensures { result ≡ StatementReading.opening_of in_file name.now }
 {
     if is(name, b"message") {
         Some(Opening::Message)
@@ -198,122 +201,127 @@ fn opening_of(in_file: bool, name: &[u8]) -> Option<Opening>
 }
 
 fn is_extend(name: &[u8]) -> bool
-    ensures { result ≡ Running.is_extend name.now }
+    ensures { result ≡ StatementReading.is_extend name.now }
 {
     is(name, b"extend") || is(name, b"extensions")
 }
 
-fn file_begins(package: bool, name: &[u8], token: &Token) -> Result<Step, ProtoFault>
+fn start_in_file(package: bool, name: &[u8], token: &Token) -> Result<StatementStep, ProtoFault>
     ensures { (text : List ℕ)
-        → Gives result (Running.file_begins «package» name.now (lexeme text token.now)
-        (Running.opening_of true name.now)) }
+        → IsResultOf result (StatementReading.start_in_file «package» name.now (lexeme text token.now)
+        (StatementReading.opening_of true name.now)) }
 {
     match opening_of(true, name) {
-        Some(opening) => more(State::Opening(opening)),
-        None if is_extend(name) => Err(fault_at(ProtoReason::Extend, span_of(token))),
-        None if !package && is(name, b"package") => more(State::Package(NameState::Start)),
-        None if is(name, b"import") => more(State::Import(false)),
+        Some(opening) => more(StatementState::Opening(opening)),
+        None if is_extend(name) => Err(proto_fault_at(ProtoReason::Extend, span_of(token))),
+        None if !package && is(name, b"package") => more(StatementState::Package(NameState::Start)),
+        None if is(name, b"import") => more(StatementState::Import(false)),
         None => Err(unexpected(token)),
     }
 }
 
-fn reserved(signed: bool) -> Result<Step, ProtoFault>
-    ensures { result ≡ Running.reserved_begins signed }
+fn reserved(signed: bool) -> Result<StatementStep, ProtoFault>
+    ensures { result ≡ StatementReading.start_reserved signed }
 {
     let part = ReservedPart::Start;
-    more(State::Reserved(ReservedState { signed, part }))
+    more(StatementState::Reserved(ReservedState { signed, part }))
 }
 
-fn labelled(label: FieldLabel) -> Result<Step, ProtoFault>
-    ensures { result ≡ Running.labelled label }
+fn labelled(label: FieldLabel) -> Result<StatementStep, ProtoFault>
+    ensures { result ≡ StatementReading.labelled label }
 {
-    more(State::Field(FieldState::Type(label, NameState::Start)))
+    more(StatementState::Field(FieldState::Type(label, NameState::Start)))
 }
 
-fn message_begins(
+fn start_in_message(
     alloc: Global,
     text: &[u8],
     name: &[u8],
     token: &Token,
-) -> Result<Step, ProtoFault>
-    requires { Lies text.now token.now }
-    ensures { Gives result
-        (Running.message_begins name.now (lexeme text.now token.now) (Running.opening_of false name.now)) }
+) -> Result<StatementStep, ProtoFault>
+    requires { IsTokenOfText text.now token.now }
+    ensures { IsResultOf result
+        (StatementReading.start_in_message name.now (lexeme text.now token.now) (StatementReading.opening_of false name.now)) }
 {
     match opening_of(false, name) {
-        Some(opening) => more(State::Opening(opening)),
-        None if is_extend(name) => Err(fault_at(ProtoReason::Extend, span_of(token))),
+        Some(opening) => more(StatementState::Opening(opening)),
+        None if is_extend(name) => Err(proto_fault_at(ProtoReason::Extend, span_of(token))),
         None if is(name, b"reserved") => reserved(false),
         None if is(name, b"optional") => labelled(FieldLabel::Optional),
         None if is(name, b"repeated") => labelled(FieldLabel::Repeated),
-        None => field_begins(alloc, text, token),
+        None => start_field(alloc, text, token),
     }
 }
 
-fn enum_begins(
+fn start_in_enum(
     alloc: Global,
     text: &[u8],
     filled: bool,
     name: &[u8],
     token: &Token,
-) -> Result<Step, ProtoFault>
-    requires lies { Lies text.now token.now }
+) -> Result<StatementStep, ProtoFault>
+    requires lies { IsTokenOfText text.now token.now }
     requires named { name.now ≡ literal_of text.now token.now }
-    ensures { Gives result (Running.word_begins (places.Enum filled) (lexeme text.now token.now) name.now) }
+    ensures { IsResultOf result (StatementReading.start_at_word (places.Enum filled) (lexeme text.now token.now) name.now) }
 {
     if is(name, b"reserved") {
         return reserved(true);
     }
     let name = word_of(alloc, text, token)?;
-    more(State::Value(ValueState::Named(name)))
+    more(StatementState::Value(ValueState::Named(name)))
 }
 
-fn service_begins(name: &[u8], token: &Token) -> Result<Step, ProtoFault>
-    ensures { (text : List ℕ) → Gives result (Running.word_begins places.Service (lexeme text token.now) name.now) }
+fn start_in_service(name: &[u8], token: &Token) -> Result<StatementStep, ProtoFault>
+    ensures { (text : List ℕ) → IsResultOf result (StatementReading.start_at_word places.Service (lexeme text token.now) name.now) }
 {
     if is(name, b"rpc") {
-        more(State::Rpc(RpcState::Start))
+        more(StatementState::Rpc(RpcState::Start))
     } else {
         Err(unexpected(token))
     }
 }
 
 // Starts a statement at a word.
-fn word_begins(
+fn start_at_word(
     alloc: Global,
     text: &[u8],
-    place: Place,
+    place: StatementPlace,
     name: &[u8],
     token: &Token,
-) -> Result<Step, ProtoFault>
-    requires lies { Lies text.now token.now }
+) -> Result<StatementStep, ProtoFault>
+    requires lies { IsTokenOfText text.now token.now }
     requires named { name.now ≡ literal_of text.now token.now }
-    ensures { Gives result (Running.word_begins place (lexeme text.now token.now) name.now) }
+    ensures { IsResultOf result (StatementReading.start_at_word place (lexeme text.now token.now) name.now) }
 {
     match place {
-        Place::File { package } => file_begins(package, name, token),
-        Place::Message => message_begins(alloc, text, name, token),
-        Place::Oneof { .. } => field_begins(alloc, text, token),
-        Place::Enum { filled } => enum_begins(alloc, text, filled, name, token),
-        Place::Service => service_begins(name, token),
-        Place::Rpc => Err(unexpected(token)),
+        StatementPlace::File { package } => start_in_file(package, name, token),
+        StatementPlace::Message => start_in_message(alloc, text, name, token),
+        StatementPlace::Oneof { .. } => start_field(alloc, text, token),
+        StatementPlace::Enum { filled } => start_in_enum(alloc, text, filled, name, token),
+        StatementPlace::Service => start_in_service(name, token),
+        StatementPlace::Rpc => Err(unexpected(token)),
     }
 }
 
 // Reads the first token of a statement.
-fn begins(alloc: Global, text: &[u8], place: Place, token: &Token) -> Result<Step, ProtoFault>
-    requires { Lies text.now token.now }
-    ensures { let x = lexeme text.now token.now in Gives result (Running.begins place x x.means) }
+fn advance_first_token(
+    alloc: Global,
+    text: &[u8],
+    place: StatementPlace,
+    token: &Token,
+) -> Result<StatementStep, ProtoFault>
+    requires { IsTokenOfText text.now token.now }
+    ensures { let x = lexeme text.now token.now in IsResultOf result (StatementReading.advance_first_token place x x.means) }
 {
     match token.kind {
-        Kind::Identifier => {
+        TokenKind::Identifier => {
             let name = bytes_of(text, token);
             if is(name, b"option") {
-                return more(State::Option(OptionState::Name { first: true }));
+                return more(StatementState::Option(OptionState::Name { first: true }));
             }
-            word_begins(alloc, text, place, name, token)
+            start_at_word(alloc, text, place, name, token)
         }
-        Kind::Mark(mark) => mark_begins(alloc, text, place, token, mark),
+        TokenKind::Mark(mark) => start_at_punctuator(alloc, text, place, token, mark),
         _ => Err(unexpected(token)),
     }
 }
@@ -321,9 +329,9 @@ fn begins(alloc: Global, text: &[u8], place: Place, token: &Token) -> Result<Ste
 // The `;` that ends a statement.
 fn end(token: &Token) -> Result<(), ProtoFault>
     ensures { (text : List ℕ) → let x = lexeme text token.now in
-        Gives result (if is_the_mark x.means semicolon then Ok tt else wrong x) }
+        IsResultOf result (if is_the_mark x.means semicolon then Ok tt else wrong x) }
 {
-    if is_mark(token, b';') {
+    if is_punctuator(token, b';') {
         Ok(())
     } else {
         Err(unexpected(token))
@@ -335,86 +343,96 @@ fn of_package(
     text: &[u8],
     name: NameState,
     token: &Token,
-) -> Result<Step, ProtoFault>
-    requires { Lies text.now token.now }
-    ensures { let x = lexeme text.now token.now in Gives result (Running.of_package x (full_reading name x)) }
+) -> Result<StatementStep, ProtoFault>
+    requires { IsTokenOfText text.now token.now }
+    ensures { let x = lexeme text.now token.now in IsResultOf result (StatementReading.of_package x (full_reading name x)) }
 {
-    match full_step(alloc, text, name, token)? {
-        NameStep::More(name) => more(State::Package(name)),
+    match advance_full_name(alloc, text, name, token)? {
+        NameStep::More(name) => more(StatementState::Package(name)),
         NameStep::Whole(name) => {
             end(token)?;
-            Ok(Step::Done(Said::Package(name)))
+            Ok(StatementStep::Done(StatementEffect::Package(name)))
         }
     }
 }
 
 // Reads the path after `import` or `import public`.
-fn imported(alloc: Global, text: &[u8], public: bool, token: &Token) -> Result<Step, ProtoFault>
-    requires lies { Lies text.now token.now }
+fn imported(
+    alloc: Global,
+    text: &[u8],
+    public: bool,
+    token: &Token,
+) -> Result<StatementStep, ProtoFault>
+    requires lies { IsTokenOfText text.now token.now }
     requires string { token.now.kind ≡ kinds.Text }
-    ensures { let x = lexeme text.now token.now in Gives result (Running.import_step public x x.means) }
+    ensures { let x = lexeme text.now token.now in IsResultOf result (StatementReading.advance_import public x x.means) }
 {
     let path = string_value(alloc, bytes_of(text, token))?;
     let span = span_of(token);
-    more(State::Imported(Import { path, public, span }))
+    more(StatementState::Imported(Import { path, public, span }))
 }
 
 // Reads a token after `import` or `import public`.
-fn import_step(alloc: Global, text: &[u8], public: bool, token: &Token) -> Result<Step, ProtoFault>
-    requires { Lies text.now token.now }
-    ensures { let x = lexeme text.now token.now in Gives result (Running.import_step public x x.means) }
+fn advance_import(
+    alloc: Global,
+    text: &[u8],
+    public: bool,
+    token: &Token,
+) -> Result<StatementStep, ProtoFault>
+    requires { IsTokenOfText text.now token.now }
+    ensures { let x = lexeme text.now token.now in IsResultOf result (StatementReading.advance_import public x x.means) }
 {
     match token.kind {
-        Kind::Text => imported(alloc, text, public, token),
-        Kind::End | Kind::Bad | Kind::Mark(b':' | b'/') => Err(unexpected(token)),
+        TokenKind::Text => imported(alloc, text, public, token),
+        TokenKind::End | TokenKind::Bad | TokenKind::Mark(b':' | b'/') => Err(unexpected(token)),
         _ if public => Err(unexpected(token)),
-        _ if is_word(text, token, b"public") => more(State::Import(true)),
-        _ => Err(fault_at(ProtoReason::Import, span_of(token))),
+        _ if is_word(text, token, b"public") => more(StatementState::Import(true)),
+        _ => Err(proto_fault_at(ProtoReason::Import, span_of(token))),
     }
 }
 
 // Reads the end of an import.
-fn import_ends(import: Import, token: &Token) -> Result<Step, ProtoFault>
-    ensures { (text : List ℕ) → Gives result (Running.ended (said.Import import) (lexeme text token.now)) }
+fn import_ends(import: Import, token: &Token) -> Result<StatementStep, ProtoFault>
+    ensures { (text : List ℕ) → IsResultOf result (StatementReading.end_statement (said.Import import) (lexeme text token.now)) }
 {
     end(token)?;
-    Ok(Step::Done(Said::Import(import)))
+    Ok(StatementStep::Done(StatementEffect::Import(import)))
 }
 
-fn of_option(text: &[u8], option: OptionState, token: &Token) -> Result<Step, ProtoFault>
-    requires lies { Lies text.now token.now }
+fn of_option(text: &[u8], option: OptionState, token: &Token) -> Result<StatementStep, ProtoFault>
+    requires lies { IsTokenOfText text.now token.now }
     requires depth { option_depth option < 2 ^ 63 }
-    ensures { let x = lexeme text.now token.now in Gives result (Running.of_options x (option_reading option x)) }
+    ensures { let x = lexeme text.now token.now in IsResultOf result (StatementReading.of_options x (option_reading option x)) }
 {
-    match option_step(text, option, token)? {
-        OptionStep::More(option) => more(State::Option(option)),
+    match advance_option(text, option, token)? {
+        OptionStep::More(option) => more(StatementState::Option(option)),
         OptionStep::Whole(_) => {
             end(token)?;
-            Ok(Step::Done(Said::Nothing))
+            Ok(StatementStep::Done(StatementEffect::Nothing))
         }
     }
 }
 
-fn opening_step(
+fn advance_opening(
     alloc: Global,
     text: &[u8],
     opening: Opening,
     token: &Token,
-) -> Result<Step, ProtoFault>
-    requires { Lies text.now token.now }
+) -> Result<StatementStep, ProtoFault>
+    requires { IsTokenOfText text.now token.now }
     ensures { let x = lexeme text.now token.now in
-        Gives result (if_name x (λ n. steps.More (states.Opened opening (word_at n x.span)))) }
+        IsResultOf result (if_name x (λ n. steps.More (states.Opened opening (make_word n x.span)))) }
 {
     let name = identifier_of(alloc, text, token)?;
-    more(State::Opened(opening, name))
+    more(StatementState::Opened(opening, name))
 }
 
-fn opened_step(opening: Opening, name: Word, token: &Token) -> Result<Step, ProtoFault>
+fn advance_opened(opening: Opening, name: Word, token: &Token) -> Result<StatementStep, ProtoFault>
     ensures { (text : List ℕ) → let x = lexeme text token.now in
-        Gives result (if is_the_mark x.means opening_brace then Running.done (said.Open opening name) else wrong x) }
+        IsResultOf result (if is_the_mark x.means opening_brace then StatementReading.done (said.Open opening name) else wrong x) }
 {
-    if is_mark(token, b'{') {
-        Ok(Step::Done(Said::Open(opening, name)))
+    if is_punctuator(token, b'{') {
+        Ok(StatementStep::Done(StatementEffect::Open(opening, name)))
     } else {
         Err(unexpected(token))
     }
@@ -425,62 +443,67 @@ fn of_reserved(
     text: &[u8],
     state: ReservedState,
     token: &Token,
-) -> Result<Step, ProtoFault>
-    requires { Lies text.now token.now }
-    ensures { Gives result (Running.of_reserved (reserved_reading state (lexeme text.now token.now))) }
+) -> Result<StatementStep, ProtoFault>
+    requires { IsTokenOfText text.now token.now }
+    ensures { IsResultOf result (StatementReading.of_reserved (reserved_reading state (lexeme text.now token.now))) }
 {
-    match reserved_step(alloc, text, state, token)? {
-        ReservedStep::More(state) => more(State::Reserved(state)),
-        ReservedStep::Ranges(ranges) => Ok(Step::Done(Said::Ranges(ranges))),
-        ReservedStep::Names(names) => Ok(Step::Done(Said::Names(names))),
+    match advance_reserved(alloc, text, state, token)? {
+        ReservedStep::More(state) => more(StatementState::Reserved(state)),
+        ReservedStep::Ranges(ranges) => Ok(StatementStep::Done(StatementEffect::Ranges(ranges))),
+        ReservedStep::Names(names) => Ok(StatementStep::Done(StatementEffect::Names(names))),
     }
 }
 
-fn of_value(text: &[u8], value: ValueState, token: &Token) -> Result<Step, ProtoFault>
-    requires lies { Lies text.now token.now }
+fn of_value(text: &[u8], value: ValueState, token: &Token) -> Result<StatementStep, ProtoFault>
+    requires lies { IsTokenOfText text.now token.now }
     requires depth { value_depth value < 2 ^ 63 }
-    ensures { Gives result (Running.of_value (value_reading value (lexeme text.now token.now))) }
+    ensures { IsResultOf result (StatementReading.of_value (value_reading value (lexeme text.now token.now))) }
 {
-    match value_step(text, value, token)? {
-        ValueStep::More(value) => more(State::Value(value)),
-        ValueStep::Done(value) => Ok(Step::Done(Said::Value(value))),
+    match advance_value(text, value, token)? {
+        ValueStep::More(value) => more(StatementState::Value(value)),
+        ValueStep::Done(value) => Ok(StatementStep::Done(StatementEffect::Value(value))),
     }
 }
 
-fn of_rpc(alloc: Global, text: &[u8], rpc: RpcState, token: &Token) -> Result<Step, ProtoFault>
-    requires { Lies text.now token.now }
-    ensures { Gives result (Running.of_rpc (rpc_reading rpc (lexeme text.now token.now))) }
+fn of_rpc(
+    alloc: Global,
+    text: &[u8],
+    rpc: RpcState,
+    token: &Token,
+) -> Result<StatementStep, ProtoFault>
+    requires { IsTokenOfText text.now token.now }
+    ensures { IsResultOf result (StatementReading.of_rpc (rpc_reading rpc (lexeme text.now token.now))) }
 {
-    match rpc_step(alloc, text, rpc, token)? {
-        RpcStep::More(rpc) => more(State::Rpc(rpc)),
-        RpcStep::Done(rpc, block) => Ok(Step::Done(Said::Rpc(rpc, block))),
+    match advance_rpc(alloc, text, rpc, token)? {
+        RpcStep::More(rpc) => more(StatementState::Rpc(rpc)),
+        RpcStep::Done(rpc, block) => Ok(StatementStep::Done(StatementEffect::Rpc(rpc, block))),
     }
 }
 
 // Reads one token of a statement in this place.
-#[tactic(auto, unfolding(crate::specs::Running::statement_step))]
-pub(crate) fn statement_step(
+#[tactic(auto, unfolding(crate::specs::StatementReading::advance_statement))]
+pub(crate) fn advance_statement(
     alloc: Global,
     text: &[u8],
-    place: Place,
-    state: State,
+    place: StatementPlace,
+    state: StatementState,
     token: &Token,
-) -> Result<Step, ProtoFault>
-    requires lies { Lies text.now token.now }
-    requires depth { Running.depth state < 2 ^ 63 }
-    ensures { Gives result (Running.statement_step place state (lexeme text.now token.now)) }
+) -> Result<StatementStep, ProtoFault>
+    requires lies { IsTokenOfText text.now token.now }
+    requires depth { StatementReading.depth state < 2 ^ 63 }
+    ensures { IsResultOf result (StatementReading.advance_statement place state (lexeme text.now token.now)) }
 {
     match state {
-        State::Begin => begins(alloc, text, place, token),
-        State::Package(name) => of_package(alloc, text, name, token),
-        State::Import(public) => import_step(alloc, text, public, token),
-        State::Imported(import) => import_ends(import, token),
-        State::Option(option) => of_option(text, option, token),
-        State::Opening(opening) => opening_step(alloc, text, opening, token),
-        State::Opened(opening, name) => opened_step(opening, name, token),
-        State::Field(field) => of_field(alloc, text, field, token),
-        State::Reserved(state) => of_reserved(alloc, text, state, token),
-        State::Value(value) => of_value(text, value, token),
-        State::Rpc(rpc) => of_rpc(alloc, text, rpc, token),
+        StatementState::Begin => advance_first_token(alloc, text, place, token),
+        StatementState::Package(name) => of_package(alloc, text, name, token),
+        StatementState::Import(public) => advance_import(alloc, text, public, token),
+        StatementState::Imported(import) => import_ends(import, token),
+        StatementState::Option(option) => of_option(text, option, token),
+        StatementState::Opening(opening) => advance_opening(alloc, text, opening, token),
+        StatementState::Opened(opening, name) => advance_opened(opening, name, token),
+        StatementState::Field(field) => of_field(alloc, text, field, token),
+        StatementState::Reserved(state) => of_reserved(alloc, text, state, token),
+        StatementState::Value(value) => of_value(text, value, token),
+        StatementState::Rpc(rpc) => of_rpc(alloc, text, rpc, token),
     }
 }

@@ -14,8 +14,8 @@ use Rattle.proto_ast.specs.declared.file.EnumDecl.{EnumDecl}
 use Rattle.proto_ast.specs.declared.file.RpcDecl.{RpcDecl}
 use Rattle.proto_ast.specs.declared.file.ServiceDecl.{ServiceDecl}
 use Rattle.proto_ast.specs.Joined.{alone}
-use Rattle.proto_set.specs.declared.part.Part.{Part}
-use Rattle.proto_set.specs.Joining.{nothing, joined}
+use Rattle.proto_set.specs.declared.linked_file.LinkedFile.{LinkedFile}
+use Rattle.proto_set.specs.Joining.{before_first_file, joined}
 use Rattle.proto_set.specs.Shifted.{shift_span, shift_word, shift_number, shift_range, shift_type, shift_field}
 use Rattle.proto_set.specs.Shifted.{shift_value, shift_rpc, shift_parent, shift_message, shift_enum, shift_service}
 
@@ -91,7 +91,7 @@ enum_of name file parent values ranges names = record {
 abbrev service_of : Word → ℕ → List RpcDecl → ServiceDecl
 service_of name file rpcs = record { name = name; file = file; rpcs = rpcs }
 
-parent_same : (o : Option ℕ) → shift_parent nothing o ≡ o
+parent_same : (o : Option ℕ) → shift_parent before_first_file o ≡ o
 parent_same o = option_same (λ i. 0 + i) none_before o
 
 words_same : (ws : List Word) → map (shift_word 0) ws ≡ ws
@@ -100,9 +100,9 @@ words_same ws = map_same (shift_word 0) word_same ws
 ranges_same : (rs : List Range) → map (shift_range 0) rs ≡ rs
 ranges_same rs = map_same (shift_range 0) range_same rs
 
-message_same : (m : MessageDecl) → m.file ≡ 0 → shift_message nothing m ≡ m
+message_same : (m : MessageDecl) → m.file ≡ 0 → shift_message before_first_file m ≡ m
 message_same m e =
-    let parent = shift_parent nothing m.parent in
+    let parent = shift_parent before_first_file m.parent in
     let fields = map (shift_field 0) m.fields in
     let oneofs = map (shift_word 0) m.oneofs in
     let ranges = map (shift_range 0) m.ranges in
@@ -115,9 +115,9 @@ message_same m e =
     ∙ ap (λ l. message_of m.name m.file m.parent m.fields m.oneofs l names) (ranges_same m.ranges)
     ∙ ap (λ l. message_of m.name m.file m.parent m.fields m.oneofs m.ranges l) (words_same m.names)
 
-enum_same : (m : EnumDecl) → m.file ≡ 0 → shift_enum nothing m ≡ m
+enum_same : (m : EnumDecl) → m.file ≡ 0 → shift_enum before_first_file m ≡ m
 enum_same m e =
-    let parent = shift_parent nothing m.parent in
+    let parent = shift_parent before_first_file m.parent in
     let values = map (shift_value 0) m.values in
     let ranges = map (shift_range 0) m.ranges in
     let names = map (shift_word 0) m.names in
@@ -128,7 +128,7 @@ enum_same m e =
     ∙ ap (λ l. enum_of m.name m.file m.parent m.values l names) (ranges_same m.ranges)
     ∙ ap (λ l. enum_of m.name m.file m.parent m.values m.ranges l) (words_same m.names)
 
-service_same : (m : ServiceDecl) → m.file ≡ 0 → shift_service nothing m ≡ m
+service_same : (m : ServiceDecl) → m.file ≡ 0 → shift_service before_first_file m ≡ m
 service_same m e =
     let rpcs = map (shift_rpc 0) m.rpcs in
     ap (λ w. service_of w 0 rpcs) (word_same m.name)
@@ -140,15 +140,15 @@ all_same P f h [] all = refl
 all_same P f h (x ∷ xs) all =
     ap (λ y. y ∷ map f xs) (h x (All-head P x xs all)) ∙ ap (λ l. x ∷ l) (all_same P f h xs (All-tail P x xs all))
 
-pub joined-one : (p : Part) → p.sees ≡ 0 ∷ [] → All (λ (m : MessageDecl). m.file ≡ 0) p.file.messages
+pub joined-one : (p : LinkedFile) → p.sees ≡ 0 ∷ [] → All (λ (m : MessageDecl). m.file ≡ 0) p.file.messages
     → All (λ (e : EnumDecl). e.file ≡ 0) p.file.enums → All (λ (s : ServiceDecl). s.file ≡ 0) p.file.services
     → joined (p ∷ []) ≡ alone p.file
 joined-one p sees of_messages of_enums of_services =
     let heads = option_same (shift_word 0) word_same p.file.package in
-    let messages = append-nil (map (shift_message nothing) p.file.messages)
-    ∙ all_same (λ (m : MessageDecl). m.file ≡ 0) (shift_message nothing) message_same p.file.messages of_messages in
-    let enums = append-nil (map (shift_enum nothing) p.file.enums)
-    ∙ all_same (λ (m : EnumDecl). m.file ≡ 0) (shift_enum nothing) enum_same p.file.enums of_enums in
-    let services = append-nil (map (shift_service nothing) p.file.services)
-    ∙ all_same (λ (m : ServiceDecl). m.file ≡ 0) (shift_service nothing) service_same p.file.services of_services in
+    let messages = append-nil (map (shift_message before_first_file) p.file.messages)
+    ∙ all_same (λ (m : MessageDecl). m.file ≡ 0) (shift_message before_first_file) message_same p.file.messages of_messages in
+    let enums = append-nil (map (shift_enum before_first_file) p.file.enums)
+    ∙ all_same (λ (m : EnumDecl). m.file ≡ 0) (shift_enum before_first_file) enum_same p.file.enums of_enums in
+    let services = append-nil (map (shift_service before_first_file) p.file.services)
+    ∙ all_same (λ (m : ServiceDecl). m.file ≡ 0) (shift_service before_first_file) service_same p.file.services of_services in
     cc

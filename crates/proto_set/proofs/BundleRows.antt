@@ -5,10 +5,10 @@ use Rattle.std.specs.List.{list_all}
 use Rattle.std.proofs.lemmas.List.Elements.{All-nil, All-cons, All-replicate}
 use Rattle.std.proofs.lemmas.List.{append-nil}
 use Rattle.mrpc_table.specs.Lines.{number_of}
-use Rattle.proto_set.specs.Bundle.{File, paths_of, decimal_word, first_line, header_line, bundle_text, IsWord, IsBundle, whole_line, no_line_feed, Spells}
+use Rattle.proto_set.specs.Bundle.{BundledFile, paths_of, decimal_word, bundle_first_line, header_line, bundle_text, IsPathWord, IsBundle, whole_line, no_line_feed, IsBundleOf}
 use Rattle.proto_set.specs.BundleFaults
-use Rattle.proto_set.specs.BundleFaults.{HasNoHeader, HasTooFew, no_file, too_many, no_header, too_few, IsBundleFault, breaks_off}
-use Rattle.proto_set.specs.Paths.{IsPath, HaveRightPaths, IsFirstRefused, no_path, second, is_path_byte}
+use Rattle.proto_set.specs.BundleFaults.{HasNoHeader, HasTooFewBytes, no_file, too_many, no_header, too_few, IsBundleFault, breaks_off}
+use Rattle.proto_set.specs.Paths.{IsPath, HaveValidPaths, IsFirstRejected, no_path, second, is_path_byte}
 use Rattle.proto_set.proofs.Cuts.{Lacks, IsCut}
 use Rattle.proto_set.proofs.Decimals.{decimal_word-from}
 use Rattle.proto_set.proofs.Headers.{is_word, none_without_feed, none_without_file, none_without_space, none_without_path, none_without_number}
@@ -33,14 +33,14 @@ digits_of_255 = refl
 a_header : header_line (codes "a") 12 ≡ codes "file a 12\n"
 a_header = refl
 
-abbrev two : List File
+abbrev two : List BundledFile
 two = (codes "a", codes "x") ∷ (codes "b/c", codes "yz") ∷ []
 
 two_text : bundle_text two ≡ codes "mrpc-files 1\nfile a 1\nxfile b/c 2\nyz"
 two_text = refl
 
 -- an empty file
-abbrev empty : File
+abbrev empty : BundledFile
 empty = (codes "a", [])
 
 empty_text : bundle_text (empty ∷ []) ≡ codes "mrpc-files 1\nfile a 0\n"
@@ -57,19 +57,19 @@ unended_bundle = no_line_feed refl
 no_bundle : IsBundle (codes "mrpc-files 10") → ⊥
 no_bundle (whole_line behind e) = not_there behind e
   where
-    not_there : (behind : List ℕ) → codes "mrpc-files 10" ≡ first_line ++ behind → ⊥
+    not_there : (behind : List ℕ) → codes "mrpc-files 10" ≡ bundle_first_line ++ behind → ⊥
     not_there behind e = absurd cc
 no_bundle (no_line_feed e) = absurd cc
 
 -- ---- paths
 
-a_word : IsWord (codes "a")
+a_word : IsPathWord (codes "a")
 a_word = is_word (codes "a") (λ e. cc) ((λ e. omega (arith, e)), tt) ((λ e. omega (arith, e)), tt)
 
-tilde_word : IsWord (codes "~")
+tilde_word : IsPathWord (codes "~")
 tilde_word = is_word (codes "~") (λ e. cc) ((λ e. omega (arith, e)), tt) ((λ e. omega (arith, e)), tt)
 
-bc_word : IsWord (codes "b/c")
+bc_word : IsPathWord (codes "b/c")
 bc_word = is_word (codes "b/c") (λ e. cc)
     ((λ e. omega (arith, e)), ((λ e. omega (arith, e)), ((λ e. omega (arith, e)), tt)))
     ((λ e. omega (arith, e)), ((λ e. omega (arith, e)), ((λ e. omega (arith, e)), tt)))
@@ -97,10 +97,10 @@ nothing p = omega (arith, p.some)
 
 -- ---- sets
 
-two_spelled : Spells (codes "mrpc-files 1\nfile a 1\nxfile b/c 2\nyz") two
+two_spelled : IsBundleOf (codes "mrpc-files 1\nfile a 1\nxfile b/c 2\nyz") two
 two_spelled = record {
   text = refl;
-  words = All-cons IsWord (codes "a") (codes "b/c" ∷ []) a_word (All-cons IsWord (codes "b/c") [] bc_word (All-nil IsWord));
+  words = All-cons IsPathWord (codes "a") (codes "b/c" ∷ []) a_word (All-cons IsPathWord (codes "b/c") [] bc_word (All-nil IsPathWord));
   some = omega arith;
   few = omega arith;
 }
@@ -109,27 +109,27 @@ another : Contains (paths_of ((codes "a", codes "x") ∷ [])) (codes "b/c") → 
 another (zero, within, same) = absurd cc
 another (suc k, within, same) = omega (arith, within)
 
-two_right : HaveRightPaths two
+two_right : HaveValidPaths two
 two_right =
     right_push ((codes "a", codes "x") ∷ []) (codes "b/c", codes "yz")
     (right_push [] (codes "a", codes "x") right_none a_path (λ c. omega (arith, c.1))) bc_path another
 
-empty_spelled : Spells (codes "mrpc-files 1\nfile a 0\n") (empty ∷ [])
-empty_spelled = record { text = refl; words = All-cons IsWord (codes "a") [] a_word (All-nil IsWord); some = omega arith; few = omega arith }
+empty_spelled : IsBundleOf (codes "mrpc-files 1\nfile a 0\n") (empty ∷ [])
+empty_spelled = record { text = refl; words = All-cons IsPathWord (codes "a") [] a_word (All-nil IsPathWord); some = omega arith; few = omega arith }
 
 -- ---- a file can't be read
 
 -- the input ends after the first line
 nothing_there : IsBundleFault (codes "mrpc-files 1\n") 1
-nothing_there = breaks_off (record { files = []; rest = []; text = refl; words = All-nil IsWord; ends = no_file refl refl; number = refl })
+nothing_there = breaks_off (record { files = []; rest = []; text = refl; words = All-nil IsPathWord; ends = no_file refl refl; number = refl })
 
 -- or before its line feed
 no_feed_there : IsBundleFault (codes "mrpc-files 1") 1
 no_feed_there = BundleFaults.no_line_feed refl refl
 
 -- the first header line is malformed
-first_at_fault : (rest : List ℕ) → rest ≢ [] → HasNoHeader rest → IsBundleFault (first_line ++ rest) 1
-first_at_fault rest some none = breaks_off (record { files = []; rest = rest; text = refl; words = All-nil IsWord; ends = no_header (omega arith) some none; number = refl })
+first_at_fault : (rest : List ℕ) → rest ≢ [] → HasNoHeader rest → IsBundleFault (bundle_first_line ++ rest) 1
+first_at_fault rest some none = breaks_off (record { files = []; rest = rest; text = refl; words = All-nil IsPathWord; ends = no_header (omega arith) some none; number = refl })
 
 lacks_10_in_a : Lacks 10 (codes "file a ")
 lacks_10_in_a = (
@@ -237,13 +237,13 @@ one_more = breaks_off (record {
   files = [];
   rest = codes "file a 2\nx";
   text = refl;
-  words = All-nil IsWord;
+  words = All-nil IsPathWord;
   ends = too_few (omega arith) (record { path = codes "a"; size = 2; behind = codes "x"; word = a_word; text = refl; fewer = omega arith });
   number = refl;
 })
 
 -- a number larger than a word of 64 bits holds
-too_few_of : (digits : List ℕ) (n : ℕ) → number_of digits ≡ Some n → 0 < n → HasTooFew (codes "file a " ++ (digits ++ codes "\n"))
+too_few_of : (digits : List ℕ) (n : ℕ) → number_of digits ≡ Some n → 0 < n → HasTooFewBytes (codes "file a " ++ (digits ++ codes "\n"))
 too_few_of digits n read some = record {
   path = codes "a";
   size = n;
@@ -258,7 +258,7 @@ many_more = breaks_off (record {
   files = [];
   rest = codes "file a 100000000000000000000\n";
   text = refl;
-  words = All-nil IsWord;
+  words = All-nil IsPathWord;
   ends = too_few (omega arith) (too_few_of (codes "100000000000000000000") 100000000000000000000 refl (omega arith));
   number = refl;
 })
@@ -269,7 +269,7 @@ byte_behind = breaks_off (record {
   files = empty ∷ [];
   rest = codes "x";
   text = refl;
-  words = All-cons IsWord (codes "a") [] a_word (All-nil IsWord);
+  words = All-cons IsPathWord (codes "a") [] a_word (All-nil IsPathWord);
   ends = no_header (omega arith) (λ e. cc) (none_without_feed (codes "x") ((λ e. omega (arith, e)), tt));
   number = refl;
 })
@@ -280,17 +280,17 @@ sixty_fifth = breaks_off (record {
   files = replicate 64 empty;
   rest = codes "x";
   text = refl;
-  words = All-replicate IsWord 64 (codes "a") a_word;
+  words = All-replicate IsPathWord 64 (codes "a") a_word;
   ends = too_many refl (λ e. cc);
   number = refl;
 })
 
 -- ---- a path is rejected
 
-first_refused : IsFirstRefused ((codes "~", []) ∷ []) 0
+first_refused : IsFirstRejected ((codes "~", []) ∷ []) 0
 first_refused = record { before = []; file = (codes "~", []); later = []; order = refl; right = right_none; refused = no_path no_tilde; number = refl }
 
-same_twice : IsFirstRefused (empty ∷ empty ∷ []) 1
+same_twice : IsFirstRejected (empty ∷ empty ∷ []) 1
 same_twice = record {
   before = empty ∷ [];
   file = empty;
@@ -302,5 +302,5 @@ same_twice = record {
 }
 
 -- a path of another form is read
-tilde_spelled : Spells (codes "mrpc-files 1\nfile ~ 0\n") ((codes "~", []) ∷ [])
-tilde_spelled = record { text = refl; words = All-cons IsWord (codes "~") [] tilde_word (All-nil IsWord); some = omega arith; few = omega arith }
+tilde_spelled : IsBundleOf (codes "mrpc-files 1\nfile ~ 0\n") ((codes "~", []) ∷ [])
+tilde_spelled = record { text = refl; words = All-cons IsPathWord (codes "~") [] tilde_word (All-nil IsPathWord); some = omega arith; few = omega arith }

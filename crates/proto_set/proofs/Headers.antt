@@ -9,9 +9,9 @@ use Rattle.std.proofs.lemmas.List.Elements.{recursion_from_All, All-from_recursi
 use Rattle.std.proofs.lemmas.Slice.Eq.{starts_is}
 use Rattle.mrpc_table.specs.Lines.{number_of, in_64_bits}
 use Rattle.mrpc_table.specs.declared.words.Decimal.{Decimal}
-use Rattle.proto_set.specs.Bundle.{decimal_word, header_line, IsWord}
+use Rattle.proto_set.specs.Bundle.{decimal_word, header_line, IsPathWord}
 use Rattle.proto_set.specs.BundleFaults.{HasNoHeader}
-use Rattle.proto_set.specs.Parts.{HasHeader}
+use Rattle.proto_set.specs.ReaderParts.{HasHeader}
 use Rattle.proto_set.proofs.Cuts.{Lacks, Lacks-append, cut_once, cut_nowhere, IsCut, cut_or_not}
 use Rattle.proto_set.proofs.Decimals.{number_of-decimal_word, decimal_word-from, decimal_word-once, decimal_word-lacks}
 
@@ -21,14 +21,14 @@ word_lacks_by : (word : List ℕ) → AllByRecursion (λ c. (c ≢ 32) × (c ≢
 word_lacks_by [] h = (tt, tt)
 word_lacks_by (c ∷ cs) h = let rest = word_lacks_by cs h.1 in ((h.0.0, rest.0), (h.0.1, rest.1))
 
-pub word_lacks : (word : List ℕ) → IsWord word → Lacks 32 word × Lacks 10 word
+pub word_lacks : (word : List ℕ) → IsPathWord word → Lacks 32 word × Lacks 10 word
 word_lacks word w = word_lacks_by word (recursion_from_All (λ c. (c ≢ 32) × (c ≢ 10)) word w.bytes)
 
 both_lacks : (word : List ℕ) → Lacks 32 word → Lacks 10 word → AllByRecursion (λ c. (c ≢ 32) × (c ≢ 10)) word
 both_lacks [] h k = tt
 both_lacks (c ∷ cs) h k = ((h.0, k.0), both_lacks cs h.1 k.1)
 
-pub is_word : (word : List ℕ) → word ≢ [] → Lacks 32 word → Lacks 10 word → IsWord word
+pub is_word : (word : List ℕ) → word ≢ [] → Lacks 32 word → Lacks 10 word → IsPathWord word
 is_word word some h k = record { some = some; bytes = All-from_recursion (λ c. (c ≢ 32) × (c ≢ 10)) word (both_lacks word h k) }
 
 -- the line after `file `, without its line feed
@@ -38,10 +38,10 @@ words path size = path ++ 32 ∷ decimal_word size
 pub header_line-behind : (path : List ℕ) (size : ℕ) (rest : List ℕ) → header_line path size ++ rest ≡ (codes "file " ++ words path size) ++ 10 ∷ rest
 header_line-behind path size rest = append_assoc (codes "file " ++ words path size) (10 ∷ []) rest
 
-words_lack : (path : List ℕ) (size : ℕ) → IsWord path → Lacks 10 (words path size)
+words_lack : (path : List ℕ) (size : ℕ) → IsPathWord path → Lacks 10 (words path size)
 words_lack path size w = Lacks-append 10 path (32 ∷ decimal_word size) (word_lacks path w).1 ((λ e. omega (arith, e)), decimal_word-lacks 10 size refl)
 
-line_lacks : (path : List ℕ) (size : ℕ) → IsWord path → Lacks 10 (codes "file " ++ words path size)
+line_lacks : (path : List ℕ) (size : ℕ) → IsPathWord path → Lacks 10 (codes "file " ++ words path size)
 line_lacks path size w = Lacks-append 10 (codes "file ") (words path size) (
   (λ e. omega (arith, e)),
   ((λ e. omega (arith, e)), ((λ e. omega (arith, e)), ((λ e. omega (arith, e)), ((λ e. omega (arith, e)), tt)))),
@@ -49,7 +49,7 @@ line_lacks path size w = Lacks-append 10 (codes "file ") (words path size) (
     (words_lack path size w)
 
 -- bytes start with at most one header line
-pub header_once : (path other : List ℕ) (size count : ℕ) (rest more : List ℕ) → IsWord path → IsWord other
+pub header_once : (path other : List ℕ) (size count : ℕ) (rest more : List ℕ) → IsPathWord path → IsPathWord other
     → header_line path size ++ rest ≡ header_line other count ++ more → (path ≡ other) × (size ≡ count) × (rest ≡ more)
 header_once path other size count rest more w v e =
     let lines = cut_once 10 (codes "file " ++ words path size) (codes "file " ++ words other count) rest more (line_lacks path size w) (line_lacks other count v)
@@ -61,7 +61,7 @@ header_once path other size count rest more w v e =
 -- ---- from the parts of bytes to a header line
 
 -- what a header line implies for the first line of the bytes
-pub first_line_is : (bytes line behind path : List ℕ) (size : ℕ) (rest : List ℕ) → IsCut 10 bytes line behind → IsWord path
+pub first_line_is : (bytes line behind path : List ℕ) (size : ℕ) (rest : List ℕ) → IsCut 10 bytes line behind → IsPathWord path
     → bytes ≡ header_line path size ++ rest → line ≡ codes "file " ++ words path size
 first_line_is bytes line behind path size rest k w e =
     (cut_once 10 line (codes "file " ++ words path size) behind rest k.lacks (line_lacks path size w) (sym k.text_is ∙ e ∙ header_line-behind path size rest)).0
@@ -78,20 +78,20 @@ keep_lacks : (c : ℕ) (front rest : List ℕ) → Lacks c (front ++ rest) → L
 keep_lacks c [] rest h = tt
 keep_lacks c (x ∷ front) rest h = (h.0, keep_lacks c front rest h.1)
 
-pub words_are : (bytes line behind found path : List ℕ) (size : ℕ) (rest : List ℕ) → IsCut 10 bytes line behind → line ≡ codes "file " ++ found → IsWord path
+pub words_are : (bytes line behind found path : List ℕ) (size : ℕ) (rest : List ℕ) → IsCut 10 bytes line behind → line ≡ codes "file " ++ found → IsPathWord path
     → bytes ≡ header_line path size ++ rest → found ≡ words path size
 words_are bytes line behind found path size rest k is w e =
     let same : codes "file " ++ found ≡ codes "file " ++ words path size = sym is ∙ first_line_is bytes line behind path size rest k w e in
     cc (same)
 
 -- the words, and so the path and its size
-pub path_is : (found word digits path : List ℕ) (size : ℕ) → IsCut 32 found word digits → IsWord path
+pub path_is : (found word digits path : List ℕ) (size : ℕ) → IsCut 32 found word digits → IsPathWord path
     → found ≡ words path size → (word ≡ path) × (digits ≡ decimal_word size)
 path_is found word digits path size k w e = cut_once 32 word path digits (decimal_word size) k.lacks (word_lacks path w).0 (sym k.text_is ∙ e)
 
 pub header_from : (bytes line behind found word digits : List ℕ) (size : ℕ) → IsCut 10 bytes line behind
     → line ≡ codes "file " ++ found → IsCut 32 found word digits → word ≢ []
-    → number_of digits ≡ Some size → IsWord word × (bytes ≡ header_line word size ++ behind)
+    → number_of digits ≡ Some size → IsPathWord word × (bytes ≡ header_line word size ++ behind)
 header_from bytes line behind found word digits size k is j some number =
     let digits_are : digits ≡ decimal_word size = decimal_word-from digits size number in
     let found_is : found ≡ words word size = j.text_is ∙ ap (λ (d : List ℕ). word ++ 32 ∷ d) digits_are in
@@ -131,7 +131,7 @@ pub record Header (bytes : List ℕ) : Type 0 where
   pub path : List ℕ
   pub size : ℕ
   pub behind : List ℕ
-  pub word : IsWord path
+  pub word : IsPathWord path
   pub text : bytes ≡ header_line path size ++ behind
 
 number_or_none : (digits : List ℕ) (o : Option ℕ) → number_of digits ≡ o → ((size : ℕ) × (number_of digits ≡ Some size)) ⊎ (number_of digits ≡ None)

@@ -11,7 +11,7 @@ use Rattle.proto_ast.specs.declared.file.File.{File}
 use Rattle.proto_ast.specs.declared.file.FieldType.TheVariants.{Named, Map}
 use Rattle.proto_ast.specs.declared.file.FieldLabel.TheVariants.{Plain, Repeated}
 use Rattle.mrpc_table.specs.declared.words.Decimal.TheVariants.{Small}
-use Rattle.proto_set.specs.declared.part.Part.{Part}
+use Rattle.proto_set.specs.declared.linked_file.LinkedFile.{LinkedFile}
 use Rattle.proto_set.specs.Joining.{joined}
 use Rattle.proto_set.specs.Texts.{IsInTextOf}
 
@@ -106,7 +106,7 @@ second = record {
   } ∷ [];
 }
 
-abbrev both : List Part
+abbrev both : List LinkedFile
 both = record { file = first; sees = 0 ∷ []; size = 40 } ∷ record { file = second; sees = 1 ∷ 0 ∷ []; size = 70 } ∷ []
 
 -- ---- the joined files

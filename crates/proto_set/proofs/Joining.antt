@@ -16,12 +16,12 @@ use Rattle.std.proofs.lemmas.List.{get_or-map, length-map, map_push, take_all, t
 use Rattle.std.proofs.lemmas.List.Elements.{All-push, Contains-append_left, Contains-push, Contains-push_cases}
 use Rattle.std.proofs.lemmas.List.Sorted.{IsPermutation-map, IsPermutation-sym, All-permutation, Contains-permutation}
 use Rattle.mrpc_table.specs.Valid.{IsBelow}
-use Rattle.proto_set.specs.Leading.{HasPath, Reaches, here}
-use Rattle.proto_set.specs.Reaching.{IsPathBelow, IsJoined, AreOthers, places_in}
-use Rattle.proto_set.specs.Walking.{AreReached}
-use Rattle.proto_set.specs.declared.set.Member.{Member}
-use Rattle.proto_set.specs.declared.walk.Mark.{Mark}
-use Rattle.proto_set.specs.declared.walk.Mark.TheVariants.{Left}
+use Rattle.proto_set.specs.Importing.{HasPath, IsReachable, here}
+use Rattle.proto_set.specs.Reaching.{IsPathBelow, IsResolutionOrder, AreOthers, places_in}
+use Rattle.proto_set.specs.Traversing.{AreReached}
+use Rattle.proto_set.specs.declared.set.ParsedFile.{ParsedFile}
+use Rattle.proto_set.specs.declared.traversal.VisitState.{VisitState}
+use Rattle.proto_set.specs.declared.traversal.VisitState.TheVariants.{Left}
 use Rattle.proto_set.proofs.Visited.{ArePathsApart, cons_here, cons_more, cons_cases}
 use Rattle.proto_set.proofs.Placing.{path_of}
 use Rattle.proto_set.proofs.Walked.{Once, once_push}
@@ -33,17 +33,17 @@ Pair = Bor (List ℕ) × ℕ
 abbrev pub place_of : Pair → ℕ
 place_of p = p.1
 
-abbrev pub AreNamed : List Member → List Pair → Type 0
+abbrev pub AreNamed : List ParsedFile → List Pair → Type 0
 AreNamed set pairs = All (λ (p : Pair). HasPath set p.1 p.0.now) pairs
 
 -- the finished files before index i, except the root
-pub record OthersBefore (set : List Member) (marks : List Mark) (i : ℕ) (pairs : List Pair) : Type 0 where
+pub record OthersBefore (set : List ParsedFile) (marks : List VisitState) (i : ℕ) (pairs : List Pair) : Type 0 where
   pub named : AreNamed set pairs
   pub those : (k : ℕ) → (Contains (places_in pairs) k → (k ≢ 0) × (k < i) × (slice_get marks k ≡ Some Left))
       × ((k ≢ 0) × (k < i) × (slice_get marks k ≡ Some Left) → Contains (places_in pairs) k)
   pub once : Once (places_in pairs)
 
-pub others_none : (set : List Member) (marks : List Mark) (pairs : List Pair) → pairs ≡ [] → OthersBefore set marks 1 pairs
+pub others_none : (set : List ParsedFile) (marks : List VisitState) (pairs : List Pair) → pairs ≡ [] → OthersBefore set marks 1 pairs
 others_none set marks pairs e = subst (OthersBefore set marks 1) (sym e) (record {
   named = λ k d l. absurd (omega arith);
   those = λ k. (
@@ -53,7 +53,7 @@ others_none set marks pairs e = subst (OthersBefore set marks 1) (sym e) (record
   once = λ p q x a b. absurd cc;
 })
 
-pub others_more : (set : List Member) (marks : List Mark) (i : ℕ) (d : Member) (path : Bor (List ℕ))
+pub others_more : (set : List ParsedFile) (marks : List VisitState) (i : ℕ) (d : ParsedFile) (path : Bor (List ℕ))
     (old new : List Pair) → i < length set → 1 ≤ i → slice_get marks i ≡ Some Left → path.now ≡ (get_or set i d).path
     → new ≡ old ++ (path, i) ∷ [] → OthersBefore set marks i old → OthersBefore set marks (i + 1) new
 others_more set marks i d path old new l some left is e h =
@@ -81,7 +81,7 @@ others_more set marks i d path old new l some left is e h =
           (once_push (places_in old) i (λ c. (let p = (h.those i).0 c in omega (arith, p.1))) h.once);
     })
 
-pub others_skip : (set : List Member) (marks : List Mark) (i : ℕ) (old new : List Pair)
+pub others_skip : (set : List ParsedFile) (marks : List VisitState) (i : ℕ) (old new : List Pair)
     → (slice_get marks i ≡ Some Left → ⊥) → new ≡ old → OthersBefore set marks i old
     → OthersBefore set marks (i + 1) new
 others_skip set marks i old new other e h = subst (OthersBefore set marks (i + 1)) (sym e) (record {
@@ -101,7 +101,7 @@ others_skip set marks i old new other e h = subst (OthersBefore set marks (i + 1
 abbrev pub pair_cmp : Pair → Pair → Ordering
 pair_cmp p q = ordering_then (slice_cmp nat_cmp p.0.now q.0.now) (nat_cmp p.1 q.1)
 
-sorted_step : (set : List Member) (sorted : List Pair) → ArePathsApart set → AreNamed set sorted
+sorted_step : (set : List ParsedFile) (sorted : List Pair) → ArePathsApart set → AreNamed set sorted
     → AreApart (places_in sorted) → IsSorted pair_cmp sorted → (k d : ℕ) → suc k < length sorted
     → IsPathBelow set (get_or (places_in sorted) k d) (get_or (places_in sorted) (suc k) d)
 sorted_step set sorted own named apart ascends k d m =
@@ -127,7 +127,7 @@ sorted_step set sorted own named apart ascends k d m =
     let pair : IsPathBelow set x.0.1 y.0.1 = record { lower = x.0.0.now; upper = y.0.0.now; lower_at = xn; upper_at = yn; below = below } in
     subst (λ (i : ℕ). IsPathBelow set i (get_or (places_in sorted) (suc k) d)) (sym xi) (subst (IsPathBelow set x.0.1) (sym yi) pair)
 
-pub others_sorted : (set : List Member) (marks : List Mark) (n : ℕ) (pairs sorted : List Pair) → ArePathsApart set
+pub others_sorted : (set : List ParsedFile) (marks : List VisitState) (n : ℕ) (pairs sorted : List Pair) → ArePathsApart set
     → length marks ≤ n → OthersBefore set marks n pairs → IsPermutation pairs sorted → IsSorted pair_cmp sorted
     → AreOthers set marks sorted
 others_sorted set marks n pairs sorted own all h moved ascends =
@@ -156,18 +156,18 @@ order_more pairs i d old new l was e =
     ∙ ap (λ (k : ℕ). 0 ∷ (take i (places_in pairs) ++ k ∷ [])) (sym (get_or-map place_of pairs i d 0 l))
     ∙ ap (λ (ks : List ℕ). 0 ∷ ks) (sym (take_more (places_in pairs) i 0 within))
 
-pub joined_is : (set : List Member) (marks : List Mark) (pairs : List Pair) (i : ℕ) (order : List ℕ)
+pub joined_is : (set : List ParsedFile) (marks : List VisitState) (pairs : List Pair) (i : ℕ) (order : List ℕ)
     → length pairs ≤ i → order ≡ 0 ∷ take i (places_in pairs) → AreOthers set marks pairs → AreReached set marks
-    → IsJoined set order
+    → IsResolutionOrder set order
 joined_is set marks pairs i order all e h reached =
     let is : order ≡ 0 ∷ places_in pairs = e ∙ ap (λ (ks : List ℕ). 0 ∷ ks) (take_all i (places_in pairs) (omega (arith, length-map pairs place_of))) in
-    subst (IsJoined set) (sym is) (record {
+    subst (IsResolutionOrder set) (sym is) (record {
       others = places_in pairs;
       root_first = refl;
       ascend = h.ascend;
       reached = λ j. (
         λ c. elim (cons_cases 0 (places_in pairs) j c) [
-          | inl root ↦ subst (Reaches set 0) root here
+          | inl root ↦ subst (IsReachable set 0) root here
           | inr other ↦ (reached.those j).0 ((h.those j).0 other).1
         ],
         λ r. elim (cases_eq j 0) [

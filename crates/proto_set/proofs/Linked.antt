@@ -6,12 +6,12 @@ use Rattle.std.proofs.lemmas.Bool.{cases_lt}
 use Rattle.std.proofs.lemmas.List.{length_push}
 use Rattle.std.proofs.lemmas.Option.{slice_get_within, same_Some}
 use Rattle.proto_ast.specs.declared.file.Import.{Import}
-use Rattle.proto_set.specs.Leading.{HasImport, HasPath, Leads, LeadsPublicly}
-use Rattle.proto_set.specs.ImportFaults.{IsFault, twice}
-use Rattle.proto_set.specs.Linking.{IsFreeAt, IsLink, AreLinks, KeepsLinks, AllLead}
+use Rattle.proto_set.specs.Importing.{HasImport, HasPath, IsImport, IsPublicImport}
+use Rattle.proto_set.specs.ImportFaults.{IsImportFault, twice}
+use Rattle.proto_set.specs.Linking.{HasNoFaultOfAt, IsLink, AreLinks, AreLinksOfSet, AllResolve}
 use Rattle.proto_set.specs.Seeing.{IsLinked}
-use Rattle.proto_set.specs.declared.set.Member.{Member}
-use Rattle.proto_set.specs.declared.links.Link.{Link}
+use Rattle.proto_set.specs.declared.set.ParsedFile.{ParsedFile}
+use Rattle.proto_set.specs.declared.links.ImportLink.{ImportLink}
 use Rattle.proto_set.specs.declared.import_fault.ImportReason.TheVariants.{Twice}
 use Rattle.proto_set.proofs.Visited.{ArePathsApart, import_one, leads_one}
 use Rattle.proto_set.proofs.Judging.{AreImports, import_within, FreeBefore, free_more, twice_parts, free_all}
@@ -57,12 +57,12 @@ get_cases i n l = elim (cases_lt i n) [ inl old ↦ inl old | inr new ↦ inr (o
 -- ---- the links of a file
 
 -- the first n imports of a file
-pub record LinksBefore (set : List Member) (i n : ℕ) (links : List Link) : Type 0 where
+pub record LinksBefore (set : List ParsedFile) (i n : ℕ) (links : List ImportLink) : Type 0 where
   pub count : length links ≡ n
-  pub each : (m : ℕ) (l : Link) → slice_get links m ≡ Some l → IsLink set i m l
+  pub each : (m : ℕ) (l : ImportLink) → slice_get links m ≡ Some l → IsLink set i m l
   pub once : FreeBefore set Twice i n
 
-pub links_none : (set : List Member) (i : ℕ) (links : List Link) → links ≡ [] → LinksBefore set i 0 links
+pub links_none : (set : List ParsedFile) (i : ℕ) (links : List ImportLink) → links ≡ [] → LinksBefore set i 0 links
 links_none set i links e = subst (LinksBefore set i 0) (sym e) (record {
   count = refl;
   each = λ m l at. absurd cc;
@@ -70,22 +70,22 @@ links_none set i links e = subst (LinksBefore set i 0) (sym e) (record {
 })
 
 -- a file has one path
-pub path_same : {set : List Member} {j : ℕ} {p q : List ℕ} → HasPath set j p → HasPath set j q → p ≡ q
+pub path_same : {set : List ParsedFile} {j : ℕ} {p q : List ℕ} → HasPath set j p → HasPath set j q → p ≡ q
 path_same a b =
     let same : a.member ≡ b.member = same_Some a.member b.member (sym a.member_at ∙ b.member_at) in
-    sym a.path_is ∙ ap (λ (m : Member). m.path) same ∙ b.path_is
+    sym a.path_is ∙ ap (λ (m : ParsedFile). m.path) same ∙ b.path_is
 
 -- an import that leads to the file of an earlier one is repeated
-pub linked_twice : (set : List Member) (i n j : ℕ) (x : Import) (links : List Link) → LinksBefore set i n links
-    → HasImport set i n x → HasPath set j x.path → IsLinked links j → IsFault set Twice i n
+pub linked_twice : (set : List ParsedFile) (i n j : ℕ) (x : Import) (links : List ImportLink) → LinksBefore set i n links
+    → HasImport set i n x → HasPath set j x.path → IsLinked links j → IsImportFault set Twice i n
 linked_twice set i n j x links known at has h =
     let link = known.each h.0 h.1 h.2 in
     let there : HasPath set j link.leads.import.path = subst (λ (k : ℕ). HasPath set k link.leads.import.path) h.3 link.leads.path_at in
     twice link.leads.import x (omega (arith, slice_get_within links h.0 h.1 h.2, known.count)) link.leads.import_at at (path_same there has)
 
-pub unlinked_once : (set : List Member) (i n j : ℕ) (x : Import) (links : List Link) → ArePathsApart set
+pub unlinked_once : (set : List ParsedFile) (i n j : ℕ) (x : Import) (links : List ImportLink) → ArePathsApart set
     → LinksBefore set i n links → HasImport set i n x → HasPath set j x.path → (IsLinked links j → ⊥)
-    → IsFault set Twice i n → ⊥
+    → IsImportFault set Twice i n → ⊥
 unlinked_once set i n j x links apart known at has out f =
     let p = twice_parts f in
     let l = some_at links p.k (omega (arith, p.before, known.count)) in
@@ -96,8 +96,8 @@ unlinked_once set i n j x links apart known at has out f =
     let file : l.0.file ≡ j = apart.one (subst (HasPath set l.0.file) path link.leads.path_at) has in
     out (p.k, l.0, l.1, file)
 
-pub links_more : (set : List Member) (i n : ℕ) (x : Import) (l : Link) (old new : List Link) → LinksBefore set i n old
-    → HasImport set i n x → HasPath set l.file x.path → l.public ≡ x.public → (IsFault set Twice i n → ⊥)
+pub links_more : (set : List ParsedFile) (i n : ℕ) (x : Import) (l : ImportLink) (old new : List ImportLink) → LinksBefore set i n old
+    → HasImport set i n x → HasPath set l.file x.path → l.public ≡ x.public → (IsImportFault set Twice i n → ⊥)
     → new ≡ old ++ l ∷ [] → LinksBefore set i (n + 1) new
 links_more set i n x l old new known at has is_public once e = subst (LinksBefore set i (n + 1)) (sym e) (record {
   count = omega (arith, length_push old l, known.count);
@@ -111,33 +111,33 @@ links_more set i n x l old new known at has is_public once e = subst (LinksBefor
   once = free_more set Twice i n known.once once;
 })
 
-pub links_all : (set : List Member) (i n : ℕ) (xs : List Import) (links : List Link) → AreImports set i xs
+pub links_all : (set : List ParsedFile) (i n : ℕ) (xs : List Import) (links : List ImportLink) → AreImports set i xs
     → length xs ≤ n → n ≤ length xs → LinksBefore set i n links → AreLinks set i links
 links_all set i n xs links h least most known = record {
   each = known.each;
   all = λ m x at. omega (arith, slice_get_within xs m x (import_within h at), known.count);
 }
 
-pub once_all : (set : List Member) (i n : ℕ) (xs : List Import) (links : List Link) → AreImports set i xs → length xs ≤ n → LinksBefore set i n links → IsFreeAt set Twice i
+pub once_all : (set : List ParsedFile) (i n : ℕ) (xs : List Import) (links : List ImportLink) → AreImports set i xs → length xs ≤ n → LinksBefore set i n links → HasNoFaultOfAt set Twice i
 once_all set i n xs links h least known =
     free_all set Twice i n xs h least (λ m f. (let p = twice_parts f in (p.import, p.import_at))) known.once
 
 -- ---- the links of each file
 
-pub record KeepsBefore (set : List Member) (n : ℕ) (all : List (List Link)) : Type 0 where
+pub record KeepsBefore (set : List ParsedFile) (n : ℕ) (all : List (List ImportLink)) : Type 0 where
   pub count : length all ≡ n
-  pub each : (i : ℕ) (links : List Link) → slice_get all i ≡ Some links → AreLinks set i links
-  pub once : (i : ℕ) → i < n → IsFreeAt set Twice i
+  pub each : (i : ℕ) (links : List ImportLink) → slice_get all i ≡ Some links → AreLinks set i links
+  pub once : (i : ℕ) → i < n → HasNoFaultOfAt set Twice i
 
-pub keeps_none : (set : List Member) (all : List (List Link)) → all ≡ [] → KeepsBefore set 0 all
+pub keeps_none : (set : List ParsedFile) (all : List (List ImportLink)) → all ≡ [] → KeepsBefore set 0 all
 keeps_none set all e = subst (KeepsBefore set 0) (sym e) (record {
   count = refl;
   each = λ i links at. absurd cc;
   once = λ i l. absurd (omega arith);
 })
 
-pub keeps_more : (set : List Member) (n : ℕ) (links : List Link) (old new : List (List Link)) → KeepsBefore set n old
-    → AreLinks set n links → IsFreeAt set Twice n → new ≡ old ++ links ∷ [] → KeepsBefore set (n + 1) new
+pub keeps_more : (set : List ParsedFile) (n : ℕ) (links : List ImportLink) (old new : List (List ImportLink)) → KeepsBefore set n old
+    → AreLinks set n links → HasNoFaultOfAt set Twice n → new ≡ old ++ links ∷ [] → KeepsBefore set (n + 1) new
 keeps_more set n links old new known here once e = subst (KeepsBefore set (n + 1)) (sym e) (record {
   count = omega (arith, length_push old links, known.count);
   each = λ i ls at. elim (get_push old links ls i at) [
@@ -148,30 +148,30 @@ keeps_more set n links old new known here once e = subst (KeepsBefore set (n + 1
   ];
   once = λ i l. (let more : i < n + 1 = l in elim (get_cases i n more) [
     | inl old ↦ known.once i old
-    | inr new ↦ subst (IsFreeAt set Twice) (sym new) once
+    | inr new ↦ subst (HasNoFaultOfAt set Twice) (sym new) once
   ]);
 })
 
-pub keeps_all : (set : List Member) (n : ℕ) (all : List (List Link)) → n ≡ length set → KeepsBefore set n all → KeepsLinks set all
+pub keeps_all : (set : List ParsedFile) (n : ℕ) (all : List (List ImportLink)) → n ≡ length set → KeepsBefore set n all → AreLinksOfSet set all
 keeps_all set n all e known = record { count = known.count ∙ e; each = known.each }
 
 -- ---- what links imply
 
-pub link_leads : {set : List Member} {i : ℕ} {links : List Link} → AreLinks set i links → (n : ℕ) (l : Link) → slice_get links n ≡ Some l → Leads set i n l.file
+pub link_leads : {set : List ParsedFile} {i : ℕ} {links : List ImportLink} → AreLinks set i links → (n : ℕ) (l : ImportLink) → slice_get links n ≡ Some l → IsImport set i n l.file
 link_leads h n l at = (h.each n l at).leads
 
-pub link_public : {set : List Member} {i : ℕ} {links : List Link} → AreLinks set i links → (n : ℕ) (l : Link)
-    → slice_get links n ≡ Some l → l.public ≡ true → LeadsPublicly set i n l.file
+pub link_public : {set : List ParsedFile} {i : ℕ} {links : List ImportLink} → AreLinks set i links → (n : ℕ) (l : ImportLink)
+    → slice_get links n ≡ Some l → l.public ≡ true → IsPublicImport set i n l.file
 link_public h n l at is = record { leads = (h.each n l at).leads; is_public = sym (h.each n l at).is_public ∙ is }
 
 -- the link of an import
-pub record LinkOf (links : List Link) (n j : ℕ) (is_public : Bool) : Type 0 where
-  pub link : Link
+pub record LinkOf (links : List ImportLink) (n j : ℕ) (is_public : Bool) : Type 0 where
+  pub link : ImportLink
   pub at : slice_get links n ≡ Some link
   pub file : link.file ≡ j
   pub public_is : link.public ≡ is_public
 
-pub link_of : {set : List Member} {i n j : ℕ} {links : List Link} → ArePathsApart set → AreLinks set i links → (l : Leads set i n j) → LinkOf links n j l.import.public
+pub link_of : {set : List ParsedFile} {i n j : ℕ} {links : List ImportLink} → ArePathsApart set → AreLinks set i links → (l : IsImport set i n j) → LinkOf links n j l.import.public
 link_of {set} {i} {n} {j} {links} apart h l =
     let x = some_at links n (h.all n l.import l.import_at) in
     let link = h.each n x.0 x.1 in
@@ -183,11 +183,11 @@ link_of {set} {i} {n} {j} {links} apart h l =
       public_is = link.is_public ∙ ap (λ (y : Import). y.public) same;
     }
 
-pub link_file : {set : List Member} {i n j : ℕ} → Leads set i n j → j < length set
+pub link_file : {set : List ParsedFile} {i n j : ℕ} → IsImport set i n j → j < length set
 link_file {set} {i} {n} {j} l = slice_get_within set j l.path_at.member l.path_at.member_at
 
 -- each import leads to a file
-pub all_lead : {set' : List Member} {all : List (List Link)} → KeepsLinks set' all → AllLead set'
+pub all_lead : {set' : List ParsedFile} {all : List (List ImportLink)} → AreLinksOfSet set' all → AllResolve set'
 all_lead {set'} {all} h i n x at =
     let links = some_at all i (omega (arith, h.count, slice_get_within set' i at.member at.member_at)) in
     let known = h.each i links.0 links.1 in

@@ -18,13 +18,13 @@ use Rattle.proto_ast.specs.declared.file.ValueDecl.{ValueDecl}
 use Rattle.proto_ast.specs.declared.file.EnumDecl.{EnumDecl}
 use Rattle.proto_ast.specs.declared.file.RpcDecl.{RpcDecl}
 use Rattle.proto_ast.specs.declared.file.ServiceDecl.{ServiceDecl}
-use Rattle.proto_ast.specs.Order.{IsPlaceBelow}
-use Rattle.proto_set.specs.declared.part.Part.{Part}
-use Rattle.proto_set.specs.declared.part.Before.{Before}
-use Rattle.proto_set.specs.Joining.{nothing, behind, gathered, heads_of, joined, sizes_of}
-use Rattle.proto_set.specs.Placing.{room_behind, CanPlace, with_file}
+use Rattle.proto_ast.specs.Order.{IsIndexBelow}
+use Rattle.proto_set.specs.declared.linked_file.LinkedFile.{LinkedFile}
+use Rattle.proto_set.specs.declared.linked_file.FileBase.{FileBase}
+use Rattle.proto_set.specs.Joining.{before_first_file, after_file, gathered, heads_of, joined, sizes_of}
+use Rattle.proto_set.specs.Placing.{room_after, CanPlace, joined_with_file}
 use Rattle.proto_set.specs.Shifted.{shift_message, shift_enum, shift_service, shift_head}
-use Rattle.proto_set.specs.Sound.{IsSound}
+use Rattle.proto_set.specs.WellPlaced.{IsWellPlaced}
 use Rattle.proto_ast.specs.Within.{IsSpanWithin, IsWordWithin, IsNumberWithin, IsRangeWithin, IsTypeWithin}
 use Rattle.proto_ast.specs.Within.{IsFieldWithin, IsMessageWithin, IsValueWithin, IsEnumWithin, IsRpcWithin}
 use Rattle.proto_ast.specs.Within.{IsServiceWithin}
@@ -56,36 +56,36 @@ others_more items init i y others =
 -- ---- one more file
 
 -- what precedes the file after these files
-abbrev pub past : Before → List Part → Before
+abbrev pub past : FileBase → List LinkedFile → FileBase
 past b [] = b
-past b (p ∷ ps) = past (behind b p) ps
+past b (p ∷ ps) = past (after_file b p) ps
 
-pub past-push : (b : Before) (ps : List Part) (p : Part) → past b (ps ++ p ∷ []) ≡ behind (past b ps) p
+pub past-push : (b : FileBase) (ps : List LinkedFile) (p : LinkedFile) → past b (ps ++ p ∷ []) ≡ after_file (past b ps) p
 past-push b [] p = refl
-past-push b (q ∷ ps) p = past-push (behind b q) ps p
+past-push b (q ∷ ps) p = past-push (after_file b q) ps p
 
-pub past-files : (b : Before) (ps : List Part) → (past b ps).files ≡ b.files + length ps
+pub past-files : (b : FileBase) (ps : List LinkedFile) → (past b ps).files ≡ b.files + length ps
 past-files b [] = omega arith
-past-files b (p ∷ ps) = omega (arith, past-files (behind b p) ps)
+past-files b (p ∷ ps) = omega (arith, past-files (after_file b p) ps)
 
-pub past-bytes : (b : Before) (ps : List Part) → (past b ps).bytes ≡ b.bytes + sum (sizes_of ps)
+pub past-bytes : (b : FileBase) (ps : List LinkedFile) → (past b ps).bytes ≡ b.bytes + sum (sizes_of ps)
 past-bytes b [] = omega arith
-past-bytes b (p ∷ ps) = omega (arith, past-bytes (behind b p) ps, sum_by-cons (λ x. x) p.size (sizes_of ps))
+past-bytes b (p ∷ ps) = omega (arith, past-bytes (after_file b p) ps, sum_by-cons (λ x. x) p.size (sizes_of ps))
 
-pub gathered-push : {X Y : Type 0} (shift : Before → X → Y) (declares : Part → List X) (b : Before) (ps : List Part) (p : Part)
+pub gathered-push : {X Y : Type 0} (shift : FileBase → X → Y) (declares : LinkedFile → List X) (b : FileBase) (ps : List LinkedFile) (p : LinkedFile)
     → gathered shift declares b (ps ++ p ∷ []) ≡ gathered shift declares b ps ++ map (shift (past b ps)) (declares p)
 gathered-push shift declares b [] p = append-nil (map (shift b) (declares p))
 gathered-push shift declares b (q ∷ ps) p =
-    ap (λ l. map (shift b) (declares q) ++ l) (gathered-push shift declares (behind b q) ps p)
-    ∙ sym (append_assoc (map (shift b) (declares q)) (gathered shift declares (behind b q) ps)
-    (map (shift (past (behind b q) ps)) (declares p)))
+    ap (λ l. map (shift b) (declares q) ++ l) (gathered-push shift declares (after_file b q) ps p)
+    ∙ sym (append_assoc (map (shift b) (declares q)) (gathered shift declares (after_file b q) ps)
+    (map (shift (past (after_file b q) ps)) (declares p)))
 
-pub joined-push : (ps : List Part) (p : Part) → joined (ps ++ p ∷ []) ≡ with_file (joined ps) (past nothing ps) p
+pub joined-push : (ps : List LinkedFile) (p : LinkedFile) → joined (ps ++ p ∷ []) ≡ joined_with_file (joined ps) (past before_first_file ps) p
 joined-push ps p =
-    let heads = gathered-push shift_head heads_of nothing ps p in
-    let messages = gathered-push shift_message (λ q. q.file.messages) nothing ps p in
-    let enums = gathered-push shift_enum (λ q. q.file.enums) nothing ps p in
-    let services = gathered-push shift_service (λ q. q.file.services) nothing ps p in
+    let heads = gathered-push shift_head heads_of before_first_file ps p in
+    let messages = gathered-push shift_message (λ q. q.file.messages) before_first_file ps p in
+    let enums = gathered-push shift_enum (λ q. q.file.enums) before_first_file ps p in
+    let services = gathered-push shift_service (λ q. q.file.services) before_first_file ps p in
     cc
 
 -- ---- what lies in a text also lies in a longer one
@@ -164,15 +164,15 @@ module _ (size room : ℕ) (more : size ≤ room) where
 
 -- ---- a valid file can follow others
 
-place_fits : (n messages : ℕ) (place : Option ℕ) → messages + n < 2 ^ 64 → IsPlaceBelow n place
+place_fits : (n messages : ℕ) (place : Option ℕ) → messages + n < 2 ^ 64 → IsIndexBelow n place
     → IfSome place (λ i. messages + i < 2 ^ 64)
 place_fits n messages None fits below = tt
 place_fits n messages (Some i) fits below = omega arith
 
-pub can_place : (b : Before) (files k : ℕ) (p : Part) → b.bytes + p.size < 2 ^ 64 → b.messages + length p.file.messages < 2 ^ 64
-    → IsSound files k p → CanPlace b p
+pub can_place : (b : FileBase) (files k : ℕ) (p : LinkedFile) → b.bytes + p.size < 2 ^ 64 → b.messages + length p.file.messages < 2 ^ 64
+    → IsWellPlaced files k p → CanPlace b p
 can_place b files k p bytes messages sound =
-    let room : ℕ = room_behind b.bytes in
+    let room : ℕ = room_after b.bytes in
     let more : p.size ≤ room = omega arith in
     record {
       package_name = some_word_more p.size room more p.file.package sound.within.package_name;
@@ -192,10 +192,10 @@ can_place b files k p bytes messages sound =
 -- ---- the current file
 
 -- the texts so far and the current one are together no longer than all
-pub sizes_fit : (ps ys : List Part) (p : Part) → map (λ y. y) ys ≡ take (length ys) ps → length ys < length ps
+pub sizes_fit : (ps ys : List LinkedFile) (p : LinkedFile) → map (λ y. y) ys ≡ take (length ys) ps → length ys < length ps
     → p ≡ get_or ps (length ys) p → sum (sizes_of ys) + p.size ≤ sum (sizes_of ps)
 sizes_fit ps ys p front within at =
-    let size : Part → ℕ = λ q. q.size in
+    let size : LinkedFile → ℕ = λ q. q.size in
     omega (
       arith,
       sum-map size ys,

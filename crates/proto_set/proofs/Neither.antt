@@ -14,14 +14,14 @@ use Rattle.std.proofs.lemmas.List.Elements.{Contains-append_left, Contains-push,
 use Rattle.std.proofs.lemmas.Option.{same_Some}
 use Rattle.proto_ast.specs.declared.file.Span.{Span}
 use Rattle.proto_ast.specs.declared.file.Import.{Import}
-use Rattle.mrpc_table.specs.Valid.{Ascends}
-use Rattle.proto_set.specs.Leading.{HasImport, HasPath, Leads, Reaches, here, Sees, itself, imported, publicly}
-use Rattle.proto_set.specs.Visiting.{HasNoImport, IsNew, Outcome, leaves, ring, Visits, ends, closes, passes, enters, meets, VisitsRoot}
-use Rattle.proto_set.specs.ImportFaults.{IsFault, missing as missing_at, cycle as cycle_at, HasFault}
-use Rattle.proto_set.specs.Linking.{IsFreeAt, IsFree, AllLead}
-use Rattle.proto_set.specs.Reaching.{HaveOwnPaths, IsPathBelow, IsJoined, AreSeen, IsReach}
-use Rattle.proto_set.specs.declared.set.Member.{Member}
-use Rattle.proto_set.specs.declared.set.Reach.{Reach}
+use Rattle.mrpc_table.specs.Valid.{IsAscendingBy}
+use Rattle.proto_set.specs.Importing.{HasImport, HasPath, IsImport, IsReachable, here, IsVisible, itself, imported, publicly}
+use Rattle.proto_set.specs.Visiting.{HasNoImport, IsUnvisited, TraversalOutcome, leaves, at_cycle, IsVisit, ends, closes, passes, enters, meets, IsRootVisit}
+use Rattle.proto_set.specs.ImportFaults.{IsImportFault, missing as missing_at, cycle as cycle_at, HasImportFault}
+use Rattle.proto_set.specs.Linking.{HasNoFaultOfAt, HasNoFaultOf, AllResolve}
+use Rattle.proto_set.specs.Reaching.{HaveDistinctPaths, IsPathBelow, IsResolutionOrder, AreVisible, IsReach}
+use Rattle.proto_set.specs.declared.set.ParsedFile.{ParsedFile}
+use Rattle.proto_set.specs.declared.set.ImportClosure.{ImportClosure}
 use Rattle.proto_set.specs.declared.import_fault.ImportReason.{ImportReason}
 use Rattle.proto_set.specs.declared.import_fault.ImportReason.TheVariants.{Missing, Twice, Cycle}
 use Rattle.proto_set.proofs.Visited.{ArePathsApart, paths_apart, ring_is, root_reaches, cons_here, cons_more, cons_cases, IsAt, new_at, leaves_so, at_root}
@@ -34,8 +34,8 @@ use Rattle.proto_set.proofs.Reached.{reach_is, path_trans, path_strict, reached_
 
 -- ---- without a first fault, no import is at fault
 
-module _ (set : List Member) (q : ImportReason) (above : NoneAbove set q) (none : (i : ℕ) (s : Span) → HasFault set q i s → ⊥) where
-  rows : (i : ℕ) → ((k : ℕ) → k < i → IsFreeAt set q k) → (n : ℕ) → FreeBefore set q i n
+module _ (set : List ParsedFile) (q : ImportReason) (above : NoneAbove set q) (none : (i : ℕ) (s : Span) → HasImportFault set q i s → ⊥) where
+  rows : (i : ℕ) → ((k : ℕ) → k < i → HasNoFaultOfAt set q k) → (n : ℕ) → FreeBefore set q i n
   rows i files zero = λ m l f. absurd (omega arith)
   rows i files (suc n) =
       subst (FreeBefore set q i) (add-one n) (free_more set q i n (rows i files n) (λ f.
@@ -49,28 +49,28 @@ module _ (set : List Member) (q : ImportReason) (above : NoneAbove set q) (none 
         first = comes_first set q i n above files (rows i files n);
       }))))
 
-  files_before : (i k : ℕ) → k < i → IsFreeAt set q k
+  files_before : (i k : ℕ) → k < i → HasNoFaultOfAt set q k
   files_before zero k l n f = absurd (omega arith)
   files_before (suc i) k l n f = elim (cases_lt k i) [
     | inl old ↦ files_before i k old n f
     | inr new ↦
         let e : k ≡ i = omega arith in
-        rows i (files_before i) (n + 1) n (omega arith) (subst (λ (j : ℕ). IsFault set q j n) e f)
+        rows i (files_before i) (n + 1) n (omega arith) (subst (λ (j : ℕ). IsImportFault set q j n) e f)
   ]
 
-  pub free : IsFree set q
+  pub free : HasNoFaultOf set q
   free i n f = files_before (i + 1) i (omega arith) n f
 
-abbrev NoFault : List Member → Type 0
-NoFault set = (q : ImportReason) (i : ℕ) (s : Span) → HasFault set q i s → ⊥
+abbrev NoFault : List ParsedFile → Type 0
+NoFault set = (q : ImportReason) (i : ℕ) (s : Span) → HasImportFault set q i s → ⊥
 
-free_missing : (set : List Member) → NoFault set → IsFree set Missing
+free_missing : (set : List ParsedFile) → NoFault set → HasNoFaultOf set Missing
 free_missing set none = free set Missing (none_above_missing set) (none Missing)
 
-free_twice : (set : List Member) → NoFault set → IsFree set Twice
+free_twice : (set : List ParsedFile) → NoFault set → HasNoFaultOf set Twice
 free_twice set none = free set Twice (none_above_twice set (free_missing set none)) (none Twice)
 
-free_cycle : (set : List Member) → NoFault set → IsFree set Cycle
+free_cycle : (set : List ParsedFile) → NoFault set → HasNoFaultOf set Cycle
 free_cycle set none = free set Cycle (none_above_cycle set (free_missing set none) (free_twice set none)) (none Cycle)
 
 -- ---- finite searches
@@ -81,13 +81,13 @@ same_path a b = elim (cases_Bool (is_eq (slice_cmp nat_cmp a b))) [
   | inr f ↦ inr (other_bytes a b f)
 ]
 
-no_path_in : (m : Member) (ms : List Member) (path : List ℕ) → (m.path ≡ path → ⊥) → ((j : ℕ) → HasPath ms j path → ⊥) → (j : ℕ) → HasPath (m ∷ ms) j path → ⊥
+no_path_in : (m : ParsedFile) (ms : List ParsedFile) (path : List ℕ) → (m.path ≡ path → ⊥) → ((j : ℕ) → HasPath ms j path → ⊥) → (j : ℕ) → HasPath (m ∷ ms) j path → ⊥
 no_path_in m ms path ne none zero h =
     let same : m ≡ h.member = same_Some m h.member h.member_at in
-    ne (ap (λ (x : Member). x.path) same ∙ h.path_is)
+    ne (ap (λ (x : ParsedFile). x.path) same ∙ h.path_is)
 no_path_in m ms path ne none (suc j) h = none j (record { member = h.member; member_at = h.member_at; path_is = h.path_is })
 
-find_path : (set : List Member) (path : List ℕ) → ((j : ℕ) × HasPath set j path) ⊎ ((j : ℕ) → HasPath set j path → ⊥)
+find_path : (set : List ParsedFile) (path : List ℕ) → ((j : ℕ) × HasPath set j path) ⊎ ((j : ℕ) → HasPath set j path → ⊥)
 find_path [] path = inr (λ j h. absurd (let e : None ≡ Some h.member = h.member_at in cc))
 find_path (m ∷ ms) path = elim (same_path m.path path) [
   | inl e ↦ inl (0, record { member = m; member_at = refl; path_is = e })
@@ -97,7 +97,7 @@ find_path (m ∷ ms) path = elim (same_path m.path path) [
   ]
 ]
 
-all_led : (set : List Member) → IsFree set Missing → AllLead set
+all_led : (set : List ParsedFile) → HasNoFaultOf set Missing → AllResolve set
 all_led set known i n x at = elim (find_path set x.path) [
   | inl found ↦ (found.0, record { import = x; import_at = at; path_at = found.1 })
   | inr none ↦ absurd (known i n (missing_at x at none))
@@ -118,14 +118,14 @@ cases_get [] i = inr refl
 cases_get (x ∷ xs) zero = inl (x, refl)
 cases_get (x ∷ xs) (suc i) = cases_get xs i
 
-find_import : (set : List Member) (i n : ℕ) → ((x : Import) × HasImport set i n x) ⊎ HasNoImport set i n
+find_import : (set : List ParsedFile) (i n : ℕ) → ((x : Import) × HasImport set i n x) ⊎ HasNoImport set i n
 find_import set i n = elim (cases_get set i) [
   | inl m ↦ elim (cases_get m.0.file.imports n) [
     | inl x ↦ inl (x.0, record { member = m.0; member_at = m.1; import_at = x.1 })
     | inr past ↦ inr (λ x h.
         (let same : m.0 ≡ h.member = same_Some m.0 h.member (sym m.1 ∙ h.member_at) in
         let own : slice_get m.0.file.imports n ≡ Some x =
-        subst (λ (y : Member). slice_get y.file.imports n ≡ Some x) (sym same) h.import_at in
+        subst (λ (y : ParsedFile). slice_get y.file.imports n ≡ Some x) (sym same) h.import_at in
         let bad : None ≡ Some x = sym past ∙ own in cc))
   ]
   | inr out ↦ inr (λ x h. (let bad : None ≡ Some h.member = sym out ∙ h.member_at in cc))
@@ -157,47 +157,47 @@ take_out (x ∷ xs) j c = elim (cons_cases x xs j c) [
 ]
 
 -- the list contains all files that are not visited yet
-abbrev Covers : List Member → List ℕ → List ℕ → List ℕ → Type 0
-Covers set rest visiting left = (j : ℕ) → j < length set → IsNew visiting left j → Contains rest j
+abbrev Covers : List ParsedFile → List ℕ → List ℕ → List ℕ → Type 0
+Covers set rest visiting left = (j : ℕ) → j < length set → IsUnvisited visiting left j → Contains rest j
 
-abbrev Comes : List Member → List ℕ → List ℕ → ℕ → ℕ → Type 0
-Comes set within left i n = (o : Outcome) × Visits set within left i n o
+abbrev Comes : List ParsedFile → List ℕ → List ℕ → ℕ → ℕ → Type 0
+Comes set within left i n = (o : TraversalOutcome) × IsVisit set within left i n o
 
 -- a visit has an outcome if fewer than a files are not visited yet
-abbrev Solves : List Member → ℕ → Type 0
+abbrev Solves : List ParsedFile → ℕ → Type 0
 Solves set a = (within left : List ℕ) (i : ℕ) (rest : List ℕ) → length rest < a → IsAt within left i
     → Covers set rest (within ++ i ∷ []) left → Comes set within left i 0
 
-abbrev Few : List Member → ℕ → ℕ → ℕ → Type 0
+abbrev Few : List ParsedFile → ℕ → ℕ → ℕ → Type 0
 Few set i n more = (m : ℕ) (x : Import) → HasImport set i m x → m < n + more
 
-covers_less : (set : List Member) (rest less visiting left : List ℕ) (j : ℕ)
+covers_less : (set : List ParsedFile) (rest less visiting left : List ℕ) (j : ℕ)
     → ((k : ℕ) → Contains rest k → (k ≡ j → ⊥) → Contains less k) → Covers set rest visiting left
     → Covers set less (visiting ++ j ∷ []) left
 covers_less set rest less visiting left j out cover k l new =
     out k (cover k l (record { unvisited = λ c. new.unvisited (Contains-append_left visiting (j ∷ []) k c); unleft = new.unleft }))
     (λ e. new.unvisited (subst (Contains (visiting ++ j ∷ [])) (sym e) (Contains-push visiting j)))
 
-covers_after : (set : List Member) (rest visiting left after : List ℕ)
+covers_after : (set : List ParsedFile) (rest visiting left after : List ℕ)
     → ((k : ℕ) → Contains left k → Contains after k) → Covers set rest visiting left → Covers set rest visiting after
 covers_after set rest visiting left after keeps cover k l new =
     cover k l (record { unvisited = new.unvisited; unleft = λ c. new.unleft (keeps k c) })
 
-module _ (set : List Member) (lead : AllLead set) (a : ℕ) (solve : Solves set a) (within : List ℕ) (i : ℕ) (rest : List ℕ) (small : length rest ≤ a) where
+module _ (set : List ParsedFile) (lead : AllResolve set) (a : ℕ) (solve : Solves set a) (within : List ℕ) (i : ℕ) (rest : List ℕ) (small : length rest ≤ a) where
   abbrev GoesOn : ℕ → Type 0
   GoesOn more = (left : List ℕ) (n : ℕ) → Few set i n more → IsAt within left i → Covers set rest (within ++ i ∷ []) left → Comes set within left i n
 
-  after_child : (more n j : ℕ) (left : List ℕ) (o : Outcome) → GoesOn more → Few set i (n + 1) more
-      → IsAt within left i → Covers set rest (within ++ i ∷ []) left → Leads set i n j
-      → IsNew (within ++ i ∷ []) left j → Visits set (within ++ i ∷ []) left j 0 o → Comes set within left i n
+  after_child : (more n j : ℕ) (left : List ℕ) (o : TraversalOutcome) → GoesOn more → Few set i (n + 1) more
+      → IsAt within left i → Covers set rest (within ++ i ∷ []) left → IsImport set i n j
+      → IsUnvisited (within ++ i ∷ []) left j → IsVisit set (within ++ i ∷ []) left j 0 o → Comes set within left i n
   after_child more n j left (leaves after) go few at cover l new v =
       let so = leaves_so (new_at (within ++ i ∷ []) left j at.1 new) v in
       let r = go after (n + 1) few (at.0, so.apart) (covers_after set rest (within ++ i ∷ []) left after so.keeps cover) in
       (r.0, enters l new v r.1)
-  after_child more n j left (ring k m) go few at cover l new v = (ring k m, meets l new v)
+  after_child more n j left (at_cycle k m) go few at cover l new v = (at_cycle k m, meets l new v)
 
   enter_new : (more n j : ℕ) (left : List ℕ) → GoesOn more → Few set i (n + 1) more → IsAt within left i
-      → Covers set rest (within ++ i ∷ []) left → Leads set i n j → IsNew (within ++ i ∷ []) left j
+      → Covers set rest (within ++ i ∷ []) left → IsImport set i n j → IsUnvisited (within ++ i ∷ []) left j
       → Comes set within left i n
   enter_new more n j left go few at cover l new =
       let t = take_out rest j (cover j (link_file l) new) in
@@ -216,7 +216,7 @@ module _ (set : List Member) (lead : AllLead set) (a : ℕ) (solve : Solves set 
         let j = lead i n x.0 x.1 in
         let fewer : Few set i (n + 1) more = λ m y h. omega (arith, few m y h) in
         elim (is_in (within ++ i ∷ []) j.0) [
-          | inl c ↦ (ring i n, closes j.1 c)
+          | inl c ↦ (at_cycle i n, closes j.1 c)
           | inr unvisited ↦ elim (is_in left j.0) [
             | inl c ↦ let r = go_on more left (n + 1) fewer at cover in (r.0, passes j.1 c r.1)
             | inr unleft ↦
@@ -225,7 +225,7 @@ module _ (set : List Member) (lead : AllLead set) (a : ℕ) (solve : Solves set 
         ]
   ]
 
-solves : (set : List Member) → AllLead set → (a : ℕ) → Solves set a
+solves : (set : List ParsedFile) → AllResolve set → (a : ℕ) → Solves set a
 solves set lead zero within left i rest l at cover = absurd (omega arith)
 solves set lead (suc a) within left i rest l at cover =
     go_on set lead a (solves set lead a) within i rest (omega arith) (count_at set i) left 0
@@ -243,14 +243,14 @@ in_up_to (suc n) k l = elim (cases_lt k n) [
   | inr new ↦ let e : n ≡ k = omega arith in subst (Contains (n ∷ up_to n)) e (cons_here n (up_to n))
 ]
 
-root_comes : (set : List Member) → AllLead set → Comes set [] [] 0 0
+root_comes : (set : List ParsedFile) → AllResolve set → Comes set [] [] 0 0
 root_comes set lead =
     solves set lead (suc (length (up_to (length set)))) [] [] 0 (up_to (length set)) (omega arith) at_root
     (λ j l new. in_up_to (length set) j l)
 
 -- ---- the order
 
-order_cases : (set : List Member) (i j : ℕ) (a b : List ℕ) (o : Ordering) → ArePathsApart set → HasPath set i a
+order_cases : (set : List ParsedFile) (i j : ℕ) (a b : List ℕ) (o : Ordering) → ArePathsApart set → HasPath set i a
     → HasPath set j b → slice_cmp nat_cmp a b ≡ o → (i ≡ j → ⊥) → IsPathBelow set i j ⊎ IsPathBelow set j i
 order_cases set i j a b Less own p q e ne = inl (record { lower = a; upper = b; lower_at = p; upper_at = q; below = e })
 order_cases set i j a b Equal own p q e ne =
@@ -260,26 +260,26 @@ order_cases set i j a b Greater own p q e ne =
     let less : slice_cmp nat_cmp b a ≡ Less = nat_list_cmp_total.antisymm b a ∙ ap ordering_reverse e in
     inr (record { lower = b; upper = a; lower_at = q; upper_at = p; below = less })
 
-path_cases : (set : List Member) (i j : ℕ) → ArePathsApart set → i < length set → j < length set → (i ≡ j → ⊥) → IsPathBelow set i j ⊎ IsPathBelow set j i
+path_cases : (set : List ParsedFile) (i j : ℕ) → ArePathsApart set → i < length set → j < length set → (i ≡ j → ⊥) → IsPathBelow set i j ⊎ IsPathBelow set j i
 path_cases set i j own li lj ne =
     let m = some_at set i li in
     let n = some_at set j lj in
     order_cases set i j m.0.path n.0.path (slice_cmp nat_cmp m.0.path n.0.path) own
     (record { member = m.0; member_at = m.1; path_is = refl }) (record { member = n.0; member_at = n.1; path_is = refl }) refl ne
 
-ascends_cons : {X : Type 0} (R : X → X → Type 0) (x : X) (xs : List X) → ((y : X) → Contains xs y → R x y) → Ascends R xs → Ascends R (x ∷ xs)
+ascends_cons : {X : Type 0} (R : X → X → Type 0) (x : X) (xs : List X) → ((y : X) → Contains xs y → R x y) → IsAscendingBy R xs → IsAscendingBy R (x ∷ xs)
 ascends_cons R x [] least h = tt
 ascends_cons R x (y ∷ ys) least h = (least y (cons_here y ys), h)
 
-record Inserted (set : List Member) (k : ℕ) (xs : List ℕ) : Type 0 where
+record Inserted (set : List ParsedFile) (k : ℕ) (xs : List ℕ) : Type 0 where
   pub all : List ℕ
-  pub ascend : Ascends (IsPathBelow set) all
+  pub ascend : IsAscendingBy (IsPathBelow set) all
   pub has : Contains all k
   pub keeps : (z : ℕ) → Contains xs z → Contains all z
   pub alone : (z : ℕ) → Contains all z → (z ≡ k) ⊎ Contains xs z
 
-insert_file : (set : List Member) (k : ℕ) (xs : List ℕ) → ArePathsApart set → k < length set
-    → ((z : ℕ) → Contains xs z → z < length set) → (Contains xs k → ⊥) → Ascends (IsPathBelow set) xs
+insert_file : (set : List ParsedFile) (k : ℕ) (xs : List ℕ) → ArePathsApart set → k < length set
+    → ((z : ℕ) → Contains xs z → z < length set) → (Contains xs k → ⊥) → IsAscendingBy (IsPathBelow set) xs
     → Inserted set k xs
 insert_file set k [] own l within out h = record {
   all = k ∷ [];
@@ -319,13 +319,13 @@ insert_file set k (x ∷ xs) own l within out h =
           }
     ]
 
-record Others (set : List Member) (xs : List ℕ) : Type 0 where
+record Others (set : List ParsedFile) (xs : List ℕ) : Type 0 where
   pub all : List ℕ
-  pub ascend : Ascends (IsPathBelow set) all
+  pub ascend : IsAscendingBy (IsPathBelow set) all
   pub those : (z : ℕ) → Contains all z → Contains xs z × (z ≡ 0 → ⊥)
   pub each : (z : ℕ) → Contains xs z → (z ≡ 0 → ⊥) → Contains all z
 
-others_of : (set : List Member) (xs : List ℕ) → ArePathsApart set → ((z : ℕ) → Contains xs z → z < length set) → Others set xs
+others_of : (set : List ParsedFile) (xs : List ℕ) → ArePathsApart set → ((z : ℕ) → Contains xs z → z < length set) → Others set xs
 others_of set [] own within = record {
   all = [];
   ascend = tt;
@@ -367,7 +367,7 @@ others_of set (x ∷ xs) own within =
       ]
     ]
 
-joined_of : (set : List Member) (left : List ℕ) → ArePathsApart set → 0 < length set → VisitsRoot set (leaves left) → (order : List ℕ) × IsJoined set order
+joined_of : (set : List ParsedFile) (left : List ℕ) → ArePathsApart set → 0 < length set → IsRootVisit set (leaves left) → (order : List ℕ) × IsResolutionOrder set order
 joined_of set left own some v =
     let within : (z : ℕ) → Contains left z → z < length set = λ z c. reached_within some ((root_reaches own v z).0 c) in
     let t = others_of set left own within in (
@@ -378,7 +378,7 @@ joined_of set left own some v =
         ascend = t.ascend;
         reached = λ j. (
           λ c. elim (cons_cases 0 t.all j c) [
-            | inl e ↦ subst (Reaches set 0) e here
+            | inl e ↦ subst (IsReachable set 0) e here
             | inr other ↦ (root_reaches own v j).0 (t.those j other).0
           ],
           λ r. elim (cases_eq j 0) [
@@ -395,20 +395,20 @@ joined_of set left own some v =
 
 -- ---- the files that are seen
 
-record SeenBelow (set : List Member) (i n : ℕ) : Type 0 where
+record SeenBelow (set : List ParsedFile) (i n : ℕ) : Type 0 where
   pub seen : List ℕ
-  pub ascend : Ascends ◌<◌ seen
-  pub those : (k : ℕ) → Contains seen k → (k < n) × Sees set i k
-  pub each : (k : ℕ) → k < n → Sees set i k → Contains seen k
+  pub ascend : IsAscendingBy ◌<◌ seen
+  pub those : (k : ℕ) → Contains seen k → (k < n) × IsVisible set i k
+  pub each : (k : ℕ) → k < n → IsVisible set i k → Contains seen k
 
-seen_step : (set : List Member) (i n : ℕ) → SeenBelow set i n → (Sees set i n) ⊎ (Sees set i n → ⊥) → SeenBelow set i (suc n)
+seen_step : (set : List ParsedFile) (i n : ℕ) → SeenBelow set i n → (IsVisible set i n) ⊎ (IsVisible set i n → ⊥) → SeenBelow set i (suc n)
 seen_step set i n h d = elim d [
   | inl sees ↦ record {
     seen = h.seen ++ n ∷ [];
     ascend = ascends_push h.seen n (λ k c. (h.those k c).0) h.ascend;
     those = λ k c. elim (Contains-push_cases h.seen n k c) [
       | inl old ↦ (omega (arith, (h.those k old).0), (h.those k old).1)
-      | inr e ↦ (omega (arith, e), subst (Sees set i) e sees)
+      | inr e ↦ (omega (arith, e), subst (IsVisible set i) e sees)
     ];
     each = λ k l s. elim (cases_lt k n) [
       | inl old ↦ Contains-append_left h.seen (n ∷ []) k (h.each k old s)
@@ -421,12 +421,12 @@ seen_step set i n h d = elim d [
     those = λ k c. (omega (arith, (h.those k c).0), (h.those k c).1);
     each = λ k l s. elim (cases_lt k n) [
       | inl old ↦ h.each k old s
-      | inr new ↦ let e : k ≡ n = omega arith in absurd (blind (subst (Sees set i) e s))
+      | inr new ↦ let e : k ≡ n = omega arith in absurd (blind (subst (IsVisible set i) e s))
     ];
   }
 ]
 
-not_no_seen : (set : List Member) (i n : ℕ) → (SeenBelow set i n → ⊥) → ⊥
+not_no_seen : (set : List ParsedFile) (i n : ℕ) → (SeenBelow set i n → ⊥) → ⊥
 not_no_seen set i zero never = never (record {
   seen = [];
   ascend = tt;
@@ -436,12 +436,12 @@ not_no_seen set i zero never = never (record {
 not_no_seen set i (suc n) never = not_no_seen set i n (λ h.
     never (seen_step set i n h (inr (λ s. never (seen_step set i n h (inl s))))))
 
-sees_within : {set : List Member} {i j : ℕ} → i < length set → Sees set i j → j < length set
+sees_within : {set : List ParsedFile} {i j : ℕ} → i < length set → IsVisible set i j → j < length set
 sees_within l itself = l
 sees_within l (imported h) = link_file h
 sees_within l (publicly s h) = link_file h.leads
 
-seen_of : (set : List Member) (i : ℕ) → i < length set → SeenBelow set i (length set) → (seen : List ℕ) × AreSeen set i seen
+seen_of : (set : List ParsedFile) (i : ℕ) → i < length set → SeenBelow set i (length set) → (seen : List ℕ) × AreVisible set i seen
 seen_of set i l h = (
   h.seen,
   record {
@@ -450,8 +450,8 @@ seen_of set i l h = (
   },
 )
 
-not_no_sees : (set : List Member) (order : List ℕ) → ((k : ℕ) → Contains order k → k < length set)
-    → ((sees : List (List ℕ)) → AllZip (AreSeen set) order sees → ⊥) → ⊥
+not_no_sees : (set : List ParsedFile) (order : List ℕ) → ((k : ℕ) → Contains order k → k < length set)
+    → ((sees : List (List ℕ)) → AllZip (AreVisible set) order sees → ⊥) → ⊥
 not_no_sees set [] within never = never [] tt
 not_no_sees set (i ∷ order) within never =
     not_no_sees set order (λ k c. within k (cons_more i order k c)) (λ sees all.
@@ -460,11 +460,11 @@ not_no_sees set (i ∷ order) within never =
 
 -- ---- the law
 
-comes_left : (set : List Member) (o : Outcome) → IsFree set Cycle → VisitsRoot set o → (left : List ℕ) × VisitsRoot set (leaves left)
+comes_left : (set : List ParsedFile) (o : TraversalOutcome) → HasNoFaultOf set Cycle → IsRootVisit set o → (left : List ℕ) × IsRootVisit set (leaves left)
 comes_left set (leaves left) sound v = (left, v)
-comes_left set (ring i n) sound v = absurd (sound i n (cycle_at v))
+comes_left set (at_cycle i n) sound v = absurd (sound i n (cycle_at v))
 
-pub not_neither : (set : List Member) → 0 < length set → HaveOwnPaths set → ((reach : Reach) → IsReach set reach → ⊥) → NoFault set → ⊥
+pub not_neither : (set : List ParsedFile) → 0 < length set → HaveDistinctPaths set → ((reach : ImportClosure) → IsReach set reach → ⊥) → NoFault set → ⊥
 not_neither set some distinct never none =
     let own = paths_apart distinct in
     let lead = all_led set (free_missing set none) in

@@ -7,14 +7,14 @@ use Rattle.std.proofs.lemmas.Bool.{cases_lt, cases_eq}
 use Rattle.std.proofs.lemmas.List.{take_more, take_all, length_push, length-replicate, get_or_append_left}
 use Rattle.std.proofs.lemmas.List.Elements.{All-push, Contains-append_left, Contains-push, Contains-push_cases}
 use Rattle.std.proofs.lemmas.Option.{slice_get_within, same_Some, slice_get-get_or}
-use Rattle.mrpc_table.specs.Valid.{Ascends}
-use Rattle.proto_set.specs.Leading.{LeadsPublicly, Sees, itself, imported, publicly}
+use Rattle.mrpc_table.specs.Valid.{IsAscendingBy}
+use Rattle.proto_set.specs.Importing.{IsPublicImport, IsVisible, itself, imported, publicly}
 use Rattle.proto_set.specs.Linking.{AreLinks}
-use Rattle.proto_set.specs.Reaching.{AreSeen}
-use Rattle.proto_set.specs.Seeing.{IsMarked, unmarked, MarksMore, IsLinked, IsLinkedPublicly, SeesSoFar}
-use Rattle.proto_set.specs.declared.set.Member.{Member}
-use Rattle.proto_set.specs.declared.links.Link.{Link}
-use Rattle.proto_set.specs.declared.seen.Seen.{Seen}
+use Rattle.proto_set.specs.Reaching.{AreVisible}
+use Rattle.proto_set.specs.Seeing.{IsSeenFile, unmarked, HasSeenMore, IsLinked, IsLinkedPublicly, IsSeenSoFar}
+use Rattle.proto_set.specs.declared.set.ParsedFile.{ParsedFile}
+use Rattle.proto_set.specs.declared.links.ImportLink.{ImportLink}
+use Rattle.proto_set.specs.declared.seen.SeenFiles.{SeenFiles}
 use Rattle.proto_set.proofs.Visited.{ArePathsApart}
 use Rattle.proto_set.proofs.Linked.{get_push, get_front, get_last, get_set_same, get_set_other, link_leads, link_public, link_of, link_file}
 use Rattle.proto_set.proofs.Sorting.{ascends_push}
@@ -28,11 +28,11 @@ unmarked_one (true ∷ bs) zero e = absurd cc
 unmarked_one (false ∷ bs) (suc i) e = omega (arith, unmarked_one bs i e)
 unmarked_one (true ∷ bs) (suc i) e = unmarked_one bs i e
 
-pub more_none : (file : ℕ) (old new : Seen) → new.marks.items ≡ old.marks.items → new.next.items ≡ old.next.items → IsMarked old file → MarksMore (λ i. i ≡ file) old new
+pub more_none : (file : ℕ) (old new : SeenFiles) → new.marks.items ≡ old.marks.items → new.next.items ≡ old.next.items → IsSeenFile old file → HasSeenMore (λ i. i ≡ file) old new
 more_none file old new marks next at = record {
   count = ap length marks;
   keeps = λ i m. ap (λ (bs : List Bool). slice_get bs i) marks ∙ m;
-  those = λ i e. ap (λ (bs : List Bool). slice_get bs i) marks ∙ subst (IsMarked old) (sym e) at;
+  those = λ i e. ap (λ (bs : List Bool). slice_get bs i) marks ∙ subst (IsSeenFile old) (sym e) at;
   alone = λ i m. inl (sym (ap (λ (bs : List Bool). slice_get bs i) marks) ∙ m);
   waits = λ i c. subst (λ (ks : List ℕ). Contains ks i) (sym next) c;
   fresh = λ i c. inl (subst (λ (ks : List ℕ). Contains ks i) next c);
@@ -41,21 +41,21 @@ more_none file old new marks next at = record {
   less = omega (arith, ap unmarked marks, ap length next);
 }
 
-pub more_one : (file : ℕ) (old new : Seen) → slice_get old.marks.items file ≡ Some false
+pub more_one : (file : ℕ) (old new : SeenFiles) → slice_get old.marks.items file ≡ Some false
     → new.marks.items ≡ set old.marks.items file true → new.next.items ≡ old.next.items ++ file ∷ []
-    → MarksMore (λ i. i ≡ file) old new
+    → HasSeenMore (λ i. i ≡ file) old new
 more_one file old new at marks next =
     let count : length new.marks.items ≡ length old.marks.items = ap length marks ∙ length-set old.marks.items file true in
-    let here : IsMarked new file =
+    let here : IsSeenFile new file =
     ap (λ (bs : List Bool). slice_get bs file) marks ∙ get_set_same old.marks.items file true (slice_get_within old.marks.items file false at) in
     let last : Contains new.next.items file = subst (λ (ks : List ℕ). Contains ks file) (sym next) (Contains-push old.next.items file) in
     record {
       count = count;
       keeps = λ i m. elim (cases_eq i file) [
-        | inl same ↦ subst (IsMarked new) (sym same) here
+        | inl same ↦ subst (IsSeenFile new) (sym same) here
         | inr other ↦ ap (λ (bs : List Bool). slice_get bs i) marks ∙ get_set_other old.marks.items file i true other ∙ m
       ];
-      those = λ i e. subst (IsMarked new) (sym e) here;
+      those = λ i e. subst (IsSeenFile new) (sym e) here;
       alone = λ i m. elim (cases_eq i file) [
         | inl same ↦ inr (same, subst (Contains new.next.items) (sym same) last)
         | inr other ↦ inl (sym (ap (λ (bs : List Bool). slice_get bs i) marks ∙ get_set_other old.marks.items file i true other) ∙ m)
@@ -73,7 +73,7 @@ more_one file old new at marks next =
 
 -- ---- one after another
 
-pub more_start : (P : ℕ → Type 0) (s : Seen) → ((i : ℕ) → P i → ⊥) → MarksMore P s s
+pub more_start : (P : ℕ → Type 0) (s : SeenFiles) → ((i : ℕ) → P i → ⊥) → HasSeenMore P s s
 more_start P s none = record {
   count = refl;
   keeps = λ i m. m;
@@ -85,8 +85,8 @@ more_start P s none = record {
   less = omega arith;
 }
 
-pub more_then : (P Q R : ℕ → Type 0) (a b c : Seen) → MarksMore P a b → MarksMore Q b c → ((i : ℕ) → R i → P i ⊎ Q i)
-    → ((i : ℕ) → P i → R i) → ((i : ℕ) → Q i → R i) → MarksMore R a c
+pub more_then : (P Q R : ℕ → Type 0) (a b c : SeenFiles) → HasSeenMore P a b → HasSeenMore Q b c → ((i : ℕ) → R i → P i ⊎ Q i)
+    → ((i : ℕ) → P i → R i) → ((i : ℕ) → Q i → R i) → HasSeenMore R a c
 more_then P Q R a b c f g split left right = record {
   count = g.count ∙ f.count;
   keeps = λ i m. g.keeps i (f.keeps i m);
@@ -107,7 +107,7 @@ more_then P Q R a b c f g split left right = record {
   less = omega (arith, f.less, g.less);
 }
 
-pub more_as : (P Q : ℕ → Type 0) (a b : Seen) → ((i : ℕ) → P i → Q i) → ((i : ℕ) → Q i → P i) → MarksMore P a b → MarksMore Q a b
+pub more_as : (P Q : ℕ → Type 0) (a b : SeenFiles) → ((i : ℕ) → P i → Q i) → ((i : ℕ) → Q i → P i) → HasSeenMore P a b → HasSeenMore Q a b
 more_as P Q a b to from f = record {
   count = f.count;
   keeps = f.keeps;
@@ -124,73 +124,73 @@ more_as P Q a b to from f = record {
 pub linked_none : (j : ℕ) → IsLinked [] j → ⊥
 linked_none j h = let e = h.2 in cc
 
-linked_cases : (xs : List Link) (x : Link) (j : ℕ) → IsLinked (xs ++ x ∷ []) j → IsLinked xs j ⊎ (j ≡ x.file)
+linked_cases : (xs : List ImportLink) (x : ImportLink) (j : ℕ) → IsLinked (xs ++ x ∷ []) j → IsLinked xs j ⊎ (j ≡ x.file)
 linked_cases xs x j h = elim (get_push xs x h.1 h.0 h.2) [
   | inl old ↦ inl (h.0, h.1, old, h.3)
-  | inr new ↦ inr (sym h.3 ∙ ap (λ (l : Link). l.file) (sym new.1))
+  | inr new ↦ inr (sym h.3 ∙ ap (λ (l : ImportLink). l.file) (sym new.1))
 ]
 
-linked_front : (xs : List Link) (x : Link) (j : ℕ) → IsLinked xs j → IsLinked (xs ++ x ∷ []) j
+linked_front : (xs : List ImportLink) (x : ImportLink) (j : ℕ) → IsLinked xs j → IsLinked (xs ++ x ∷ []) j
 linked_front xs x j h = (h.0, h.1, get_front xs x h.1 h.0 h.2, h.3)
 
-linked_last : (xs : List Link) (x : Link) (j : ℕ) → j ≡ x.file → IsLinked (xs ++ x ∷ []) j
+linked_last : (xs : List ImportLink) (x : ImportLink) (j : ℕ) → j ≡ x.file → IsLinked (xs ++ x ∷ []) j
 linked_last xs x j e = (length xs, x, get_last xs x, sym e)
 
-pub linked_more : (links : List Link) (i : ℕ) (d : Link) (a b c : Seen) → i < length links
-    → MarksMore (IsLinked (take i links)) a b → MarksMore (λ k. k ≡ (get_or links i d).file) b c
-    → MarksMore (IsLinked (take (i + 1) links)) a c
+pub linked_more : (links : List ImportLink) (i : ℕ) (d : ImportLink) (a b c : SeenFiles) → i < length links
+    → HasSeenMore (IsLinked (take i links)) a b → HasSeenMore (λ k. k ≡ (get_or links i d).file) b c
+    → HasSeenMore (IsLinked (take (i + 1) links)) a c
 linked_more links i d a b c l f g =
     let x = get_or links i d in
     let xs = take i links in
-    subst (λ (ls : List Link). MarksMore (IsLinked ls) a c) (sym (take_more links i d l))
+    subst (λ (ls : List ImportLink). HasSeenMore (IsLinked ls) a c) (sym (take_more links i d l))
     (more_then (IsLinked xs) (λ k. k ≡ x.file) (IsLinked (xs ++ x ∷ [])) a b c f g (linked_cases xs x) (linked_front xs x) (linked_last xs x))
 
-pub linked_all : (links : List Link) (i : ℕ) (a b : Seen) → length links ≤ i → MarksMore (IsLinked (take i links)) a b → MarksMore (IsLinked links) a b
-linked_all links i a b l f = subst (λ (ls : List Link). MarksMore (IsLinked ls) a b) (take_all i links l) f
+pub linked_all : (links : List ImportLink) (i : ℕ) (a b : SeenFiles) → length links ≤ i → HasSeenMore (IsLinked (take i links)) a b → HasSeenMore (IsLinked links) a b
+linked_all links i a b l f = subst (λ (ls : List ImportLink). HasSeenMore (IsLinked ls) a b) (take_all i links l) f
 
 pub public_none : (j : ℕ) → IsLinkedPublicly [] j → ⊥
 public_none j h = let e = h.2 in cc
 
-public_cases : (xs : List Link) (x : Link) (j : ℕ) → IsLinkedPublicly (xs ++ x ∷ []) j → IsLinkedPublicly xs j ⊎ ((j ≡ x.file) × (x.public ≡ true))
+public_cases : (xs : List ImportLink) (x : ImportLink) (j : ℕ) → IsLinkedPublicly (xs ++ x ∷ []) j → IsLinkedPublicly xs j ⊎ ((j ≡ x.file) × (x.public ≡ true))
 public_cases xs x j h = elim (get_push xs x h.1 h.0 h.2) [
   | inl old ↦ inl (h.0, h.1, old, h.3, h.4)
-  | inr new ↦ inr (sym h.4 ∙ ap (λ (l : Link). l.file) (sym new.1), ap (λ (l : Link). l.public) new.1 ∙ h.3)
+  | inr new ↦ inr (sym h.4 ∙ ap (λ (l : ImportLink). l.file) (sym new.1), ap (λ (l : ImportLink). l.public) new.1 ∙ h.3)
 ]
 
-public_front : (xs : List Link) (x : Link) (j : ℕ) → IsLinkedPublicly xs j → IsLinkedPublicly (xs ++ x ∷ []) j
+public_front : (xs : List ImportLink) (x : ImportLink) (j : ℕ) → IsLinkedPublicly xs j → IsLinkedPublicly (xs ++ x ∷ []) j
 public_front xs x j h = (h.0, h.1, get_front xs x h.1 h.0 h.2, h.3, h.4)
 
-public_last : (xs : List Link) (x : Link) → x.public ≡ true → (j : ℕ) → j ≡ x.file → IsLinkedPublicly (xs ++ x ∷ []) j
+public_last : (xs : List ImportLink) (x : ImportLink) → x.public ≡ true → (j : ℕ) → j ≡ x.file → IsLinkedPublicly (xs ++ x ∷ []) j
 public_last xs x is j e = (length xs, x, get_last xs x, is, sym e)
 
-pub public_more : (links : List Link) (i : ℕ) (d : Link) (a b c : Seen) → i < length links
-    → (get_or links i d).public ≡ true → MarksMore (IsLinkedPublicly (take i links)) a b
-    → MarksMore (λ k. k ≡ (get_or links i d).file) b c → MarksMore (IsLinkedPublicly (take (i + 1) links)) a c
+pub public_more : (links : List ImportLink) (i : ℕ) (d : ImportLink) (a b c : SeenFiles) → i < length links
+    → (get_or links i d).public ≡ true → HasSeenMore (IsLinkedPublicly (take i links)) a b
+    → HasSeenMore (λ k. k ≡ (get_or links i d).file) b c → HasSeenMore (IsLinkedPublicly (take (i + 1) links)) a c
 public_more links i d a b c l is f g =
     let x = get_or links i d in
     let xs = take i links in
-    subst (λ (ls : List Link). MarksMore (IsLinkedPublicly ls) a c) (sym (take_more links i d l))
+    subst (λ (ls : List ImportLink). HasSeenMore (IsLinkedPublicly ls) a c) (sym (take_more links i d l))
     (more_then (IsLinkedPublicly xs) (λ k. k ≡ x.file) (IsLinkedPublicly (xs ++ x ∷ [])) a b c f g
     (λ k h. elim (public_cases xs x k h) [ inl old ↦ inl old | inr new ↦ inr new.0 ]) (public_front xs x) (public_last xs x is))
 
-pub public_skip : (links : List Link) (i : ℕ) (d : Link) (a b : Seen) → i < length links
-    → (get_or links i d).public ≡ false → MarksMore (IsLinkedPublicly (take i links)) a b
-    → MarksMore (IsLinkedPublicly (take (i + 1) links)) a b
+pub public_skip : (links : List ImportLink) (i : ℕ) (d : ImportLink) (a b : SeenFiles) → i < length links
+    → (get_or links i d).public ≡ false → HasSeenMore (IsLinkedPublicly (take i links)) a b
+    → HasSeenMore (IsLinkedPublicly (take (i + 1) links)) a b
 public_skip links i d a b l is f =
     let x = get_or links i d in
     let xs = take i links in
-    subst (λ (ls : List Link). MarksMore (IsLinkedPublicly ls) a b) (sym (take_more links i d l))
+    subst (λ (ls : List ImportLink). HasSeenMore (IsLinkedPublicly ls) a b) (sym (take_more links i d l))
     (more_as (IsLinkedPublicly xs) (IsLinkedPublicly (xs ++ x ∷ [])) a b (public_front xs x)
     (λ k h. elim (public_cases xs x k h) [ inl old ↦ old | inr new ↦ absurd (let e = sym is ∙ new.1 in let bad : false ≡ true = e in cc) ]) f)
 
-pub public_all : (links : List Link) (i : ℕ) (a b : Seen) → length links ≤ i → MarksMore (IsLinkedPublicly (take i links)) a b → MarksMore (IsLinkedPublicly links) a b
-public_all links i a b l f = subst (λ (ls : List Link). MarksMore (IsLinkedPublicly ls) a b) (take_all i links l) f
+pub public_all : (links : List ImportLink) (i : ℕ) (a b : SeenFiles) → length links ≤ i → HasSeenMore (IsLinkedPublicly (take i links)) a b → HasSeenMore (IsLinkedPublicly links) a b
+public_all links i a b l f = subst (λ (ls : List ImportLink). HasSeenMore (IsLinkedPublicly ls) a b) (take_all i links l) f
 
 -- ---- the indices that are marked
 
 pub record PlacesBefore (marks : List Bool) (i : ℕ) (places : List ℕ) : Type 0 where
   pub those : (k : ℕ) → (Contains places k → (k < i) × (slice_get marks k ≡ Some true)) × ((k < i) × (slice_get marks k ≡ Some true) → Contains places k)
-  pub ascend : Ascends ◌<◌ places
+  pub ascend : IsAscendingBy ◌<◌ places
 
 pub places_none : (marks : List Bool) (places : List ℕ) → places ≡ [] → PlacesBefore marks 0 places
 places_none marks places e = subst (PlacesBefore marks 0) (sym e) (record {
@@ -247,15 +247,15 @@ none_marked zero k e = cc
 none_marked (suc n) zero e = let bad : Some false ≡ Some true = e in let worse : false ≡ true = same_Some false true bad in cc
 none_marked (suc n) (suc k) e = none_marked n k e
 
-pub links_within : {set' : List Member} {i : ℕ} {links : List Link} → AreLinks set' i links → (n : ℕ) → n ≡ length set' → All (λ l. l.file < n) links
+pub links_within : {set' : List ParsedFile} {i : ℕ} {links : List ImportLink} → AreLinks set' i links → (n : ℕ) → n ≡ length set' → All (λ l. l.file < n) links
 links_within {set'} {i} {links} h n e = λ k d l.
     omega (arith, link_file (link_leads h k (get_or links k d) (slice_get-get_or links k d l)))
 
-pub sees_start : (set' : List Member) (i n : ℕ) (links : List Link) (a b c : Seen) → ArePathsApart set'
+pub sees_start : (set' : List ParsedFile) (i n : ℕ) (links : List ImportLink) (a b c : SeenFiles) → ArePathsApart set'
     → n ≡ length set' → AreLinks set' i links → a.marks.items ≡ replicate n false → a.next.items ≡ []
-    → MarksMore (λ k. k ≡ i) a b → MarksMore (IsLinked links) b c → SeesSoFar set' i c
+    → HasSeenMore (λ k. k ≡ i) a b → HasSeenMore (IsLinked links) b c → IsSeenSoFar set' i c
 sees_start set' i n links a b c own count known marks next one all =
-    let alone : (j : ℕ) → IsMarked c j → ((j ≡ i) ⊎ IsLinked links j) × Contains c.next.items j =
+    let alone : (j : ℕ) → IsSeenFile c j → ((j ≡ i) ⊎ IsLinked links j) × Contains c.next.items j =
     λ j m. elim (all.alone j m) [
       | inl before ↦ elim (one.alone j before) [
         | inl older ↦ absurd (none_marked n j (sym (ap (λ (bs : List Bool). slice_get bs j) marks) ∙ older))
@@ -263,10 +263,10 @@ sees_start set' i n links a b c own count known marks next one all =
       ]
       | inr new ↦ (inr new.0, new.1)
     ] in
-    let sees : (j : ℕ) → (j ≡ i) ⊎ IsLinked links j → Sees set' i j =
+    let sees : (j : ℕ) → (j ≡ i) ⊎ IsLinked links j → IsVisible set' i j =
     λ j h. elim h [
-      | inl same ↦ subst (Sees set' i) (sym same) itself
-      | inr link ↦ subst (Sees set' i) link.3 (imported (link_leads known link.0 link.1 link.2))
+      | inl same ↦ subst (IsVisible set' i) (sym same) itself
+      | inr link ↦ subst (IsVisible set' i) link.3 (imported (link_leads known link.0 link.1 link.2))
     ] in
     let total : length c.marks.items ≡ length set' = all.count ∙ one.count ∙ ap length marks ∙ length-replicate n false ∙ count in
     record {
@@ -290,15 +290,15 @@ front_within : (xs : List ℕ) (x n : ℕ) → All (λ k. k < n) (xs ++ x ∷ []
 front_within xs x n h = λ k d l.
     subst (λ (y : ℕ). y < n) (get_or_append_left xs (x ∷ []) d k l) (h k d (omega (arith, length_push xs x)))
 
-pub sees_more : (set' : List Member) (i j : ℕ) (links : List Link) (old popped new : Seen) → ArePathsApart set'
+pub sees_more : (set' : List ParsedFile) (i j : ℕ) (links : List ImportLink) (old popped new : SeenFiles) → ArePathsApart set'
     → AreLinks set' j links → popped.marks.items ≡ old.marks.items → old.next.items ≡ popped.next.items ++ j ∷ []
-    → MarksMore (IsLinkedPublicly links) popped new → SeesSoFar set' i old → SeesSoFar set' i new
+    → HasSeenMore (IsLinkedPublicly links) popped new → IsSeenSoFar set' i old → IsSeenSoFar set' i new
 sees_more set' i j links old popped new own known marks next more h =
-    let was : (k : ℕ) → IsMarked old k → IsMarked popped k = λ k m. ap (λ (bs : List Bool). slice_get bs k) marks ∙ m in
-    let is : (k : ℕ) → IsMarked popped k → IsMarked old k = λ k m. sym (ap (λ (bs : List Bool). slice_get bs k) marks) ∙ m in
-    let here : Sees set' i j = h.waiting j (subst (λ (ks : List ℕ). Contains ks j) (sym next) (Contains-push popped.next.items j)) in
-    let sees : (k : ℕ) → IsLinkedPublicly links k → Sees set' i k =
-    λ k l. subst (Sees set' i) l.4 (publicly here (link_public known l.0 l.1 l.2 l.3)) in
+    let was : (k : ℕ) → IsSeenFile old k → IsSeenFile popped k = λ k m. ap (λ (bs : List Bool). slice_get bs k) marks ∙ m in
+    let is : (k : ℕ) → IsSeenFile popped k → IsSeenFile old k = λ k m. sym (ap (λ (bs : List Bool). slice_get bs k) marks) ∙ m in
+    let here : IsVisible set' i j = h.waiting j (subst (λ (ks : List ℕ). Contains ks j) (sym next) (Contains-push popped.next.items j)) in
+    let sees : (k : ℕ) → IsLinkedPublicly links k → IsVisible set' i k =
+    λ k l. subst (IsVisible set' i) l.4 (publicly here (link_public known l.0 l.1 l.2 l.3)) in
     let total : length new.marks.items ≡ length set' = more.count ∙ ap length marks ∙ h.count in
     record {
       count = total;
@@ -311,7 +311,7 @@ sees_more set' i j links old popped new own known marks next more h =
           | inr waits ↦ elim (Contains-push_cases popped.next.items j a (subst (λ (ks : List ℕ). Contains ks a) next waits)) [
             | inl still ↦ inr (more.waits a still)
             | inr same ↦
-                let lead : LeadsPublicly set' j n k = subst (λ (x : ℕ). LeadsPublicly set' x n k) (sym same) l in
+                let lead : IsPublicImport set' j n k = subst (λ (x : ℕ). IsPublicImport set' x n k) (sym same) l in
                 let link = link_of own known lead.leads in
                 inl (more.those k (n, link.link, link.at, link.public_is ∙ lead.is_public, link.file))
           ]
@@ -327,7 +327,7 @@ sees_more set' i j links old popped new own known marks next more h =
           (front_within popped.next.items j (length set') (subst (λ (ks : List ℕ). All (λ k. k < length set') ks) next h.within))));
     }
 
-pub sees_all : (set' : List Member) (i : ℕ) (s : Seen) → SeesSoFar set' i s → s.next.items ≡ [] → (j : ℕ) → Sees set' i j → IsMarked s j
+pub sees_all : (set' : List ParsedFile) (i : ℕ) (s : SeenFiles) → IsSeenSoFar set' i s → s.next.items ≡ [] → (j : ℕ) → IsVisible set' i j → IsSeenFile s j
 sees_all set' i s h e j itself = h.start
 sees_all set' i s h e j (imported {n = n} l) = h.imported n j l
 sees_all set' i s h e k (publicly {j = j} {n = n} seen l) = elim (h.closed j n k (sees_all set' i s h e j seen) l) [
@@ -335,9 +335,9 @@ sees_all set' i s h e k (publicly {j = j} {n = n} seen l) = elim (h.closed j n k
   | inr waits ↦ absurd (no_element (subst (λ (ks : List ℕ). Contains ks j) e waits))
 ]
 
-pub seen_is : (set' : List Member) (i : ℕ) (s : Seen) (places : List ℕ) → SeesSoFar set' i s → s.next.items ≡ []
-    → ((k : ℕ) → (Contains places k → IsMarked s k) × (IsMarked s k → Contains places k)) → Ascends ◌<◌ places
-    → AreSeen set' i places
+pub seen_is : (set' : List ParsedFile) (i : ℕ) (s : SeenFiles) (places : List ℕ) → IsSeenSoFar set' i s → s.next.items ≡ []
+    → ((k : ℕ) → (Contains places k → IsSeenFile s k) × (IsSeenFile s k → Contains places k)) → IsAscendingBy ◌<◌ places
+    → AreVisible set' i places
 seen_is set' i s places h e those ascend = record {
   those = λ j. (λ c. h.sound j ((those j).0 c), λ v. (those j).1 (sees_all set' i s h e j v));
   ascend = ascend;

@@ -12,7 +12,7 @@ use Rattle.std.proofs.lemmas.Cmp.{tied_itself, nat_list_cmp_total}
 use Rattle.std.proofs.lemmas.List.Edits.{swapped_from_swap, length-swap}
 use Rattle.std.proofs.lemmas.List.Sorted.{IsPermutation-keeps}
 use Rattle.std.proofs.lemmas.Option.{slice_get-get_or}
-use Rattle.mrpc_table.specs.Valid.{Ascends, AreDistinct, IsBelow}
+use Rattle.mrpc_table.specs.Valid.{IsAscendingBy, AreDistinct, IsBelow}
 use Rattle.proto_set.proofs.Visited.{cons_here, cons_more, cons_cases}
 use Rattle.proto_set.proofs.Walked.{Once}
 
@@ -72,26 +72,26 @@ apart_moved xs ys p h = IsPermutation-keeps xs (λ zs. AreApart zs) h (λ zs a b
 -- ---- each one in relation to the next
 
 pub ascends_from : {X : Type 0} (R : X → X → Type 0) (xs : List X)
-    → ((k : ℕ) (d : X) → suc k < length xs → R (get_or xs k d) (get_or xs (suc k) d)) → Ascends R xs
+    → ((k : ℕ) (d : X) → suc k < length xs → R (get_or xs k d) (get_or xs (suc k) d)) → IsAscendingBy R xs
 ascends_from R [] h = tt
 ascends_from R (x ∷ []) h = tt
 ascends_from R (x ∷ y ∷ xs) h =
     (h 0 x (omega arith), ascends_from R (y ∷ xs) (λ k d l. h (suc k) d (omega arith)))
 
 pub ascends_past : {X : Type 0} (R : X → X → Type 0) → ((x y z : X) → R x y → R y z → R x z) → (x : X) (xs : List X)
-    → Ascends R (x ∷ xs) → (k : ℕ) (d : X) → k < length xs → R x (get_or xs k d)
+    → IsAscendingBy R (x ∷ xs) → (k : ℕ) (d : X) → k < length xs → R x (get_or xs k d)
 ascends_past R trans x [] h k d l = absurd (omega arith)
 ascends_past R trans x (y ∷ xs) h zero d l = h.0
 ascends_past R trans x (y ∷ xs) h (suc k) d l =
     trans x y (get_or xs k d) h.0 (ascends_past R trans y xs h.1 k d (omega arith))
 
-pub ascends_rest : {X : Type 0} (R : X → X → Type 0) (x : X) (xs : List X) → Ascends R (x ∷ xs) → Ascends R xs
+pub ascends_rest : {X : Type 0} (R : X → X → Type 0) (x : X) (xs : List X) → IsAscendingBy R (x ∷ xs) → IsAscendingBy R xs
 ascends_rest R x [] h = tt
 ascends_rest R x (y ∷ xs) h = h.1
 
 -- a list that ascends by a strict order has no repeated element
 pub ascends_apart : {X : Type 0} (R : X → X → Type 0) → ((x y z : X) → R x y → R y z → R x z)
-    → ((x : X) → R x x → ⊥) → (xs : List X) → Ascends R xs → AreApart xs
+    → ((x : X) → R x x → ⊥) → (xs : List X) → IsAscendingBy R xs → AreApart xs
 ascends_apart R trans strict [] h i j d a b e = absurd (omega arith)
 ascends_apart R trans strict (x ∷ xs) h zero zero d a b e = refl
 ascends_apart R trans strict (x ∷ xs) h zero (suc j) d a b e =
@@ -134,11 +134,11 @@ once_apart xs once i j d a b e =
 
 -- the first element is the least
 pub first_is_least : {X : Type 0} (R : X → X → Type 0) → ((x y z : X) → R x y → R y z → R x z) → (x : X) (xs : List X)
-    → Ascends R (x ∷ xs) → (y : X) → Contains xs y → R x y
+    → IsAscendingBy R (x ∷ xs) → (y : X) → Contains xs y → R x y
 first_is_least {X} R trans x xs h y c = subst (R x) c.2 (ascends_past R trans x xs h c.0 y c.1)
 
 same_first : {X : Type 0} (R : X → X → Type 0) → ((x y z : X) → R x y → R y z → R x z) → ((x : X) → R x x → ⊥)
-    → (x y : X) (xs ys : List X) → Ascends R (x ∷ xs) → Ascends R (y ∷ ys) → Contains (y ∷ ys) x → Contains (x ∷ xs) y
+    → (x y : X) (xs ys : List X) → IsAscendingBy R (x ∷ xs) → IsAscendingBy R (y ∷ ys) → Contains (y ∷ ys) x → Contains (x ∷ xs) y
     → x ≡ y
 same_first R trans strict x y xs ys h k cx cy = elim (cons_cases y ys x cx) [
   | inl e ↦ sym e
@@ -149,7 +149,7 @@ same_first R trans strict x y xs ys h k cx cy = elim (cons_cases y ys x cx) [
 ]
 
 rest_contains : {X : Type 0} (R : X → X → Type 0) → ((x y z : X) → R x y → R y z → R x z) → ((x : X) → R x x → ⊥)
-    → (x y : X) (xs ys : List X) → Ascends R (x ∷ xs) → x ≡ y → ((z : X) → Contains (x ∷ xs) z → Contains (y ∷ ys) z)
+    → (x y : X) (xs ys : List X) → IsAscendingBy R (x ∷ xs) → x ≡ y → ((z : X) → Contains (x ∷ xs) z → Contains (y ∷ ys) z)
     → (z : X) → Contains xs z → Contains ys z
 rest_contains {X} R trans strict x y xs ys h e all z c = elim (cons_cases y ys z (all z (cons_more x xs z c))) [
   | inl same ↦ absurd (strict x (subst (R x) (sym (e ∙ same)) (first_is_least R trans x xs h z c)))
@@ -157,7 +157,7 @@ rest_contains {X} R trans strict x y xs ys h e all z c = elim (cons_cases y ys z
 ]
 
 pub ascends_same : {X : Type 0} (R : X → X → Type 0) → ((x y z : X) → R x y → R y z → R x z) → ((x : X) → R x x → ⊥)
-    → (xs ys : List X) → Ascends R xs → Ascends R ys → ((z : X) → Contains xs z → Contains ys z)
+    → (xs ys : List X) → IsAscendingBy R xs → IsAscendingBy R ys → ((z : X) → Contains xs z → Contains ys z)
     → ((z : X) → Contains ys z → Contains xs z) → xs ≡ ys
 ascends_same R trans strict [] [] h k to from = refl
 ascends_same R trans strict [] (y ∷ ys) h k to from = absurd (let c = from y (cons_here y ys) in let l : c.0 < 0 = c.1 in omega arith)
@@ -170,7 +170,7 @@ ascends_same {X} R trans strict (x ∷ xs) (y ∷ ys) h k to from =
     cc
 
 -- one more element at the end
-pub ascends_push : (xs : List ℕ) (x : ℕ) → ((k : ℕ) → Contains xs k → k < x) → Ascends ◌<◌ xs → Ascends ◌<◌ (xs ++ x ∷ [])
+pub ascends_push : (xs : List ℕ) (x : ℕ) → ((k : ℕ) → Contains xs k → k < x) → IsAscendingBy ◌<◌ xs → IsAscendingBy ◌<◌ (xs ++ x ∷ [])
 ascends_push [] x below h = tt
 ascends_push (y ∷ []) x below h = (below y (cons_here y []), tt)
 ascends_push (y ∷ z ∷ zs) x below h = (h.0, ascends_push (z ∷ zs) x (λ k c. below k (cons_more y (z ∷ zs) k c)) h.1)

@@ -14,38 +14,38 @@ use Rattle.proto_ast.specs.declared.file.RpcDecl.{RpcDecl}
 use Rattle.proto_ast.specs.declared.file.ServiceDecl.{ServiceDecl}
 use Rattle.proto_ast.specs.declared.file.File.{File}
 use Rattle.proto_ast.specs.declared.joined.Head.{Head}
-use Rattle.proto_ast.specs.Order.{Part as Piece, IsOfField, field_type, map_key, map_value, outer_key, field_name}
+use Rattle.proto_ast.specs.Order.{DeclPart as Piece, IsOfField, field_type, map_key, map_value, outer_key, field_name}
 use Rattle.proto_ast.specs.Order.{field_number, IsOfValue, value_name, value_number, IsOfRpc, rpc_name, rpc_input}
-use Rattle.proto_ast.specs.Order.{rpc_output, Declaration as Own, package_decl as own_package}
+use Rattle.proto_ast.specs.Order.{rpc_output, DeclIndex as Own, package_decl as own_package}
 use Rattle.proto_ast.specs.Order.{message_decl as own_message, field_decl as own_field, oneof_decl as own_oneof}
 use Rattle.proto_ast.specs.Order.{enum_decl as own_enum, value_decl as own_value, service_decl as own_service}
-use Rattle.proto_ast.specs.Order.{rpc_decl as own_rpc, StandsAt as OwnStandsAt, package_name as own_package_at}
+use Rattle.proto_ast.specs.Order.{rpc_decl as own_rpc, IsPartSpan as OwnStandsAt, package_name as own_package_at}
 use Rattle.proto_ast.specs.Order.{import as own_import_at, message as own_message_at, field as own_field_at}
 use Rattle.proto_ast.specs.Order.{oneof as own_oneof_at, enum as own_enum_at, value as own_value_at}
-use Rattle.proto_ast.specs.Order.{service as own_service_at, rpc as own_rpc_at, Precedes as OwnPrecedes}
+use Rattle.proto_ast.specs.Order.{service as own_service_at, rpc as own_rpc_at, IsAlwaysBefore as OwnPrecedes}
 use Rattle.proto_ast.specs.Order.{messages as own_messages, enums as own_enums, services as own_services}
 use Rattle.proto_ast.specs.Order.{fields as own_fields, oneofs as own_oneofs, values as own_values, rpcs as own_rpcs}
 use Rattle.proto_ast.specs.Order.{in_message as own_in_message, oneof_in_message as own_oneof_in_message}
 use Rattle.proto_ast.specs.Order.{in_enum as own_in_enum, in_service as own_in_service}
-use Rattle.proto_ast.specs.Together.{Declaration, package_decl, message_decl, field_decl, oneof_decl, enum_decl}
-use Rattle.proto_ast.specs.Together.{value_decl, service_decl, rpc_decl, StandsAt, package_name, message, field}
-use Rattle.proto_ast.specs.Together.{oneof, enum, value, service, rpc, Precedes, messages, enums, services, fields}
+use Rattle.proto_ast.specs.Together.{DeclIndex, package_decl, message_decl, field_decl, oneof_decl, enum_decl}
+use Rattle.proto_ast.specs.Together.{value_decl, service_decl, rpc_decl, IsPartSpan, package_name, message, field}
+use Rattle.proto_ast.specs.Together.{oneof, enum, value, service, rpc, IsAlwaysBefore, messages, enums, services, fields}
 use Rattle.proto_ast.specs.Together.{oneofs, values, rpcs, in_message, oneof_in_message, in_enum, in_service}
-use Rattle.proto_set.specs.declared.part.Part.{Part}
-use Rattle.proto_set.specs.Joining.{nothing, heads_of, joined}
+use Rattle.proto_set.specs.declared.linked_file.LinkedFile.{LinkedFile}
+use Rattle.proto_set.specs.Joining.{before_first_file, heads_of, joined}
 use Rattle.proto_set.specs.Shifted.{shift_span, shift_word, shift_type, shift_field, shift_value, shift_rpc, shift_message, shift_enum, shift_service, shift_head}
 use Rattle.proto_ast.specs.Within.{IsSpanWithin, IsWordWithin, IsTypeWithin, IsFieldWithin, IsMessageWithin, IsValueWithin, IsEnumWithin, IsRpcWithin, IsServiceWithin, IsWithin}
 use Rattle.proto_set.proofs.Finding.{start, one_start, start_order, start-one, before_at, size_of, messages_of, bytes_here, got_of_all, got_of_map, found}
 
-abbrev pub enums_of : Part → ℕ
+abbrev pub enums_of : LinkedFile → ℕ
 enums_of p = length p.file.enums
 
-abbrev pub services_of : Part → ℕ
+abbrev pub services_of : LinkedFile → ℕ
 services_of p = length p.file.services
 
 -- ---- a declaration of the file with an index, among those of all files
 
-pub data Moved (ps : List Part) (j : ℕ) (p : Part) : Own → Declaration → Type 0 where
+pub data Moved (ps : List LinkedFile) (j : ℕ) (p : LinkedFile) : Own → DeclIndex → Type 0 where
   of_package : (i : ℕ) → i ≡ j → Moved ps j p own_package (package_decl i)
   of_message : (a i : ℕ) → a < messages_of p → i ≡ start messages_of ps j + a → Moved ps j p (own_message a) (message_decl i)
   of_field : (a i c : ℕ) → a < messages_of p → i ≡ start messages_of ps j + a → Moved ps j p (own_field a c) (field_decl i c)
@@ -55,9 +55,9 @@ pub data Moved (ps : List Part) (j : ℕ) (p : Part) : Own → Declaration → T
   of_service : (a i : ℕ) → a < services_of p → i ≡ start services_of ps j + a → Moved ps j p (own_service a) (service_decl i)
   of_rpc : (a i c : ℕ) → a < services_of p → i ≡ start services_of ps j + a → Moved ps j p (own_rpc a c) (rpc_decl i c)
 
-pub record Located (ps : List Part) (s : Span) (x : Declaration) (piece : Piece) : Type 0 where
+pub record Located (ps : List LinkedFile) (s : Span) (x : DeclIndex) (piece : Piece) : Type 0 where
   pub file : ℕ
-  pub part : Part
+  pub part : LinkedFile
   pub own : Own
   pub span : Span
   pub there : slice_get ps file ≡ Some part
@@ -119,14 +119,14 @@ head_item x y (suc i) e = absurd (none-some y e)
 
 -- ---- a span of the joined files
 
-here : (ps : List Part) (j : ℕ) (s t : Span) → s ≡ shift_span (before_at nothing ps j).bytes t → s ≡ shift_span (start size_of ps j) t
+here : (ps : List LinkedFile) (j : ℕ) (s t : Span) → s ≡ shift_span (before_at before_first_file ps j).bytes t → s ≡ shift_span (start size_of ps j) t
 here ps j s t e = e ∙ ap (λ n. shift_span n t) (bytes_here ps j)
 
-pub located : (ps : List Part) (s : Span) (x : Declaration) (piece : Piece) → StandsAt (joined ps) s x piece → Located ps s x piece
+pub located : (ps : List LinkedFile) (s : Span) (x : DeclIndex) (piece : Piece) → IsPartSpan (joined ps) s x piece → Located ps s x piece
 located ps s x piece (package_name k h w e eh es) =
-    let f = found shift_head heads_of nothing ps k h e in
+    let f = found shift_head heads_of before_first_file ps k h e in
     let one = head_item (record { «package» = f.part.file.package; sees = f.part.sees }) f.own f.place f.item in
-    let n = (before_at nothing ps f.file).bytes in
+    let n = (before_at before_first_file ps f.file).bytes in
     let b = package_back n f.part.file.package w
     (ap (λ (d : Head). option_map (shift_word n) d.package) one.1 ∙ sym (ap (λ (d : Head). d.package) f.is) ∙ eh) in
     record {
@@ -140,7 +140,7 @@ located ps s x piece (package_name k h w e eh es) =
       shifted = here ps f.file s b.0.span (es ∙ ap (λ (v : Word). v.span) b.2);
     }
 located ps s x piece (message i m e es) =
-    let f = found shift_message (λ p. p.file.messages) nothing ps i m e in
+    let f = found shift_message (λ p. p.file.messages) before_first_file ps i m e in
     record {
       file = f.file;
       part = f.part;
@@ -152,8 +152,8 @@ located ps s x piece (message i m e es) =
       shifted = here ps f.file s f.own.name.span (es ∙ ap (λ (d : MessageDecl). d.name.span) f.is);
     }
 located ps s x piece (field i c m d e ed es) =
-    let f = found shift_message (λ p. p.file.messages) nothing ps i m e in
-    let n = (before_at nothing ps f.file).bytes in
+    let f = found shift_message (λ p. p.file.messages) before_first_file ps i m e in
+    let n = (before_at before_first_file ps f.file).bytes in
     let g = got_of_map (shift_field n) f.own.fields c d (ap (λ (l : MessageDecl). slice_get l.fields c) (sym f.is) ∙ ed) in
     let b = field_back n g.0 s piece (subst (λ (y : FieldDecl). IsOfField y s piece) g.2 es) in
     record {
@@ -167,8 +167,8 @@ located ps s x piece (field i c m d e ed es) =
       shifted = here ps f.file s b.0 b.2;
     }
 located ps s x piece (oneof i c m o e eo es) =
-    let f = found shift_message (λ p. p.file.messages) nothing ps i m e in
-    let n = (before_at nothing ps f.file).bytes in
+    let f = found shift_message (λ p. p.file.messages) before_first_file ps i m e in
+    let n = (before_at before_first_file ps f.file).bytes in
     let g = got_of_map (shift_word n) f.own.oneofs c o (ap (λ (l : MessageDecl). slice_get l.oneofs c) (sym f.is) ∙ eo) in
     record {
       file = f.file;
@@ -181,7 +181,7 @@ located ps s x piece (oneof i c m o e eo es) =
       shifted = here ps f.file s g.0.span (es ∙ ap (λ (w : Word). w.span) g.2);
     }
 located ps s x piece (enum i m e es) =
-    let f = found shift_enum (λ p. p.file.enums) nothing ps i m e in
+    let f = found shift_enum (λ p. p.file.enums) before_first_file ps i m e in
     record {
       file = f.file;
       part = f.part;
@@ -193,8 +193,8 @@ located ps s x piece (enum i m e es) =
       shifted = here ps f.file s f.own.name.span (es ∙ ap (λ (d : EnumDecl). d.name.span) f.is);
     }
 located ps s x piece (value i c m v e ev es) =
-    let f = found shift_enum (λ p. p.file.enums) nothing ps i m e in
-    let n = (before_at nothing ps f.file).bytes in
+    let f = found shift_enum (λ p. p.file.enums) before_first_file ps i m e in
+    let n = (before_at before_first_file ps f.file).bytes in
     let g = got_of_map (shift_value n) f.own.values c v (ap (λ (l : EnumDecl). slice_get l.values c) (sym f.is) ∙ ev) in
     let b = value_back n g.0 s piece (subst (λ (y : ValueDecl). IsOfValue y s piece) g.2 es) in
     record {
@@ -208,7 +208,7 @@ located ps s x piece (value i c m v e ev es) =
       shifted = here ps f.file s b.0 b.2;
     }
 located ps s x piece (service i m e es) =
-    let f = found shift_service (λ p. p.file.services) nothing ps i m e in
+    let f = found shift_service (λ p. p.file.services) before_first_file ps i m e in
     record {
       file = f.file;
       part = f.part;
@@ -220,8 +220,8 @@ located ps s x piece (service i m e es) =
       shifted = here ps f.file s f.own.name.span (es ∙ ap (λ (d : ServiceDecl). d.name.span) f.is);
     }
 located ps s x piece (rpc i c m r e er es) =
-    let f = found shift_service (λ p. p.file.services) nothing ps i m e in
-    let n = (before_at nothing ps f.file).bytes in
+    let f = found shift_service (λ p. p.file.services) before_first_file ps i m e in
+    let n = (before_at before_first_file ps f.file).bytes in
     let g = got_of_map (shift_rpc n) f.own.rpcs c r (ap (λ (l : ServiceDecl). slice_get l.rpcs c) (sym f.is) ∙ er) in
     let b = rpc_back n g.0 s piece (subst (λ (y : RpcDecl). IsOfRpc y s piece) g.2 es) in
     record {
@@ -259,7 +259,7 @@ rpc_within size r s piece w (rpc_output h) = subst (IsSpanWithin size) (sym h) w
 some_within : (size : ℕ) (o : Option Word) (w : Word) → IfSome o (IsWordWithin size) → o ≡ Some w → IsWordWithin size w
 some_within size o w all e = let P : Option Word → Type 0 = λ v. IfSome v (IsWordWithin size) in subst P e all
 
-pub stands_within : (ps : List Part) (j : ℕ) (p : Part) (size : ℕ) (F : File) (y : Own) (x : Declaration) (piece : Piece) (t : Span)
+pub stands_within : (ps : List LinkedFile) (j : ℕ) (p : LinkedFile) (size : ℕ) (F : File) (y : Own) (x : DeclIndex) (piece : Piece) (t : Span)
     → Moved ps j p y x → IsWithin size F → OwnStandsAt F t y piece → IsSpanWithin size t
 stands_within ps j p size F y x piece t moved w (own_package_at v e h) =
     subst (IsSpanWithin size) (sym h) (some_within size F.package v w.package_name e)
@@ -286,7 +286,7 @@ stands_within ps j p size F y x piece t moved w (own_rpc_at i c m r e er h) =
 -- ---- two declarations of the joined files
 
 -- a joined declaration comes from one file and one declaration there
-pub same_own : (ps : List Part) (j k : ℕ) (p q : Part) (y z : Own) (x : Declaration) → slice_get ps j ≡ Some p → slice_get ps k ≡ Some q
+pub same_own : (ps : List LinkedFile) (j k : ℕ) (p q : LinkedFile) (y z : Own) (x : DeclIndex) → slice_get ps j ≡ Some p → slice_get ps k ≡ Some q
     → Moved ps j p y x → Moved ps k q z x → (j ≡ k) × (y ≡ z)
 same_own ps j k p q y z x at_j at_k (of_package i e) (of_package _ f) = (sym e ∙ f, refl)
 same_own ps j k p q y z x at_j at_k (of_message a i l e) (of_message b _ m f) =
@@ -305,7 +305,7 @@ same_own ps j k p q y z x at_j at_k (of_rpc a i c l e) (of_rpc b _ _ m f) =
     let s = one_start services_of ps j k p q a b at_j at_k l m (sym e ∙ f) in (s.0, ap (λ n. own_rpc n c) s.1)
 
 -- a declaration of a file becomes one joined declaration
-pub same_moved : (ps : List Part) (j : ℕ) (p : Part) (y : Own) (x w : Declaration) → Moved ps j p y x → Moved ps j p y w → x ≡ w
+pub same_moved : (ps : List LinkedFile) (j : ℕ) (p : LinkedFile) (y : Own) (x w : DeclIndex) → Moved ps j p y x → Moved ps j p y w → x ≡ w
 same_moved ps j p y x w (of_package i e) (of_package k f) = ap package_decl (e ∙ sym f)
 same_moved ps j p y x w (of_message a i l e) (of_message _ k m f) = ap message_decl (e ∙ sym f)
 same_moved ps j p y x w (of_field a i c l e) (of_field _ k _ m f) = ap (λ n. field_decl n c) (e ∙ sym f)
@@ -319,7 +319,7 @@ same_moved ps j p y x w (of_rpc a i c l e) (of_rpc _ k _ m f) = ap (λ n. rpc_de
 abbrev pub InOrder : (j k : ℕ) (y z : Own) → Type 0
 InOrder j k y z = (j < k) ⊎ ((j ≡ k) × OwnPrecedes y z)
 
-later : (f : Part → ℕ) (ps : List Part) (j k : ℕ) (p q : Part) (a b i h : ℕ) (y z : Own) → slice_get ps j ≡ Some p → slice_get ps k ≡ Some q
+later : (f : LinkedFile → ℕ) (ps : List LinkedFile) (j k : ℕ) (p q : LinkedFile) (a b i h : ℕ) (y z : Own) → slice_get ps j ≡ Some p → slice_get ps k ≡ Some q
     → a < f p → b < f q → i ≡ start f ps j + a → h ≡ start f ps k + b → i < h → (a < b → OwnPrecedes y z) → InOrder j k y z
 later f ps j k p q a b i h y z at_j at_k l m e g less then =
     elim (start_order f ps j k p q a b at_j at_k l m (omega arith)) [
@@ -327,8 +327,8 @@ later f ps j k p q a b i h y z at_j at_k l m e g less then =
       | inr o ↦ inr (o.0, then o.1)
     ]
 
-pub own_precedes : (ps : List Part) (j k : ℕ) (p q : Part) (y z : Own) (x w : Declaration) → slice_get ps j ≡ Some p → slice_get ps k ≡ Some q
-    → Precedes x w → Moved ps j p y x → Moved ps k q z w → InOrder j k y z
+pub own_precedes : (ps : List LinkedFile) (j k : ℕ) (p q : LinkedFile) (y z : Own) (x w : DeclIndex) → slice_get ps j ≡ Some p → slice_get ps k ≡ Some q
+    → IsAlwaysBefore x w → Moved ps j p y x → Moved ps k q z w → InOrder j k y z
 own_precedes ps j k p q y z x w at_j at_k (messages _ _ less) (of_message a i l e) (of_message b h m f) =
     later messages_of ps j k p q a b i h (own_message a) (own_message b) at_j at_k l m e f less (own_messages a b)
 own_precedes ps j k p q y z x w at_j at_k (enums _ _ less) (of_enum a i l e) (of_enum b h m f) =

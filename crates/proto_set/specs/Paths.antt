@@ -3,7 +3,7 @@ use Rattle.std.specs.Prelude.{◌≡◌, ◌≢◌, ℕ, ◌≤◌, ◌==◌, Bo
 use Rattle.std.specs.Prelude.{List, ◌∷◌, ◌++◌, length, All, AllPairs, Contains}
 use Rattle.std.specs.List.{list_all}
 use Rattle.mrpc_table.specs.Names.{is_name_byte}
-use Rattle.proto_set.specs.Bundle.{File, paths_of}
+use Rattle.proto_set.specs.Bundle.{BundledFile, paths_of}
 use Rattle.proto_set.specs.declared.limits.TheConstants.{MAX_PATH}
 
 -- a letter, a digit, `_`, `-`, `.` or `/`
@@ -16,21 +16,21 @@ pub record IsPath (path : List ℕ) : Type 0 where
   pub form : IsTrue (list_all is_path_byte path)
 
 -- the paths of these files are valid
-pub record HaveRightPaths (files : List File) : Type 0 where
+pub record HaveValidPaths (files : List BundledFile) : Type 0 where
   pub each : All IsPath (paths_of files)
   pub distinct : AllPairs (λ path later. later ≢ path) (paths_of files)
 
 -- a path is rejected after these files: it is invalid, or one of them has it
-pub data IsRefused (before : List File) (path : List ℕ) : Type 0 where
-  no_path : (IsPath path → ⊥) → IsRefused before path
-  second : Contains (paths_of before) path → IsRefused before path
+pub data IsRejectedPath (before : List BundledFile) (path : List ℕ) : Type 0 where
+  no_path : (IsPath path → ⊥) → IsRejectedPath before path
+  second : Contains (paths_of before) path → IsRejectedPath before path
 
 -- the path of the file at this index, from 0, is the first that is rejected
-pub record IsFirstRefused (files : List File) (place : ℕ) : Type 0 where
-  pub before : List File
-  pub file : File
-  pub later : List File
+pub record IsFirstRejected (files : List BundledFile) (place : ℕ) : Type 0 where
+  pub before : List BundledFile
+  pub file : BundledFile
+  pub later : List BundledFile
   pub order : files ≡ before ++ file ∷ later
-  pub right : HaveRightPaths before
-  pub refused : IsRefused before file.0
+  pub right : HaveValidPaths before
+  pub refused : IsRejectedPath before file.0
   pub number : place ≡ length before

@@ -14,7 +14,7 @@ use Rattle.proto_ast.specs.declared.file.EnumDecl.{EnumDecl}
 use Rattle.proto_ast.specs.declared.file.RpcDecl.{RpcDecl}
 use Rattle.proto_ast.specs.declared.file.ServiceDecl.{ServiceDecl}
 use Rattle.proto_ast.specs.declared.joined.Head.{Head}
-use Rattle.proto_set.specs.declared.part.Before.{Before}
+use Rattle.proto_set.specs.declared.linked_file.FileBase.{FileBase}
 
 -- ---- after this many bytes
 
@@ -55,10 +55,10 @@ shift_rpc bytes r = record {
 -- ---- after other files
 
 -- the index of the enclosing message
-abbrev pub shift_parent : Before → Option ℕ → Option ℕ
+abbrev pub shift_parent : FileBase → Option ℕ → Option ℕ
 shift_parent b parent = option_map (λ i. b.messages + i) parent
 
-abbrev pub shift_message : Before → MessageDecl → MessageDecl
+abbrev pub shift_message : FileBase → MessageDecl → MessageDecl
 shift_message b m = record {
   name = shift_word b.bytes m.name;
   file = b.files;
@@ -69,7 +69,7 @@ shift_message b m = record {
   names = map (shift_word b.bytes) m.names;
 }
 
-abbrev pub shift_enum : Before → EnumDecl → EnumDecl
+abbrev pub shift_enum : FileBase → EnumDecl → EnumDecl
 shift_enum b e = record {
   name = shift_word b.bytes e.name;
   file = b.files;
@@ -79,12 +79,12 @@ shift_enum b e = record {
   names = map (shift_word b.bytes) e.names;
 }
 
-abbrev pub shift_service : Before → ServiceDecl → ServiceDecl
+abbrev pub shift_service : FileBase → ServiceDecl → ServiceDecl
 shift_service b s = record {
   name = shift_word b.bytes s.name;
   file = b.files;
   rpcs = map (shift_rpc b.bytes) s.rpcs;
 }
 
-abbrev pub shift_head : Before → Head → Head
+abbrev pub shift_head : FileBase → Head → Head
 shift_head b h = record h { «package» = option_map (shift_word b.bytes) h.package }

@@ -1,33 +1,33 @@
 //! Declarations, placed after other files.
 
 ghost use Rattle.std.specs.Prelude.{◌≡◌, ℕ, ◌+◌, ◌<◌, ◌^◌, ◌++◌, All, map, IfSome, OnOk};
-ghost use Rattle.proto_set.specs.declared.part.Before.{Before};
+ghost use Rattle.proto_set.specs.declared.linked_file.FileBase.{FileBase};
 ghost use Rattle.proto_set.specs.Shifted.{shift_parent, shift_message, shift_enum, shift_service, shift_head};
 ghost use Rattle.proto_ast.specs.Within.{IsWordWithin};
-ghost use Rattle.proto_set.specs.Placing.{room_behind, CanPlaceMessage, CanPlaceEnum, CanPlaceService};
+ghost use Rattle.proto_set.specs.Placing.{room_after, CanPlaceMessage, CanPlaceEnum, CanPlaceService};
 
-use crate::part::Before;
+use crate::linked_file::FileBase;
 use crate::shift::{Shift, shift_all};
 use mrpc_table::{Memory, Sequence};
-use proto_ast::{EnumDecl, Head, MessageDecl, Places, ServiceDecl, Word};
+use proto_ast::{EnumDecl, FileIndices, Head, MessageDecl, ServiceDecl, Word};
 
 // A declaration that can be placed after other files.
-pub(crate) trait Declared: Drop {
-    ghost placed: { Before → Self → Self };
+pub(crate) trait Placeable: Drop {
+    ghost placed: { FileBase → Self → Self };
 
-    ghost can_place: { Before → Self → Type 0 };
+    ghost can_place: { FileBase → Self → Type 0 };
 
     // Places it after other files.
-    fn placed(self, before: Before) -> Self
+    fn placed(self, before: FileBase) -> Self
         requires { can_place before self }
         ensures { result ≡ placed before self };
 }
 
 // Appends declarations, each placed after other files.
-pub(crate) fn append_all<T: Declared>(
+pub(crate) fn append_all<T: Placeable>(
     all: &mut Sequence<T>,
     items: Sequence<T>,
-    before: Before,
+    before: FileBase,
 ) -> Result<(), Memory>
     requires { All (T.can_place before) items }
     ensures { OnOk result (all.new ≡ all.old ++ map (T.placed before) items) }
@@ -39,8 +39,8 @@ pub(crate) fn append_all<T: Declared>(
 }
 
 // The head of a file, placed after other files.
-pub(crate) fn placed_head(name: Option<Word>, sees: Places, before: Before) -> Head
-    requires { IfSome name (IsWordWithin (room_behind before.bytes)) }
+pub(crate) fn placed_head(name: Option<Word>, sees: FileIndices, before: FileBase) -> Head
+    requires { IfSome name (IsWordWithin (room_after before.bytes)) }
     ensures { result ≡ shift_head before (record { «package» = name; sees = sees }) }
 {
     let package = match name {
@@ -53,7 +53,7 @@ pub(crate) fn placed_head(name: Option<Word>, sees: Places, before: Before) -> H
     Head { package, sees }
 }
 
-fn placed_parent(parent: Option<usize>, before: Before) -> Option<usize>
+fn placed_parent(parent: Option<usize>, before: FileBase) -> Option<usize>
     requires { IfSome parent (λ i. before.messages + i < 2 ^ 64) }
     ensures { result ≡ shift_parent before parent }
 {
@@ -63,12 +63,12 @@ fn placed_parent(parent: Option<usize>, before: Before) -> Option<usize>
     }
 }
 
-impl Declared for MessageDecl {
+impl Placeable for MessageDecl {
     ghost placed = { shift_message };
 
     ghost can_place = { CanPlaceMessage };
 
-    fn placed(self, before: Before) -> MessageDecl {
+    fn placed(self, before: FileBase) -> MessageDecl {
         let MessageDecl {
             mut name,
             file: _,
@@ -91,12 +91,12 @@ impl Declared for MessageDecl {
     }
 }
 
-impl Declared for EnumDecl {
+impl Placeable for EnumDecl {
     ghost placed = { shift_enum };
 
     ghost can_place = { CanPlaceEnum };
 
-    fn placed(self, before: Before) -> EnumDecl {
+    fn placed(self, before: FileBase) -> EnumDecl {
         let EnumDecl {
             mut name,
             file: _,
@@ -117,12 +117,12 @@ impl Declared for EnumDecl {
     }
 }
 
-impl Declared for ServiceDecl {
+impl Placeable for ServiceDecl {
     ghost placed = { shift_service };
 
     ghost can_place = { CanPlaceService };
 
-    fn placed(self, before: Before) -> ServiceDecl {
+    fn placed(self, before: FileBase) -> ServiceDecl {
         let ServiceDecl {
             mut name,
             file: _,

@@ -3,18 +3,18 @@
 ghost use Rattle.std.specs.Prelude.{◌≡◌, ◌≤◌, ◌<◌, ℕ, MatchOption, IfSome, IfNone};
 ghost use Rattle.mrpc_table.specs.Lines.{in_64_bits};
 ghost use Rattle.proto_set.specs.BundleFaults.{HasNoHeader};
-ghost use Rattle.proto_set.specs.Packed.{file_of};
-ghost use Rattle.proto_set.specs.Parts.{HasHeader, HasFile, HasNoFile};
+ghost use Rattle.proto_set.specs.Named.{file_of};
+ghost use Rattle.proto_set.specs.ReaderParts.{HasHeader, HasFile, HasNoFile};
 
-use crate::packed::Packed;
-use mrpc_table::{Decimal, cut, number_of};
+use crate::named::Named;
+use mrpc_table::{Decimal, number_of, split_once};
 
 // The first bytes of a header line.
 const FILE: &[u8] = b"file ";
 
 // A header line, and the bytes after it.
 #[derive(Clone, Copy)]
-struct Header<'a> {
+struct FileHeader<'a> {
     path: &'a [u8],
     // The stated number of bytes of the file.
     size: Decimal,
@@ -23,31 +23,31 @@ struct Header<'a> {
 
 // The file at the start of the bytes, and the bytes after it. `None` if there is no header line, or fewer bytes
 // follow than it states.
-pub(crate) fn first_file(bytes: &[u8]) -> Option<(Packed<'_>, &[u8])>
+pub(crate) fn first_file(bytes: &[u8]) -> Option<(Named<'_>, &[u8])>
     ensures found { IfSome result (λ f. HasFile bytes.now (file_of f.0) f.1.now) }
     ensures none { IfNone result (HasNoFile bytes.now) }
 {
     let header = first_header(bytes)?;
     let size = within(header.size, header.behind.len())?;
-    let file = Packed {
+    let file = Named {
         path: header.path,
         text: &header.behind[..size],
     };
     Some((file, &header.behind[size..]))
 }
 
-fn first_header(bytes: &[u8]) -> Option<Header<'_>>
+fn first_header(bytes: &[u8]) -> Option<FileHeader<'_>>
     ensures found { IfSome result (λ h. HasHeader bytes.now h.path.now h.size h.behind.now) }
     ensures none { IfNone result (HasNoHeader bytes.now) }
 {
-    let (line, behind) = cut(bytes, b'\n')?;
+    let (line, behind) = split_once(bytes, b'\n')?;
     let words = line.strip_prefix(FILE)?;
-    let (path, size) = cut(words, b' ')?;
+    let (path, size) = split_once(words, b' ')?;
     if path.is_empty() {
         return None;
     }
     let size = number_of(size)?;
-    Some(Header { path, size, behind })
+    Some(FileHeader { path, size, behind })
 }
 
 // The count as a number of bytes, if that many are available.

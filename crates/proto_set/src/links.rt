@@ -2,33 +2,33 @@
 
 ghost use Rattle.std.specs.Prelude.{◌≡◌, ◌↔◌, ◌<◌, length, IsTrue, IfOk, IfErr, OnOk};
 ghost use Rattle.proto_ast.specs.declared.file.Import.{Import};
-ghost use Rattle.proto_set.specs.Leading.{HasImport};
+ghost use Rattle.proto_set.specs.Importing.{HasImport};
 ghost use Rattle.proto_set.specs.ImportFaults.{IsFaultOf};
-ghost use Rattle.proto_set.specs.Reaching.{HaveOwnPaths};
-ghost use Rattle.proto_set.specs.Linking.{KnowsPaths, AllLead, IsFree, IsFreeAt, IsFirstAt, IsFirstUnlessMemory, AreLinks};
+ghost use Rattle.proto_set.specs.Reaching.{HaveDistinctPaths};
+ghost use Rattle.proto_set.specs.Linking.{KnowsPaths, AllResolve, HasNoFaultOf, HasNoFaultOfAt, IsFirstFaultOfFile, IsFirstOrMemory, AreLinks};
 ghost use Rattle.proto_set.specs.Seeing.{IsLinked};
 
 use crate::import_fault::{ImportFault, ImportReason};
 use crate::paths::Paths;
-use crate::set::Member;
+use crate::set::ParsedFile;
 use mrpc_table::Sequence;
 use std::alloc::Global;
 use std::marker::Model;
 
 // The file that an import leads to.
 #[derive(Clone, Copy)]
-pub(crate) struct Link {
+pub(crate) struct ImportLink {
     // The index of the file that has its path.
     pub file: usize,
     pub public: bool,
 }
 
 // The links of a file's imports, in the order of their statements.
-pub(crate) type Links = Sequence<Link>;
+pub(crate) type ImportLinks = Sequence<ImportLink>;
 
 // The fault of an import.
 pub(crate) fn fault_at(
-    members: &[Member],
+    members: &[ParsedFile],
     reason: ImportReason,
     file: usize,
     n: usize,
@@ -41,19 +41,19 @@ pub(crate) fn fault_at(
 }
 
 // Looks for an import of a file whose path no file has.
-fn judge_missing<'a>(
-    members: &'a [Member],
+fn check_missing_in<'a>(
+    members: &'a [ParsedFile],
     paths: &Paths<'a>,
     file: usize,
 ) -> Result<(), ImportFault>
     requires here { file < length members.now }
     requires paths { KnowsPaths members.now paths.now }
-    ensures ok { OnOk result (IsFreeAt members.now ImportReason.Missing file) }
-    ensures fault { IfErr result (IsFirstAt members.now ImportReason.Missing file) }
+    ensures ok { OnOk result (HasNoFaultOfAt members.now ImportReason.Missing file) }
+    ensures fault { IfErr result (IsFirstFaultOfFile members.now ImportReason.Missing file) }
 {
     let imports = members[file].file.imports.as_slice();
     for n in 0..imports.len() {
-        if paths.place(imports[n].path.as_slice()).is_none() {
+        if paths.file_index(imports[n].path.as_slice()).is_none() {
             return Err(fault_at(members, ImportReason::Missing, file, n));
         }
     }
@@ -61,19 +61,22 @@ fn judge_missing<'a>(
 }
 
 // Looks for an import of the set whose path no file has.
-pub(crate) fn judge_all<'a>(members: &'a [Member], paths: &Paths<'a>) -> Result<(), ImportFault>
+pub(crate) fn check_missing<'a>(
+    members: &'a [ParsedFile],
+    paths: &Paths<'a>,
+) -> Result<(), ImportFault>
     requires { KnowsPaths members.now paths.now }
-    ensures ok { OnOk result (IsFree members.now ImportReason.Missing) }
+    ensures ok { OnOk result (HasNoFaultOf members.now ImportReason.Missing) }
     ensures fault { IfErr result (IsFaultOf members.now) }
 {
     for file in 0..members.len() {
-        judge_missing(members, paths, file)?;
+        check_missing_in(members, paths, file)?;
     }
     Ok(())
 }
 
 // True if one of some imports leads to a file.
-fn leads_to(links: &[Link], file: usize) -> bool
+fn leads_to(links: &[ImportLink], file: usize) -> bool
     ensures { IsTrue result ↔ IsLinked links.now file }
 {
     links.iter().any(|link| link.file == file)
@@ -82,27 +85,27 @@ fn leads_to(links: &[Link], file: usize) -> bool
 // The links of a file's imports, or the fault of the first repeated one.
 fn links_of<'a>(
     alloc: Global,
-    members: &'a [Member],
+    members: &'a [ParsedFile],
     paths: &Paths<'a>,
     file: usize,
-) -> Result<Links, ImportFault>
+) -> Result<ImportLinks, ImportFault>
     requires here { file < length members.now }
     requires paths { KnowsPaths members.now paths.now }
-    requires own { HaveOwnPaths members.now }
-    requires known { IsFreeAt members.now ImportReason.Missing file }
+    requires own { HaveDistinctPaths members.now }
+    requires known { HasNoFaultOfAt members.now ImportReason.Missing file }
     ensures links { IfOk result (AreLinks members.now file) }
-    ensures once { OnOk result (IsFreeAt members.now ImportReason.Twice file) }
-    ensures fault { IfErr result (IsFirstUnlessMemory members.now ImportReason.Twice file) }
+    ensures once { OnOk result (HasNoFaultOfAt members.now ImportReason.Twice file) }
+    ensures fault { IfErr result (IsFirstOrMemory members.now ImportReason.Twice file) }
 {
     let imports = members[file].file.imports.as_slice();
-    let mut links = Links::new(alloc);
+    let mut links = ImportLinks::new(alloc);
     for n in 0..imports.len() {
         let import = &imports[n];
-        let to = paths.place(import.path.as_slice()).unwrap();
+        let to = paths.file_index(import.path.as_slice()).unwrap();
         if leads_to(links.as_slice(), to) {
             return Err(fault_at(members, ImportReason::Twice, file, n));
         }
-        links.push(Link {
+        links.push(ImportLink {
             file: to,
             public: import.public,
         })?;
@@ -113,15 +116,15 @@ fn links_of<'a>(
 // The links of the imports of each file of a set. Clauses see the set.
 #[derive(Drop)]
 pub(crate) struct Graph<'a> {
-    members: &'a [Member],
-    links: Vec<Links>,
+    members: &'a [ParsedFile],
+    links: Vec<ImportLinks>,
 }
 
 impl<'a> Model for Graph<'a> {
     ghost use Rattle.std.specs.Prelude.{List};
-    ghost use Rattle.proto_set.specs.declared.set.Member.{Member};
+    ghost use Rattle.proto_set.specs.declared.set.ParsedFile.{ParsedFile};
 
-    ghost Value = { List Member };
+    ghost Value = { List ParsedFile };
 
     ghost use Rattle.proto_set.specs.Linking.{AreOf};
 
@@ -134,15 +137,15 @@ impl<'a> Graph<'a> {
     // The links of a set, or the fault of the first import that is repeated in its file.
     pub(crate) fn new(
         alloc: Global,
-        members: &'a [Member],
+        members: &'a [ParsedFile],
         paths: &Paths<'a>,
     ) -> Result<Graph<'a>, ImportFault>
         requires paths { KnowsPaths members.now paths.now }
-        requires own { HaveOwnPaths members.now }
-        requires known { IsFree members.now ImportReason.Missing }
+        requires own { HaveDistinctPaths members.now }
+        requires known { HasNoFaultOf members.now ImportReason.Missing }
         ensures graph { IfOk result (λ g. g ≡ members.now) }
-        ensures led { OnOk result (AllLead members.now) }
-        ensures once { OnOk result (IsFree members.now ImportReason.Twice) }
+        ensures led { OnOk result (AllResolve members.now) }
+        ensures once { OnOk result (HasNoFaultOf members.now ImportReason.Twice) }
         ensures fault { IfErr result (IsFaultOf members.now) }
     {
         let mut links = Vec::with_capacity(alloc, members.len())?;
@@ -161,7 +164,7 @@ impl<'a> Graph<'a> {
     }
 
     // The links of a file's imports.
-    pub(crate) fn links(&self, file: usize) -> &[Link]
+    pub(crate) fn links(&self, file: usize) -> &[ImportLink]
         requires { file < length self.now }
         ensures { AreLinks self.now file result.now }
     {

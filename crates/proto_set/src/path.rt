@@ -3,11 +3,11 @@
 ghost use Rattle.std.specs.Prelude.{◌≡◌, ◌↔◌, IsTrue, IfSome, IfNone};
 ghost use Rattle.std.specs.List.{list_all, list_any};
 ghost use Rattle.std.specs.Str.{bytes_eq};
-ghost use Rattle.proto_set.specs.Packed.{files_of};
-ghost use Rattle.proto_set.specs.Paths.{IsPath, HaveRightPaths, IsFirstRefused, is_path_byte};
+ghost use Rattle.proto_set.specs.Named.{files_of};
+ghost use Rattle.proto_set.specs.Paths.{IsPath, HaveValidPaths, IsFirstRejected, is_path_byte};
 
 use crate::limits::MAX_PATH;
-use crate::packed::Packed;
+use crate::named::Named;
 
 /// True if a path is valid: 1 to 255 bytes, each a letter, a digit, `_`, `-`, `.` or `/`.
 pub fn is_path(path: &[u8]) -> bool
@@ -30,9 +30,9 @@ fn is_path_byte(byte: u8) -> bool
 
 /// Returns the index, from 0, of the first file whose path is rejected: it is invalid, or an earlier file has it. It
 /// takes time in proportion to the bytes of the paths and the square of the number of files.
-pub fn first_refused(files: &[Packed]) -> Option<usize>
-    ensures first { IfSome result (IsFirstRefused (files_of files.now)) }
-    ensures none { IfNone result (HaveRightPaths (files_of files.now)) }
+pub fn first_rejected(files: &[Named]) -> Option<usize>
+    ensures first { IfSome result (IsFirstRejected (files_of files.now)) }
+    ensures none { IfNone result (HaveValidPaths (files_of files.now)) }
 {
     for (i, file) in files.iter().enumerate() {
         if !is_path(file.path) || has_path(&files[..i], file.path) {
@@ -42,7 +42,7 @@ pub fn first_refused(files: &[Packed]) -> Option<usize>
     None
 }
 
-fn has_path(files: &[Packed], path: &[u8]) -> bool
+fn has_path(files: &[Named], path: &[u8]) -> bool
     ensures { result ≡ list_any (λ f. bytes_eq f.path.now path.now) files.now }
 {
     files.iter().any(|file| file.path == path)

@@ -1,9 +1,9 @@
 //! The files of a set by path.
 
 ghost use Rattle.std.specs.Prelude.{◌≡◌, IfOk};
-ghost use Rattle.proto_set.specs.Linking.{place_in, KnowsPaths};
+ghost use Rattle.proto_set.specs.Linking.{index_of_path, KnowsPaths};
 
-use crate::set::Member;
+use crate::set::ParsedFile;
 use mrpc_table::Memory;
 use std::alloc::Global;
 use std::collections::BTreeMap;
@@ -16,7 +16,7 @@ pub(crate) struct Paths<'a> {
 
 impl<'a> Paths<'a> {
     // The files of a set by path.
-    pub(crate) fn new(alloc: Global, members: &'a [Member]) -> Result<Paths<'a>, Memory>
+    pub(crate) fn new(alloc: Global, members: &'a [ParsedFile]) -> Result<Paths<'a>, Memory>
         ensures { IfOk result (KnowsPaths members.now) }
     {
         let mut by = BTreeMap::new(alloc);
@@ -27,8 +27,8 @@ impl<'a> Paths<'a> {
     }
 
     // The index of the file that has a path.
-    pub(crate) fn place(&self, path: &'a [u8]) -> Option<usize>
-        ensures { result ≡ place_in self.now path.now }
+    pub(crate) fn file_index(&self, path: &'a [u8]) -> Option<usize>
+        ensures { result ≡ index_of_path self.now path.now }
     {
         self.by.get(&path).copied()
     }

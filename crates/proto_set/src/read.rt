@@ -1,15 +1,15 @@
 //! The files of a set.
 
 ghost use Rattle.std.specs.Prelude.{◌≡◌, ◌≢◌, ◌↔◌, ℕ, List, IsTrue, IfOk, IfErr, MatchResult};
-ghost use Rattle.proto_set.specs.Bundle.{File, IsBundle, Spells};
+ghost use Rattle.proto_set.specs.Bundle.{BundledFile, IsBundle, IsBundleOf};
 ghost use Rattle.proto_set.specs.BundleFaults.{IsBundleFault, IsFaultOf};
-ghost use Rattle.proto_set.specs.Packed.{files_of};
+ghost use Rattle.proto_set.specs.Named.{files_of};
 ghost use Rattle.proto_set.specs.declared.bundle_fault.BundleFault.TheVariants.{Bundle, Memory as NoMemory};
 
 use crate::bundle_fault::BundleFault;
-use crate::bundle_laws::one_bundle;
+use crate::bundle_laws::bundle_or_fault;
 use crate::header::first_file;
-use crate::packed::Packed;
+use crate::named::Named;
 use mrpc_table::MAX_FILES;
 use std::alloc::Global;
 
@@ -29,12 +29,12 @@ pub fn is_bundle(input: &[u8]) -> bool
 
 /// Returns the files of a set, borrowed from the input. The first is the root. The error is the first file that can't
 /// be read, or `Memory`. Paths may have any form here.
-pub fn read_bundle<'a>(alloc: Global, input: &'a [u8]) -> Result<Vec<Packed<'a>>, BundleFault>
+pub fn read_bundle<'a>(alloc: Global, input: &'a [u8]) -> Result<Vec<Named<'a>>, BundleFault>
     requires { IsBundle input.now }
     // The files read are the set that the input is the text of.
-    ensures read { IfOk result (λ read. Spells input.now (files_of read.items)) }
+    ensures read { IfOk result (λ read. IsBundleOf input.now (files_of read.items)) }
     // If the input is the text of a set, that set is read, unless memory runs out.
-    ensures only { (files : List File) → Spells input.now files
+    ensures only { (files : List BundledFile) → IsBundleOf input.now files
         → MatchResult result (λ read. files_of read.items ≡ files) (λ fault. fault ≡ NoMemory) }
     // A fault is the first one.
     ensures fault { IfErr result (IsFaultOf input.now) }
@@ -42,13 +42,13 @@ pub fn read_bundle<'a>(alloc: Global, input: &'a [u8]) -> Result<Vec<Packed<'a>>
     ensures found { (k : ℕ) → IsBundleFault input.now k
         → MatchResult result (λ _. ⊥) (λ fault. fault ≢ NoMemory → fault ≡ Bundle k) }
 {
-    one_bundle();
+    bundle_or_fault();
     read_files(alloc, input)
 }
 
-fn read_files<'a>(alloc: Global, input: &'a [u8]) -> Result<Vec<Packed<'a>>, BundleFault>
+fn read_files<'a>(alloc: Global, input: &'a [u8]) -> Result<Vec<Named<'a>>, BundleFault>
     requires { IsBundle input.now }
-    ensures read { IfOk result (λ read. Spells input.now (files_of read.items)) }
+    ensures read { IfOk result (λ read. IsBundleOf input.now (files_of read.items)) }
     ensures fault { IfErr result (IsFaultOf input.now) }
 {
     let Some(behind) = input.strip_prefix(FIRST_LINE) else {

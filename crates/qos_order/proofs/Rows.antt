@@ -3,19 +3,19 @@ use Rattle.std.proofs.Common.{◌≡◌, ℕ, true, false, List, [], ◌∷◌, 
 use Rattle.std.proofs.lemmas.List.Elements.{All-cons, All-nil}
 use Rattle.qos_order.specs.Account.{IsWeight, account_after, granted}
 use Rattle.qos_order.specs.Weights.{IsFirstFault, weight_of}
-use Rattle.qos_order.specs.Wheel.{AreTurns, AreWhole, Turn, WheelState, account_of, opened, rounds_in, visits_in, wheel_after}
+use Rattle.qos_order.specs.Wheel.{AreWheelVisits, AreFullGrants, WheelVisit, WheelState, account_of, new_wheel_entry, rounds_in, visits_in, wheel_after}
 use Rattle.qos_order.proofs.Halves.{sound-short}
 use Rattle.qos_order.specs.declared.account.Ending.TheVariants.{Given, Idle, Shut}
 use Rattle.qos_order.specs.declared.weights.WeightFault.TheVariants.{Range}
 use Rattle.qos_order.specs.declared.account.Account.{Account}
 
 abbrev two : WheelState
-two = record { listed = opened (record { conn = 1; weight = 3 }) ∷ opened (record { conn = 3; weight = 1 }) ∷ []; order = 1 ∷ 3 ∷ [] }
+two = record { listed = new_wheel_entry (record { conn = 1; weight = 3 }) ∷ new_wheel_entry (record { conn = 3; weight = 1 }) ∷ []; order = 1 ∷ 3 ∷ [] }
 
-abbrev stays : Turn
+abbrev stays : WheelVisit
 stays = record { visit = record { given = 1; ending = Given }; leaves = false }
 
-abbrev five : List Turn
+abbrev five : List WheelVisit
 five = record stays { visit = record { given = 3; ending = Given } } ∷ stays
     ∷ record stays { visit = record { given = 1; ending = Shut } } ∷ stays
     ∷ record stays { visit = record { given = 5; ending = Given } } ∷ []
@@ -54,14 +54,14 @@ weight_unlisted = refl
 weight_listed : weight_of (record { conn = 8; weight = 100 } ∷ record { conn = 1; weight = 3 } ∷ []) 1 ≡ 3
 weight_listed = refl
 
-whole_turn : AreTurns two (record stays { visit = record { given = 3; ending = Given } } ∷ [])
+whole_turn : AreWheelVisits two (record stays { visit = record { given = 3; ending = Given } } ∷ [])
 whole_turn = (record { some = λ no. cc; fits = record { within = omega arith; whole = λ _. refl } }, tt)
 
 -- three turns that give their whole grants: two visits of the first connection, one of the second
-abbrev three : List Turn
+abbrev three : List WheelVisit
 three = record stays { visit = record { given = 3; ending = Given } } ∷ stays ∷ record stays { visit = record { given = 3; ending = Given } } ∷ []
 
-whole_turns : AreWhole two three
+whole_turns : AreFullGrants two three
 whole_turns = (
   record { fitting = record { some = λ no. cc; fits = record { within = omega arith; whole = λ _. refl } }; given = refl; stays = refl; counts = omega arith },
   (

@@ -28,11 +28,11 @@ pub struct Account {
 }
 
 // An account with this number of visits no longer changes.
-const MOST_VISITS: u64 = 1_099_511_627_776;
+const MAX_VISITS: u64 = 1_099_511_627_776;
 
 impl Account {
     ghost use Rattle.std.specs.Prelude.{◌≡◌, ◌≤◌, ℕ};
-    ghost use Rattle.qos_order.specs.Account.{Fits, IsBalanced, IsWeight, granted, new_account, visited};
+    ghost use Rattle.qos_order.specs.Account.{IsWithinGrant, IsBalanced, IsWeight, granted, new_account, after_visit};
 
     /// The account before the first visit.
     pub fn new() -> Account
@@ -52,11 +52,11 @@ impl Account {
     pub fn visit(&mut self, weight: u64, given: u64, ending: Ending)
         requires weight { IsWeight weight }
         requires balanced { IsBalanced weight self.old }
-        requires fits { Fits (granted weight self.old.kept) (record { given = given; ending = ending }) }
-        ensures visited { self.new ≡ visited weight self.old (record { given = given; ending = ending }) }
+        requires fits { IsWithinGrant (granted weight self.old.kept) (record { given = given; ending = ending }) }
+        ensures visited { self.new ≡ after_visit weight self.old (record { given = given; ending = ending }) }
         ensures balanced { IsBalanced weight self.new }
     {
-        if self.visits >= MOST_VISITS {
+        if self.visits >= MAX_VISITS {
             return;
         }
         let used = self.kept.min(weight);

@@ -1,27 +1,27 @@
 //! Laws of all lists of visits within their grants, and of all lists of weights.
 
-ghost use Rattle.qos_order.specs.Account.{VisitsBalance};
-ghost use Rattle.qos_order.specs.Weights.{FaultsOnce, SoundHasNone, SoundOrFault};
-ghost use Rattle.qos_order.specs.Wheel.{TurnsBalance, VisitsAreEven, SharesAreEven};
+ghost use Rattle.qos_order.specs.Account.{AllVisitsBalance};
+ghost use Rattle.qos_order.specs.Weights.{HasAtMostOneFault, HasNoFaultIfValid, IsValidOrFaulty};
+ghost use Rattle.qos_order.specs.Wheel.{AllWheelVisitsBalance, AreVisitsEven, AreSharesProportional};
 
 /// Over every list of visits within their grants, the rounds given, kept and dropped sum to the weight times the
 /// visits, and at most twice the weight is kept. So it is for each account of a wheel. Does nothing.
 pub fn visits_balance()
-    ensures account { VisitsBalance }
-    ensures wheel { TurnsBalance }
+    ensures account { AllVisitsBalance }
+    ensures wheel { AllWheelVisitsBalance }
 {}
 
 /// Consider a stretch of visits that starts with no rounds kept, in which no connection leaves, no account is at its
 /// limit and each grant is given in full. Then the visits of two connections on the wheel differ by at most one, and
 /// their rounds are in proportion to their weights up to one visit. Does nothing.
-pub fn even_shares()
-    ensures visits { VisitsAreEven }
-    ensures rounds { SharesAreEven }
+pub fn shares_are_proportional()
+    ensures visits { AreVisitsEven }
+    ensures rounds { AreSharesProportional }
 {}
 
 /// A list of weights is valid or has one first fault. Does nothing.
-pub fn one_weight_fault()
-    ensures once { FaultsOnce }
-    ensures never_both { SoundHasNone }
-    ensures never_neither { SoundOrFault }
+pub fn weights_or_fault()
+    ensures once { HasAtMostOneFault }
+    ensures never_both { HasNoFaultIfValid }
+    ensures never_neither { IsValidOrFaulty }
 {}

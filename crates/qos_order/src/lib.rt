@@ -10,14 +10,14 @@
 
 mod account;
 mod laws;
-mod seat;
-mod seats;
 mod weighted;
 mod weights;
 mod wheel;
+mod wheel_entries;
+mod wheel_entry;
 
 pub use account::{Account, Ending};
-pub use laws::{even_shares, one_weight_fault, visits_balance};
+pub use laws::{shares_are_proportional, visits_balance, weights_or_fault};
 pub use weighted::Weighted;
 pub use weights::{Weight, WeightFault, Weights};
 pub use wheel::Wheel;

@@ -2,7 +2,7 @@
 
 ghost use Rattle.std.specs.Prelude.{◌≡◌, ℕ, OnOk, IfOk, IfErr};
 ghost use Rattle.qos_order.specs.Account.{IsWeight};
-ghost use Rattle.qos_order.specs.Weights.{IsFirstFault, IsSound, weight_of};
+ghost use Rattle.qos_order.specs.Weights.{IsFirstFault, AreValidWeights, weight_of};
 
 use crate::account::granted;
 use crate::weights::{Weight, WeightFault, Weights, by_number};
@@ -18,19 +18,19 @@ pub struct Weighted {
 impl Model for Weighted {
     ghost use Rattle.std.specs.Prelude.{List};
     ghost use Rattle.qos_order.specs.declared.weights.Weight.{Weight};
-    ghost use Rattle.qos_order.specs.Weights.{IsOrdered};
+    ghost use Rattle.qos_order.specs.Weights.{AreValidSortedWeights};
 
     ghost Value = { List Weight };
 
     ghost view = { λ w. w.weights.items };
 
-    ghost invariant = { λ w. IsOrdered w.weights.items };
+    ghost invariant = { λ w. AreValidSortedWeights w.weights.items };
 }
 
 impl Weighted {
     /// The order by these weights. Doesn't allocate.
     pub fn new(weights: Weights) -> Result<Weighted, WeightFault>
-        ensures sound { OnOk result (IsSound weights) }
+        ensures sound { OnOk result (AreValidWeights weights) }
         ensures weights { IfOk result (λ order. (conn : ℕ) → weight_of order conn ≡ weight_of weights conn) }
         ensures fault { IfErr result (IsFirstFault weights) }
     {

@@ -3,7 +3,7 @@
 ghost use Rattle.std.specs.Prelude.{◌≡◌, ◌≤◌, ◌↔◌, OnOk, IfOk, IfErr, IfNone, IfSome, IsTrue, All, Contains, length, take, slice_get, option_map};
 ghost use Rattle.qos_order.specs.Account.{IsWeight};
 ghost use Rattle.std.specs.List.Sorted.{IsPermutation};
-ghost use Rattle.qos_order.specs.Weights.{IsSound, IsFirstFault, Ascends, conns_of};
+ghost use Rattle.qos_order.specs.Weights.{AreValidWeights, IsFirstFault, AreSortedByConn, conns_of_weights};
 
 use std::marker::Model;
 use thiserror::Error;
@@ -71,9 +71,9 @@ impl Weights {
 
 // The weights in ascending order of number, or their first fault. Doesn't allocate.
 pub(crate) fn by_number(weights: Weights) -> Result<Vec<Weight>, WeightFault>
-    ensures sound { OnOk result (IsSound weights) }
+    ensures sound { OnOk result (AreValidWeights weights) }
     ensures same { IfOk result (λ sorted. IsPermutation weights sorted.items) }
-    ensures ascends { IfOk result (λ sorted. Ascends sorted.items) }
+    ensures ascends { IfOk result (λ sorted. AreSortedByConn sorted.items) }
     ensures fault { IfErr result (IsFirstFault weights) }
 {
     let mut entries = weights.items;
@@ -83,12 +83,12 @@ pub(crate) fn by_number(weights: Weights) -> Result<Vec<Weight>, WeightFault>
 
 // Sorts the entries by number if they are valid; else returns their first fault.
 fn sort(entries: &mut [Weight]) -> Result<(), WeightFault>
-    ensures sound { OnOk result (IsSound entries.old) }
+    ensures sound { OnOk result (AreValidWeights entries.old) }
     ensures same { OnOk result (IsPermutation entries.old entries.new) }
-    ensures ascends { OnOk result (Ascends entries.new) }
+    ensures ascends { OnOk result (AreSortedByConn entries.new) }
     ensures fault { IfErr result (IsFirstFault entries.old) }
 {
-    let ranged = ranged_len(entries);
+    let ranged = valid_prefix_len(entries);
     let outside = conn_at(entries, ranged);
     if let Some(conn) = sort_distinct(&mut entries[..ranged]) {
         return Err(WeightFault::Twice { conn });
@@ -100,7 +100,7 @@ fn sort(entries: &mut [Weight]) -> Result<(), WeightFault>
 }
 
 // The number of entries before the first one whose weight isn't 1 to 100.
-fn ranged_len(entries: &[Weight]) -> usize
+fn valid_prefix_len(entries: &[Weight]) -> usize
     ensures within { result ≤ length entries.now }
     ensures ranged { All (λ w. IsWeight w.weight) (take result entries.now) }
     ensures next { IfSome (slice_get entries.now result) (λ w. ¬ IsWeight w.weight) }
@@ -127,9 +127,9 @@ fn conn_at(entries: &[Weight], place: usize) -> Option<u32>
 // searches the second half for connections of the first, so it takes n log^2 n time and doesn't allocate.
 fn sort_distinct(entries: &mut [Weight]) -> Option<u32>
     requires { All (λ w. IsWeight w.weight) entries.old }
-    ensures sound { IfNone result (IsSound entries.old) }
+    ensures sound { IfNone result (AreValidWeights entries.old) }
     ensures same { IfNone result (IsPermutation entries.old entries.new) }
-    ensures ascends { IfNone result (Ascends entries.new) }
+    ensures ascends { IfNone result (AreSortedByConn entries.new) }
     ensures twice { IfSome result (λ conn. IsFirstFault entries.old (WeightFault.Twice conn)) }
 {
     let half = entries.len() / 2;
@@ -140,7 +140,7 @@ fn sort_distinct(entries: &mut [Weight]) -> Option<u32>
         return Some(conn);
     }
     let (front, back) = entries.split_at_mut(half);
-    let apart = apart_len(front, back);
+    let apart = disjoint_prefix_len(front, back);
     let met = conn_at(back, apart);
     if let Some(conn) = sort_distinct(&mut back[..apart]) {
         return Some(conn);
@@ -153,11 +153,11 @@ fn sort_distinct(entries: &mut [Weight]) -> Option<u32>
 }
 
 // The number of entries of `back` before the first one whose connection is also in `front`, which is sorted.
-fn apart_len(front: &[Weight], back: &[Weight]) -> usize
-    requires { Ascends front.now }
+fn disjoint_prefix_len(front: &[Weight], back: &[Weight]) -> usize
+    requires { AreSortedByConn front.now }
     ensures within { result ≤ length back.now }
-    ensures apart { All (λ w. ¬ Contains (conns_of front.now) w.conn) (take result back.now) }
-    ensures next { IfSome (slice_get back.now result) (λ w. Contains (conns_of front.now) w.conn) }
+    ensures apart { All (λ w. ¬ Contains (conns_of_weights front.now) w.conn) (take result back.now) }
+    ensures next { IfSome (slice_get back.now result) (λ w. Contains (conns_of_weights front.now) w.conn) }
 {
     for (i, entry) in back.iter().enumerate() {
         if has_conn(front, entry.conn) {
@@ -169,8 +169,8 @@ fn apart_len(front: &[Weight], back: &[Weight]) -> usize
 
 // Whether sorted entries contain a connection.
 fn has_conn(entries: &[Weight], conn: u32) -> bool
-    requires { Ascends entries.now }
-    ensures { IsTrue result ↔ Contains (conns_of entries.now) conn }
+    requires { AreSortedByConn entries.now }
+    ensures { IsTrue result ↔ Contains (conns_of_weights entries.now) conn }
 {
     entries
         .binary_search_by_key(&conn, |entry| entry.conn)

@@ -3,9 +3,9 @@
 ghost use Rattle.std.specs.Prelude.{◌≡◌, ◌<◌, ◌++◌, if◌then◌else◌, drop, length, take};
 
 use crate::account::{Account, Ending, granted};
-use crate::seat::Seat;
-use crate::seats::{conns, count, place_of, seats};
 use crate::weights::{WeightFault, Weights, by_number};
+use crate::wheel_entries::{conns, count, index_of_entry, seats};
+use crate::wheel_entry::WheelEntry;
 use std::alloc::Global;
 use std::collections::VecDeque;
 use std::marker::Model;
@@ -14,37 +14,37 @@ use std::marker::Model;
 #[derive(Drop)]
 pub struct Wheel {
     // The listed connections, ordered by number.
-    seats: Vec<Seat>,
+    seats: Vec<WheelEntry>,
     // The numbers of the connections on the wheel.
     order: VecDeque<u32>,
 }
 
 impl Model for Wheel {
-    ghost use Rattle.qos_order.specs.Wheel.{WheelState, IsWheel, SeatsAscend};
+    ghost use Rattle.qos_order.specs.Wheel.{WheelState, IsWheel, AreEntriesSorted};
 
     ghost Value = { WheelState };
 
     ghost view = { λ w. record { listed = w.seats.items; order = w.order.items } };
 
     ghost invariant = { λ w. IsWheel (record { listed = w.seats.items; order = w.order.items })
-        × SeatsAscend w.seats.items };
+        × AreEntriesSorted w.seats.items };
 }
 
 impl Wheel {
     ghost use Rattle.std.specs.Prelude.{◌≡◌, ◌≢◌, ℕ, Err, OnOk, IfOk, IfErr, option_copied, option_map, slice_get};
-    ghost use Rattle.qos_order.specs.Weights.{IsFirstFault, IsSound, conns_of, entry_of};
-    ghost use Rattle.qos_order.specs.Wheel.{IsTurn, IsWheel, account_of, first_grant, opened, seat_of, turned};
+    ghost use Rattle.qos_order.specs.Weights.{IsFirstFault, AreValidWeights, conns_of_weights, weight_entry};
+    ghost use Rattle.qos_order.specs.Wheel.{IsWheelVisit, IsWheel, account_of, first_grant, new_wheel_entry, wheel_entry, rotated};
 
     /// A wheel of these connections, in the order of their list, with zeroed accounts. `Memory` comes only if the
     /// list has no fault.
     pub fn new(alloc: Global, weights: Weights) -> Result<Wheel, WeightFault>
-        ensures sound { OnOk result (IsSound weights) }
-        ensures order { IfOk result (λ wheel. wheel.order ≡ conns_of weights) }
+        ensures sound { OnOk result (AreValidWeights weights) }
+        ensures order { IfOk result (λ wheel. wheel.order ≡ conns_of_weights weights) }
         ensures seats { IfOk result (λ wheel. (conn : ℕ)
-            → seat_of wheel conn ≡ option_map opened (entry_of weights conn)) }
+            → wheel_entry wheel conn ≡ option_map new_wheel_entry (weight_entry weights conn)) }
         ensures wheel { IfOk result IsWheel }
         ensures fault { IfErr result (λ fault. (fault ≢ WeightFault.Memory) → IsFirstFault weights fault) }
-        ensures memory { result ≡ Err WeightFault.Memory → IsSound weights }
+        ensures memory { result ≡ Err WeightFault.Memory → AreValidWeights weights }
     {
         let entries = weights.into_vec();
         let order = conns(alloc, entries.as_slice());
@@ -72,7 +72,7 @@ impl Wheel {
         let Some(conn) = self.first() else {
             return 0;
         };
-        match place_of(self.seats.as_slice(), conn) {
+        match index_of_entry(self.seats.as_slice(), conn) {
             Some(place) => {
                 let seat = &self.seats[place];
                 granted(seat.weight, seat.account.kept)
@@ -84,8 +84,8 @@ impl Wheel {
     /// Counts a visit of the first connection: the rounds it was given, and how the visit ended. The connection then
     /// leaves the wheel if `leaves` is set, else goes last.
     pub fn visit(&mut self, given: u64, ending: Ending, leaves: bool)
-        requires { IsTurn self.old (record { visit = record { given = given; ending = ending }; leaves = leaves }) }
-        ensures turned { self.new ≡ turned self.old (record {
+        requires { IsWheelVisit self.old (record { visit = record { given = given; ending = ending }; leaves = leaves }) }
+        ensures turned { self.new ≡ rotated self.old (record {
           visit = record { given = given; ending = ending };
           leaves = leaves;
         }) }
@@ -95,7 +95,7 @@ impl Wheel {
             unreachable!();
         };
         count(&mut self.seats, conn, given, ending);
-        turn(&mut self.order, leaves);
+        rotate(&mut self.order, leaves);
     }
 
     /// The account of a connection, on the wheel or not; `None` if it was never listed.
@@ -103,7 +103,7 @@ impl Wheel {
         ensures account { option_copied result ≡ account_of self.now conn }
         ensures wheel { IsWheel self.now }
     {
-        match place_of(self.seats.as_slice(), conn) {
+        match index_of_entry(self.seats.as_slice(), conn) {
             Some(place) => Some(&self.seats[place].account),
             None => None,
         }
@@ -111,7 +111,7 @@ impl Wheel {
 }
 
 // Removes the first connection, and appends it unless it leaves.
-fn turn(order: &mut VecDeque<u32>, leaves: bool)
+fn rotate(order: &mut VecDeque<u32>, leaves: bool)
     requires { 0 < length order.old.items }
     ensures { order.new.items ≡ (if leaves then drop 1 order.old.items
         else drop 1 order.old.items ++ take 1 order.old.items) }

@@ -13,20 +13,20 @@ use Rattle.mrpc_table.specs.declared.call.Call.{Call}
 use Rattle.receive_heap.specs.Layout.{Layout, IsFirstFit}
 use Rattle.receive_heap.specs.declared.extents.Block.{Block}
 use Rattle.receive_core.specs.Fates.{message_of_frame, block_words}
-use Rattle.receive_core.specs.Opening.{IsOpened}
-use Rattle.graph_place.specs.Stored.{StandsIn, StandWithin}
-use Rattle.receive_core.specs.Turns.{IsPlaced}
-use Rattle.receive_core.specs.declared.opened.Opened.{Opened}
+use Rattle.receive_core.specs.Decoding.{IsDecodedCall}
+use Rattle.graph_place.specs.Stored.{IsPlacedIn, AreWithin}
+use Rattle.receive_core.specs.Turns.{IsMessagePlaced}
+use Rattle.receive_core.specs.declared.decoded.DecodedCall.{DecodedCall}
 
 -- the message of a decoded call is that of its frame
-pub message_is : (T : Table) (conn : ℕ) (f : Frame) (o : Opened) → IsOpened T conn f o → message_at T o.call.method o.call.number ≡ message_of_frame T f
+pub message_is : (T : Table) (conn : ℕ) (f : Frame) (o : DecodedCall) → IsDecodedCall T conn f o → message_at T o.call.method o.call.number ≡ message_of_frame T f
 message_is T conn f o is = ap (λ (c : Call). message_at T c.method c.number) is.call
 
 -- a small number of words isn't capped
 pub uncapped : (n words : ℕ) → words ≡ capped n → words ≤ 65536 → words ≡ n
 uncapped n words is small = omega (arith, is, small)
 
-wider : (at words more : ℕ) (xs : List (ℕ × ℕ)) → words ≤ more → StandWithin at words xs → StandWithin at more xs
+wider : (at words more : ℕ) (xs : List (ℕ × ℕ)) → words ≤ more → AreWithin at words xs → AreWithin at more xs
 wider at words more xs le all =
     All-weaker (λ (w : ℕ × ℕ). (at ≤ w.0) × (w.0 < at + words)) (λ (w : ℕ × ℕ). (at ≤ w.0) × (w.0 < at + more)) (λ w h. (h.0, omega (arith, h.1, le))) xs all
 
@@ -34,8 +34,8 @@ pub placed_is : (T : Table) (msg : ℕ) (tree : Node) (old new : Layout) (stores
     → block.words ≡ words → words ≡ capped (block_words T msg tree) → at + words ≤ old.words → old.words ≤ 65536
     → block.number ≡ old.next → IsFirstFit old.holes words block.at → block.at ≡ at
     → new.held ≡ old.held ++ block ∷ [] → new.next ≡ old.next + 1 → new.words ≡ old.words
-    → ((H : ℕ) → at + tree_words T msg tree ≤ H → StandsIn T H msg tree at (tree_words T msg tree) placed)
-    → after ≡ stores ++ placed.words → IsPlaced T msg tree old new stores after block
+    → ((H : ℕ) → at + tree_words T msg tree ≤ H → IsPlacedIn T H msg tree at (tree_words T msg tree) placed)
+    → after ≡ stores ++ placed.words → IsMessagePlaced T msg tree old new stores after block
 placed_is T msg tree old new stores after block placed at words is cap inside small number front same held next size stands stored =
     let exact : words ≡ block_words T msg tree = uncapped (block_words T msg tree) words cap (omega (arith, inside, small)) in
     let most : tree_words T msg tree ≤ words = omega (arith, exact) in
@@ -54,7 +54,7 @@ placed_is T msg tree old new stores after block placed at words is cap inside sm
         loaded = here.loaded;
         means = here.means;
         address = here.address ∙ sym same;
-        within = subst (λ a. StandWithin a block.words placed.words) (sym same)
+        within = subst (λ a. AreWithin a block.words placed.words) (sym same)
             (wider at (tree_words T msg tree) block.words placed.words (omega (arith, most, is)) here.within);
         apart = here.apart;
         few = omega (arith, few, most, is);
@@ -63,14 +63,14 @@ placed_is T msg tree old new stores after block placed at words is cap inside sm
     }
 
 -- the message of a call whose block is in the heap is in the heap
-pub fits_in : (T : Table) (conn : ℕ) (f : Frame) (o : Opened) (at words : ℕ) → IsOpened T conn f o → at + o.words ≤ words → words ≤ 65536
+pub fits_in : (T : Table) (conn : ℕ) (f : Frame) (o : DecodedCall) (at words : ℕ) → IsDecodedCall T conn f o → at + o.words ≤ words → words ≤ 65536
     → at + tree_words T (message_of_frame T f) o.call.tree ≤ words
 fits_in T conn f o at words is inside small =
     let exact : o.words ≡ block_words T (message_of_frame T f) o.call.tree = uncapped (block_words T (message_of_frame T f) o.call.tree) o.words is.words (omega (arith, inside, small)) in
     omega (arith, exact, inside)
 
 -- and so are its words
-pub inside_heap : (T : Table) (H msg : ℕ) (t : Node) (at span size : ℕ) (placed : PlacedWords) → StandsIn T H msg t at span placed → 1 ≤ at → at + span ≤ size
+pub inside_heap : (T : Table) (H msg : ℕ) (t : Node) (at span size : ℕ) (placed : PlacedWords) → IsPlacedIn T H msg t at span placed → 1 ≤ at → at + span ≤ size
     → All (λ word. (1 ≤ word.0) × (word.0 < size)) placed.words
 inside_heap T H msg t at span size placed stands from within =
     All-weaker (λ (w : ℕ × ℕ). (at ≤ w.0) × (w.0 < at + span)) (λ (w : ℕ × ℕ). (1 ≤ w.0) × (w.0 < size))

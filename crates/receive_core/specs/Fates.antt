@@ -4,7 +4,7 @@ use Rattle.mrpc_table.specs.Node.{Node}
 use Rattle.mrpc_table.specs.Calls.{message_at}
 use Rattle.mrpc_table.specs.declared.table.Table.{Table}
 use Rattle.wire_decode.specs.Means.{Means}
-use Rattle.wire_decode.specs.Faults.{IsFirstFault}
+use Rattle.wire_decode.specs.Faults.{IsFirstDecodeFault}
 use Rattle.wire_decode.specs.declared.fault.DecodeReason.{DecodeReason}
 use Rattle.mrpc_table.specs.Capped.{capped}
 use Rattle.graph_place.specs.Size.{tree_words}
@@ -25,8 +25,8 @@ abbrev pub message_of_frame : Table → Frame → ℕ
 message_of_frame T f = message_at T f.method (judged_number f)
 
 -- the call that arrived on a connection, as policies see it
-abbrev pub call_of : ℕ → Frame → Node → Call
-call_of conn f t = record { conn = conn; seq = f.number; method = f.method; number = judged_number f; tree = t }
+abbrev pub received_call : ℕ → Frame → Node → Call
+received_call conn f t = record { conn = conn; seq = f.number; method = f.method; number = judged_number f; tree = t }
 
 -- the size of a message's block in words; a message of no words has a block of one
 abbrev pub block_words : Table → ℕ → Node → ℕ
@@ -38,9 +38,9 @@ pub record IsCall (T : Table) (f : Frame) : Type 0 where
   pub method : f.method < length T.methods
 
 -- the policy allows the call, or there is none
-abbrev pub Allows : Option AccessPolicy → Call → Type 0
-Allows None call = Unit {0}
-Allows (Some policy) call = (verdict policy call).allow ≡ true
+abbrev pub IsCallAllowed : Option AccessPolicy → Call → Type 0
+IsCallAllowed None call = Unit {0}
+IsCallAllowed (Some policy) call = (verdict policy call).allow ≡ true
 
 -- A frame is dropped for a cause, or a message arrives.
 pub data Fate : Type 0 where
@@ -54,16 +54,18 @@ pub data IsFate (T : Table) (policy : Option AccessPolicy) (conn words : ℕ) (f
   has_no_method : f.kind ≢ HELLO → length T.methods ≤ f.method → fate ≡ drops NoMethod
       → IsFate T policy conn words f fate
   is_faulty : IsCall T f → (reason : DecodeReason) (place : ℕ)
-      → IsFirstFault T (message_of_frame T f) f.payload reason place
+      → IsFirstDecodeFault T (message_of_frame T f) f.payload reason place
       → fate ≡ drops (Decode reason place) → IsFate T policy conn words f fate
   is_denied : IsCall T f → (t : Node) → Means T (message_of_frame T f) f.payload t
-      → (p : AccessPolicy) → policy ≡ Some p → (verdict p (call_of conn f t)).allow ≡ false
-      → fate ≡ drops (Denied (verdict p (call_of conn f t)).rule) → IsFate T policy conn words f fate
-  is_too_large : IsCall T f → (t : Node) → Means T (message_of_frame T f) f.payload t → Allows policy (call_of conn f t)
+      → (p : AccessPolicy) → policy ≡ Some p → (verdict p (received_call conn f t)).allow ≡ false
+      → fate ≡ drops (Denied (verdict p (received_call conn f t)).rule) → IsFate T policy conn words f fate
+  is_too_large : IsCall T f → (t : Node) → Means T (message_of_frame T f) f.payload t
+      → IsCallAllowed policy (received_call conn f t)
       → words - 1 < block_words T (message_of_frame T f) t
       → fate ≡ drops (Oversize (capped (block_words T (message_of_frame T f) t)) words)
       → IsFate T policy conn words f fate
-  arrived : IsCall T f → (t : Node) → Means T (message_of_frame T f) f.payload t → Allows policy (call_of conn f t)
+  arrived : IsCall T f → (t : Node) → Means T (message_of_frame T f) f.payload t
+      → IsCallAllowed policy (received_call conn f t)
       → block_words T (message_of_frame T f) t ≤ words - 1
       → fate ≡ arrives t → IsFate T policy conn words f fate
 
@@ -73,6 +75,6 @@ HasFate = (T : Table) (policy : Option AccessPolicy) (conn words : ℕ) (f : Fra
     → (fate : Fate) × IsFate T policy conn words f fate
 
 -- and at most one
-abbrev pub HasOneFate : Type 0
-HasOneFate = (T : Table) (policy : Option AccessPolicy) (conn words : ℕ) (f : Frame) (fate other : Fate)
+abbrev pub HasUniqueFate : Type 0
+HasUniqueFate = (T : Table) (policy : Option AccessPolicy) (conn words : ℕ) (f : Frame) (fate other : Fate)
     → IsFate T policy conn words f fate → IsFate T policy conn words f other → fate ≡ other

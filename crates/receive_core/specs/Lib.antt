@@ -1,5 +1,5 @@
 pub mod Fates
-pub mod Life
-pub mod Opening
+pub mod ReceiverTraces
+pub mod Decoding
 pub mod Order
 pub mod Turns

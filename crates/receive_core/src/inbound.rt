@@ -6,19 +6,21 @@ ghost use Rattle.std.specs.Option.{option_copied};
 ghost use Rattle.mrpc_table.specs.Valid.{IsValid};
 ghost use Rattle.mrpc_table.specs.declared.limits.TheConstants.{MAX_HEAP, MIN_HEAP};
 ghost use Rattle.mrpc_table.specs.declared.table.Table.{Table as TheTable};
-ghost use Rattle.frame_transport.specs.Feed.{total, Gives, GoesOn, StopsAt};
-ghost use Rattle.frame_transport.specs.Frames.{Ends, IsPartial, Splits};
+ghost use Rattle.frame_transport.specs.Feed.{total_fed, IsNextFrame, IsFedBy, HasStoppedAt};
+ghost use Rattle.frame_transport.specs.Frames.{HasFaultSoFar, IsPartial, IsSplitOf};
 ghost use Rattle.frame_transport.specs.declared.format.Frame.{Frame as TheFrame};
 ghost use Rattle.frame_transport.specs.declared.format.TheConstants.{HELLO};
 ghost use Rattle.frame_transport.specs.declared.fault.FeedFault.{FeedFault as TheFault};
-ghost use Rattle.receive_heap.specs.Layout.{IsFirstFit, IsLargest, IsSound, IsWithout};
-ghost use Rattle.receive_core.specs.Opening.{IsOpened, IsReading};
-ghost use Rattle.receive_core.specs.Life.{Life as TheLife, Fated, Lives, no_life, fed, greeted, fated, Tells, stores_of};
-ghost use Rattle.receive_core.specs.Turns.{Receiving, IsFirst, IsSplit, IsReady, Turns, TakesCall, HasStayed};
+ghost use Rattle.receive_heap.specs.Layout.{IsFirstFit, IsLargest, IsPartitioned, IsWithout};
+ghost use Rattle.receive_core.specs.Decoding.{IsDecodedCall, IsReading};
+ghost use Rattle.receive_core.specs.ReceiverTraces.{ReceiverTrace as TheLife, Fated, IsTraceOf, empty_trace, after_piece, after_hello, after_fates, IsAnswerFor, stores_of_fate};
+ghost use Rattle.receive_core.specs.Turns.{ReceiverState, IsFirstFrame, IsSplit, IsReady, IsTurnOf, IsCallPlaced, HasStayed};
 
 use crate::arrival::{Arrival, DropCause};
-use crate::opened::{Opened, Reading, read_frame, refusal};
-use frame_transport::{Feed, FeedFault, Frame, HELLO, frames_join, one_frame, one_split};
+use crate::decoded::{DecodedCall, Reading, read_frame, refusal};
+use frame_transport::{
+    Feed, FeedFault, Frame, HELLO, frame_is_unique, frames_join, split_is_unique,
+};
 use graph_place::{layout, store};
 use mrpc_base::{Room, Stores};
 use mrpc_table::{Memory, Table};
@@ -27,7 +29,7 @@ use receive_heap::{Extents, NotHeld};
 use std::alloc::Global;
 use std::marker::Model;
 
-/// The receiver of a connection. Contracts see it as `Receiving` of `specs/Turns.antt`.
+/// The receiver of a connection. Contracts see it as `ReceiverState` of `specs/Turns.antt`.
 #[derive(Drop)]
 pub struct Inbound {
     alloc: Global,
@@ -35,18 +37,18 @@ pub struct Inbound {
     feed: Feed,
     extents: Extents,
     // The call of the first frame, if it was decoded and waits for a hole.
-    opened: Option<Opened>,
+    opened: Option<DecodedCall>,
 }
 
 impl Model for Inbound {
     ghost use Rattle.std.specs.Prelude.{◌≤◌};
     ghost use Rattle.mrpc_table.specs.declared.limits.TheConstants.{MAX_HEAP, MIN_HEAP};
-    ghost use Rattle.receive_core.specs.Turns.{Receiving, IsSplit};
+    ghost use Rattle.receive_core.specs.Turns.{ReceiverState, IsSplit};
 
-    ghost Value = { Receiving };
+    ghost Value = { ReceiverState };
 
     ghost use Rattle.std.specs.Coded.{codes};
-    ghost use Rattle.receive_core.specs.contracts.opened.Opened as o;
+    ghost use Rattle.receive_core.specs.contracts.decoded.DecodedCall as o;
 
     ghost coded = { Prim.hlevel (codes, o.the_row.coded) };
 
@@ -67,9 +69,9 @@ impl Inbound {
         ensures held { IfOk result (λ inbound. inbound.heap.held ≡ []) }
         ensures next { IfOk result (λ inbound. inbound.heap.next ≡ 1) }
         ensures ready { IfOk result (λ inbound. (T : TheTable) → IsReady T inbound) }
-        ensures life { IfOk result (λ inbound. (T : TheTable) → Lives T no_life inbound) }
+        ensures life { IfOk result (λ inbound. (T : TheTable) → IsTraceOf T empty_trace inbound) }
     {
-        one_frame();
+        frame_is_unique();
         let extents = Extents::open(alloc, words)?;
         extents.partition();
         Ok(Inbound {
@@ -84,42 +86,42 @@ impl Inbound {
     /// Feeds the next piece of the stream, which must stay shorter than 2^63 bytes. Returns the first fault of the
     /// stream so far, like [`Feed::feed`]; frames before the fault still get their fates. `Memory` changes nothing.
     pub fn bytes(&mut self, piece: &[u8]) -> Result<(), FeedFault>
-        requires { total self.old.fed + length piece.now < 2 ^ 63 }
+        requires { total_fed self.old.fed + length piece.now < 2 ^ 63 }
 
         // The piece extends the stream, and there is no fault so far.
-        ensures ok { OnOk result (GoesOn self.old.fed piece.now self.new.fed) }
-        ensures clean { OnOk result (Ends self.old.fed.place (self.old.fed.bytes ++ piece.now) None) }
+        ensures ok { OnOk result (IsFedBy self.old.fed piece.now self.new.fed) }
+        ensures clean { OnOk result (HasFaultSoFar self.old.fed.place (self.old.fed.bytes ++ piece.now) None) }
 
         // A fault is the first one of the stream including the piece.
         ensures fault { IfErr result (λ fault. (fault ≡ FeedFault.Memory)
-            ⊎ Ends self.old.fed.place (self.old.fed.bytes ++ piece.now) (Some fault)) }
+            ⊎ HasFaultSoFar self.old.fed.place (self.old.fed.bytes ++ piece.now) (Some fault)) }
         ensures stops { IfErr result (λ fault. (fault ≡ FeedFault.Memory)
-            ⊎ StopsAt self.old.fed piece.now fault self.new.fed) }
+            ⊎ HasStoppedAt self.old.fed piece.now fault self.new.fed) }
         ensures memory { IsErrOf result FeedFault.Memory → self.new ≡ self.old }
-        ensures again { (fault : TheFault) → Ends self.old.fed.place self.old.fed.bytes (Some fault)
+        ensures again { (fault : TheFault) → HasFaultSoFar self.old.fed.place self.old.fed.bytes (Some fault)
             → result ≡ Err fault }
 
         // Its trace is extended: the piece is appended to the stream.
-        ensures life { (T : TheTable) (life : TheLife) → Lives T life self.old
-            → OnOk result (Lives T (fed life piece.now None) self.new) }
-        ensures life_at_fault { (T : TheTable) (life : TheLife) → Lives T life self.old
+        ensures life { (T : TheTable) (life : TheLife) → IsTraceOf T life self.old
+            → OnOk result (IsTraceOf T (after_piece life piece.now None) self.new) }
+        ensures life_at_fault { (T : TheTable) (life : TheLife) → IsTraceOf T life self.old
             → IfErr result (λ fault. (fault ≡ FeedFault.Memory)
-            ⊎ Lives T (fed life piece.now (Some fault)) self.new) }
+            ⊎ IsTraceOf T (after_piece life piece.now (Some fault)) self.new) }
 
-        ensures total { total self.new.fed ≤ total self.old.fed + length piece.now }
+        ensures total { total_fed self.new.fed ≤ total_fed self.old.fed + length piece.now }
         ensures conn { self.new.conn ≡ self.old.conn }
         ensures heap { self.new.heap ≡ self.old.heap }
         ensures ready { (T : TheTable) → IsReady T self.old → IsReady T self.new }
     {
-        one_split();
-        one_frame();
+        split_is_unique();
+        frame_is_unique();
         frames_join();
         self.feed.feed(piece)
     }
 
     /// The first whole frame that waits, or `None`. Never allocates.
     pub fn first(&self) -> Option<&Frame>
-        ensures some { IfSome result (λ frame. IsFirst self.now.fed frame.now) }
+        ensures some { IfSome result (λ frame. IsFirstFrame self.now.fed frame.now) }
         ensures none { IfNone result (IsPartial self.now.fed.bytes) }
     {
         first_of(&self.feed)
@@ -129,21 +131,21 @@ impl Inbound {
     /// opens the connection. Returns `None` if the first whole frame is another one, or none waits. Never allocates.
     pub fn take_hello(&mut self) -> Option<Frame>
         ensures hello { IfSome result (λ frame. frame.kind ≡ HELLO) }
-        ensures taken { IfSome result (λ frame. Gives self.old.fed frame self.new.fed) }
-        ensures none { IfNone result ((f : TheFrame) → IsFirst self.old.fed f → f.kind ≢ HELLO) }
+        ensures taken { IfSome result (λ frame. IsNextFrame self.old.fed frame self.new.fed) }
+        ensures none { IfNone result ((f : TheFrame) → IsFirstFrame self.old.fed f → f.kind ≢ HELLO) }
         ensures same { IfNone result (self.new ≡ self.old) }
 
         ensures conn { self.new.conn ≡ self.old.conn }
         ensures heap { self.new.heap ≡ self.old.heap }
-        ensures total { total self.new.fed ≡ total self.old.fed }
+        ensures total { total_fed self.new.fed ≡ total_fed self.old.fed }
         ensures ready { (T : TheTable) → IsReady T self.old → IsReady T self.new }
 
         // Its trace is extended, if no frame had a fate before.
-        ensures life { IfSome result (λ frame. (T : TheTable) (life : TheLife) → Lives T life self.old
-            → life.hello ≡ None → life.fates ≡ [] → Lives T (greeted life frame) self.new) }
+        ensures life { IfSome result (λ frame. (T : TheTable) (life : TheLife) → IsTraceOf T life self.old
+            → life.hello ≡ None → life.fates ≡ [] → IsTraceOf T (after_hello life frame) self.new) }
     {
-        one_frame();
-        one_split();
+        frame_is_unique();
+        split_is_unique();
         frames_join();
         let frame = first_of(&self.feed)?;
         if frame.kind != HELLO {
@@ -170,23 +172,24 @@ impl Inbound {
         requires few { length (H.stores heap.old) ≤ 2 ^ 62 }
         requires blocks { self.old.heap.next < 2 ^ 32 }
 
-        ensures turns { IfOk result (Turns table.now (option_copied policy.entry) self.old self.new
+        ensures turns { IfOk result (IsTurnOf table.now (option_copied policy.entry) self.old self.new
             (H.stores heap.old) (H.stores heap.new)) }
         ensures none { (result ≡ Ok Arrival.None) ↔ IsPartial self.old.fed.bytes }
 
         // Its trace is extended, and so are the stores to its heap.
-        ensures life { (life : TheLife) → Lives table.now life self.old → IfOk result (λ arrival. (more : List Fated)
-            × Tells (option_copied policy.entry) arrival more
-            × (H.stores heap.new ≡ H.stores heap.old ++ flat_map stores_of more)
-            × Lives table.now (fated life more) self.new) }
+        ensures life { (life : TheLife) → IsTraceOf table.now life self.old
+            → IfOk result (λ arrival. (more : List Fated)
+            × IsAnswerFor (option_copied policy.entry) arrival more
+            × (H.stores heap.new ≡ H.stores heap.old ++ flat_map stores_of_fate more)
+            × IsTraceOf table.now (after_fates life more) self.new) }
         ensures few_stores { length (H.stores heap.new) ≤ length (H.stores heap.old) + (self.old.heap.words - 1) }
 
         ensures memory { OnErr result (HasStayed self.old self.new) }
         ensures no_store { OnErr result (H.stores heap.new ≡ H.stores heap.old) }
-        ensures life_stays { (life : TheLife) → Lives table.now life self.old
-            → OnErr result (Lives table.now life self.new) }
+        ensures life_stays { (life : TheLife) → IsTraceOf table.now life self.old
+            → OnErr result (IsTraceOf table.now life self.new) }
 
-        ensures total { total self.new.fed ≡ total self.old.fed }
+        ensures total { total_fed self.new.fed ≡ total_fed self.old.fed }
         ensures conn { self.new.conn ≡ self.old.conn }
         ensures places { self.new.heap.words ≡ self.old.heap.words }
         ensures next { self.new.heap.next ≤ self.old.heap.next + 1 }
@@ -194,8 +197,8 @@ impl Inbound {
         ensures words { H.words heap.new ≡ H.words heap.old }
         ensures same_heap { (first : H) → H.since first heap.old → H.since first heap.new }
     {
-        one_frame();
-        one_split();
+        frame_is_unique();
+        split_is_unique();
         frames_join();
         let arrival = self.answer(table, policy, heap);
         self.partition();
@@ -216,7 +219,7 @@ impl Inbound {
         ensures ready { (T : TheTable) → IsReady T self.old → IsReady T self.new }
 
         // Its trace is unchanged.
-        ensures life { (T : TheTable) (life : TheLife) → Lives T life self.old → Lives T life self.new }
+        ensures life { (T : TheTable) (life : TheLife) → IsTraceOf T life self.old → IsTraceOf T life self.new }
     {
         let taken_back = self.extents.reclaim(block);
         self.partition();
@@ -227,33 +230,33 @@ impl Inbound {
     /// Never allocates.
     pub fn waiting(&self, i: u64) -> Option<(u8, u16, u32)>
         ensures some { IfSome result (λ shown. (frames : List TheFrame) (rest : List ℕ)
-            → Splits self.now.fed.place self.now.fed.bytes frames rest
+            → IsSplitOf self.now.fed.place self.now.fed.bytes frames rest
             → (f : TheFrame) × (slice_get frames i ≡ Some f) × (shown ≡ (f.kind, f.method, f.number))) }
         ensures none { IfNone result ((frames : List TheFrame) (rest : List ℕ)
-            → Splits self.now.fed.place self.now.fed.bytes frames rest → slice_get frames i ≡ None) }
+            → IsSplitOf self.now.fed.place self.now.fed.bytes frames rest → slice_get frames i ≡ None) }
     {
         let frame = self.feed.peek(i as usize)?;
         Some((frame.kind, frame.method, frame.number))
     }
 
     /// How many of the fed bytes are in no whole frame. Never allocates.
-    pub fn left_over(&self) -> u64
-        ensures { (frames : List TheFrame) (rest : List ℕ) → Splits self.now.fed.place self.now.fed.bytes frames rest
+    pub fn partial_len(&self) -> u64
+        ensures { (frames : List TheFrame) (rest : List ℕ) → IsSplitOf self.now.fed.place self.now.fed.bytes frames rest
             → result ≡ length rest + self.now.fed.behind }
     {
-        self.feed.left_over()
+        self.feed.partial_len()
     }
 
     /// How many bytes were fed. Never allocates.
     pub fn fed(&self) -> u64
-        ensures { result ≡ total self.now.fed }
+        ensures { result ≡ total_fed self.now.fed }
     {
         self.feed.fed()
     }
 
     // A law; it does nothing. The invariant of the heap.
     fn partition(&self)
-        ensures { IsSound self.now.heap }
+        ensures { IsPartitioned self.now.heap }
     {
         self.extents.partition();
     }
@@ -270,12 +273,12 @@ impl Inbound {
         requires size { H.words heap.old ≡ self.old.heap.words }
         requires few { length (H.stores heap.old) ≤ 2 ^ 62 }
         requires blocks { self.old.heap.next < 2 ^ 32 }
-        ensures turns { IfOk result (Turns table.now (option_copied policy.entry) self.old self.new
+        ensures turns { IfOk result (IsTurnOf table.now (option_copied policy.entry) self.old self.new
             (H.stores heap.old) (H.stores heap.new)) }
         ensures none { (result ≡ Ok Arrival.None) ↔ IsPartial self.old.fed.bytes }
         ensures memory { OnErr result (HasStayed self.old self.new) }
         ensures no_store { OnErr result (H.stores heap.new ≡ H.stores heap.old) }
-        ensures total { total self.new.fed ≡ total self.old.fed }
+        ensures total { total_fed self.new.fed ≡ total_fed self.old.fed }
         ensures conn { self.new.conn ≡ self.old.conn }
         ensures places { self.new.heap.words ≡ self.old.heap.words }
         ensures next { self.new.heap.next ≤ self.old.heap.next + 1 }
@@ -296,12 +299,12 @@ impl Inbound {
         requires valid { IsValid table.now }
         requires ready { IsReady table.now self.old }
         ensures none { IfOk result (λ reading. IfNone reading (IsPartial self.old.fed.bytes × (self.new ≡ self.old))) }
-        ensures some { IfOk result (λ reading. IfSome reading (λ r. (f : TheFrame) × IsFirst self.old.fed f
+        ensures some { IfOk result (λ reading. IfSome reading (λ r. (f : TheFrame) × IsFirstFrame self.old.fed f
             × IsReading table.now self.old.conn f r)) }
         ensures kept { IfOk result (λ reading. IfSome reading (λ r. self.new.opened ≡ None)) }
         ensures words { (MIN_HEAP ≤ self.new.heap.words) × (self.new.heap.words ≤ MAX_HEAP) }
         ensures stays { HasStayed self.old self.new }
-        ensures first { OnErr result ((f : TheFrame) × IsFirst self.old.fed f) }
+        ensures first { OnErr result ((f : TheFrame) × IsFirstFrame self.old.fed f) }
         ensures memory { OnErr result (self.new ≡ self.old) }
     {
         let Some(frame) = first_of(&self.feed) else {
@@ -316,23 +319,24 @@ impl Inbound {
     // Handles the first frame, whose call was decoded.
     fn judge_first<H: Stores>(
         &mut self,
-        opened: Opened,
+        opened: DecodedCall,
         table: &Table,
         policy: Option<&Access>,
         heap: &mut H,
     ) -> Result<Arrival, Memory>
         requires valid { IsValid table.now }
-        requires opened { (f : TheFrame) × IsFirst self.old.fed f × IsOpened table.now self.old.conn f opened }
+        requires opened { (f : TheFrame) × IsFirstFrame self.old.fed f
+            × IsDecodedCall table.now self.old.conn f opened }
         requires none_kept { self.old.opened ≡ None }
         requires words { (MIN_HEAP ≤ self.old.heap.words) × (self.old.heap.words ≤ MAX_HEAP) }
         requires size { H.words heap.old ≡ self.old.heap.words }
         requires few { length (H.stores heap.old) ≤ 2 ^ 62 }
         requires blocks { self.old.heap.next < 2 ^ 32 }
-        ensures turns { IfOk result (Turns table.now (option_copied policy.entry) self.old self.new
+        ensures turns { IfOk result (IsTurnOf table.now (option_copied policy.entry) self.old self.new
             (H.stores heap.old) (H.stores heap.new)) }
         ensures memory { OnErr result (HasStayed self.old self.new) }
         ensures no_store { OnErr result (H.stores heap.new ≡ H.stores heap.old) }
-        ensures total { total self.new.fed ≡ total self.old.fed }
+        ensures total { total_fed self.new.fed ≡ total_fed self.old.fed }
         ensures conn { self.new.conn ≡ self.old.conn }
         ensures places { self.new.heap.words ≡ self.old.heap.words }
         ensures next { self.new.heap.next ≤ self.old.heap.next + 1 }
@@ -344,21 +348,22 @@ impl Inbound {
             return Ok(self.drop_first(why));
         }
         match self.extents.fit(opened.words) {
-            Some(at) => self.take_in(opened, at, table, heap),
-            None => Ok(self.let_wait(opened)),
+            Some(at) => self.place_first(opened, at, table, heap),
+            None => Ok(self.keep_waiting(opened)),
         }
     }
 
     // Takes the first frame, which must exist.
     fn take_first(&mut self) -> Frame
-        requires { (f : TheFrame) × IsFirst self.old.fed f }
-        ensures frame { (f : TheFrame) → IsFirst self.old.fed f → (result ≡ f) × Gives self.old.fed f self.new.fed }
-        ensures total { total self.new.fed ≡ total self.old.fed }
+        requires { (f : TheFrame) × IsFirstFrame self.old.fed f }
+        ensures frame { (f : TheFrame) → IsFirstFrame self.old.fed f → (result ≡ f)
+            × IsNextFrame self.old.fed f self.new.fed }
+        ensures total { total_fed self.new.fed ≡ total_fed self.old.fed }
         ensures conn { self.new.conn ≡ self.old.conn }
         ensures heap { self.new.heap ≡ self.old.heap }
         ensures opened { self.new.opened ≡ self.old.opened }
     {
-        one_frame();
+        frame_is_unique();
         match self.feed.next() {
             Some(frame) => frame,
             None => unreachable!(),
@@ -367,10 +372,10 @@ impl Inbound {
 
     // Drops the first frame.
     fn drop_first(&mut self, why: DropCause) -> Arrival
-        requires { (f : TheFrame) × IsFirst self.old.fed f }
-        ensures frame { (f : TheFrame) → IsFirst self.old.fed f
-            → (result ≡ Arrival.Dropped f.kind f.method f.number why) × Gives self.old.fed f self.new.fed }
-        ensures total { total self.new.fed ≡ total self.old.fed }
+        requires { (f : TheFrame) × IsFirstFrame self.old.fed f }
+        ensures frame { (f : TheFrame) → IsFirstFrame self.old.fed f
+            → (result ≡ Arrival.Dropped f.kind f.method f.number why) × IsNextFrame self.old.fed f self.new.fed }
+        ensures total { total_fed self.new.fed ≡ total_fed self.old.fed }
         ensures conn { self.new.conn ≡ self.old.conn }
         ensures heap { self.new.heap ≡ self.old.heap }
         ensures opened { self.new.opened ≡ self.old.opened }
@@ -385,7 +390,7 @@ impl Inbound {
     }
 
     // Keeps the call of the first frame until a hole is large enough.
-    fn let_wait(&mut self, opened: Opened) -> Arrival
+    fn keep_waiting(&mut self, opened: DecodedCall) -> Arrival
         ensures waits { (largest : ℕ) × (result ≡ Arrival.Waiting opened.words largest)
             × IsLargest self.old.heap.holes largest }
         ensures stays { HasStayed self.old self.new }
@@ -401,27 +406,28 @@ impl Inbound {
 
     // Places the call of the first frame in a block that starts at the first place of a hole. Allocates everything
     // before it stores the first word and takes the frame.
-    fn take_in<H: Stores>(
+    fn place_first<H: Stores>(
         &mut self,
-        opened: Opened,
+        opened: DecodedCall,
         at: u64,
         table: &Table,
         heap: &mut H,
     ) -> Result<Arrival, Memory>
         requires valid { IsValid table.now }
-        requires opened { (f : TheFrame) × IsFirst self.old.fed f × IsOpened table.now self.old.conn f opened }
+        requires opened { (f : TheFrame) × IsFirstFrame self.old.fed f
+            × IsDecodedCall table.now self.old.conn f opened }
         requires fits { (place : ℕ) → IsFirstFit self.old.heap.holes opened.words place → place ≡ at }
         requires inside { (1 ≤ at) × (at + opened.words ≤ self.old.heap.words) }
         requires none_kept { self.old.opened ≡ None }
         requires size { H.words heap.old ≡ self.old.heap.words }
         requires few { length (H.stores heap.old) ≤ 2 ^ 62 }
         requires blocks { self.old.heap.next < 2 ^ 32 }
-        ensures takes { IfOk result (λ arrival. (f : TheFrame) → IsFirst self.old.fed f
-            → IsOpened table.now self.old.conn f opened
-            → TakesCall table.now self.old self.new f opened (H.stores heap.old) (H.stores heap.new) arrival) }
+        ensures takes { IfOk result (λ arrival. (f : TheFrame) → IsFirstFrame self.old.fed f
+            → IsDecodedCall table.now self.old.conn f opened
+            → IsCallPlaced table.now self.old self.new f opened (H.stores heap.old) (H.stores heap.new) arrival) }
         ensures memory { OnErr result (HasStayed self.old self.new) }
         ensures no_store { OnErr result (H.stores heap.new ≡ H.stores heap.old) }
-        ensures total { total self.new.fed ≡ total self.old.fed }
+        ensures total { total_fed self.new.fed ≡ total_fed self.old.fed }
         ensures conn { self.new.conn ≡ self.old.conn }
         ensures places { self.new.heap.words ≡ self.old.heap.words }
         ensures next { self.new.heap.next ≤ self.old.heap.next + 1 }
@@ -429,7 +435,7 @@ impl Inbound {
         ensures words { H.words heap.new ≡ H.words heap.old }
         ensures same_heap { (first : H) → H.since first heap.old → H.since first heap.new }
     {
-        let Opened { call, words } = opened;
+        let DecodedCall { call, words } = opened;
         let message = table.message_at(call.method, call.number);
         let placed = layout(self.alloc, &call.tree, table, message, at)?;
         if matches!(heap.room_stores(placed.words.len() as u64), Room::Memory) {
@@ -453,7 +459,7 @@ impl Inbound {
 // The first whole frame of a feed, if one waits.
 fn first_of(feed: &Feed) -> Option<&Frame>
     requires { IsSplit feed.now }
-    ensures some { IfSome result (λ frame. IsFirst feed.now frame.now) }
+    ensures some { IfSome result (λ frame. IsFirstFrame feed.now frame.now) }
     ensures none { IfNone result (IsPartial feed.now.bytes) }
 {
     feed.peek(0)

@@ -6,17 +6,17 @@
 //! frame isn't decoded again but judged again, so the policy of the turn in which it arrives counts.
 //!
 //! `specs/Fates.antt` defines what becomes of a frame, `specs/Turns.antt` what a turn does to the receiver, and
-//! `specs/Life.antt` the trace of a receiver and the invariant that each call preserves. The crate uses
+//! `specs/ReceiverTraces.antt` the trace of a receiver and the invariant that each call preserves. The crate uses
 //! `frame_transport`, `wire_decode`, `policy_access`, `graph_form`, `graph_place`, `receive_heap`, `mrpc_base`
 //! and `mrpc_table`. The layers above use one contract: each frame has its fate, in order and once, however the
 //! stream was cut into pieces.
 #![tactic(auto)]
 
 mod arrival;
+mod decoded;
 mod inbound;
 mod laws;
-mod opened;
 
 pub use arrival::{Arrival, DropCause};
 pub use inbound::Inbound;
-pub use laws::{frames_in_order, life_of_receiver, one_fate};
+pub use laws::{fate_is_determined, frames_in_order, trace_of_receiver};

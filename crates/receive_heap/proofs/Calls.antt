@@ -10,29 +10,29 @@ use Rattle.std.specs.List.Sorted.{IsStrictlySortedBy, IsStrictlyIncreasing}
 use Rattle.std.proofs.lemmas.Map.Keys.{IsStrictlyIncreasing-from_sorted}
 use Rattle.std.proofs.lemmas.List.{get_or_default}
 use Rattle.std.proofs.lemmas.List.Sums.{sum_by_push}
-use Rattle.receive_heap.specs.declared.holes.Span.{Span}
+use Rattle.receive_heap.specs.declared.holes.PlaceRange.{PlaceRange}
 use Rattle.receive_heap.specs.declared.extents.Block.{Block}
-use Rattle.receive_heap.specs.Layout.{Layout, IsSound, has_place}
-use Rattle.receive_heap.specs.Parts.{Keeps, AreHoles, IsEntry, front_of, holes_at, one_at}
+use Rattle.receive_heap.specs.Layout.{Layout, IsPartitioned, has_place}
+use Rattle.receive_heap.specs.Parts.{HasLayoutInvariant, AreHoles, IsEntry, allocated_span, holes_at, one_at}
 use Rattle.receive_heap.proofs.Kept.{partition_kept, all_removed, length_removed, values_pushed, numbers_are}
 use Rattle.receive_heap.proofs.Places.{taken}
 
-abbrev pub laid : ℕ → List Span → List (ℕ × Block) → ℕ → Layout
+abbrev pub laid : ℕ → List PlaceRange → List (ℕ × Block) → ℕ → Layout
 laid words holes entries next = record { words = words; holes = holes; held = values_of entries; next = next }
 
-pub places_taken : (before holes after : List Span) (i words : ℕ) (x : Span) → before ≡ holes → i < length before → x ≡ get_or before i x
-    → ((place : ℕ) → holes_at after place + one_at (front_of before i words) place ≡ holes_at before place)
+pub places_taken : (before holes after : List PlaceRange) (i words : ℕ) (x : PlaceRange) → before ≡ holes → i < length before → x ≡ get_or before i x
+    → ((place : ℕ) → holes_at after place + one_at (allocated_span before i words) place ≡ holes_at before place)
     → (place : ℕ) → holes_at after place + one_at (record { at = x.at; words = words }) place ≡ holes_at holes place
 places_taken before holes after i words x same lt is places place =
-    let none : Span = record { at = 0; words = 0 } in
+    let none : PlaceRange = record { at = 0; words = 0 } in
     let e : get_or before i none ≡ x = get_or_default before i none x lt ∙ sym is in
     subst (λ hs. holes_at after place + one_at (record { at = x.at; words = words }) place ≡ holes_at hs place) same
-    (subst (λ (h : Span). holes_at after place + one_at (record { at = h.at; words = words }) place ≡ holes_at before place) e (places place))
+    (subst (λ (h : PlaceRange). holes_at after place + one_at (record { at = h.at; words = words }) place ≡ holes_at before place) e (places place))
 
-pub sound_from : (words next : ℕ) (holes : List Span) (entries : List (ℕ × Block)) (capacity : ℕ)
-    → Keeps (laid words holes entries next) entries capacity
+pub sound_from : (words next : ℕ) (holes : List PlaceRange) (entries : List (ℕ × Block)) (capacity : ℕ)
+    → HasLayoutInvariant (laid words holes entries next) entries capacity
     → IsStrictlySortedBy nat_cmp (map (λ (e : ℕ × Block). e.0) entries)
-    → IsSound (laid words holes entries next)
+    → IsPartitioned (laid words holes entries next)
 sound_from words next holes entries capacity keeps sorted = record {
   partition = keeps.partition;
   apart = keeps.apart;
@@ -44,12 +44,12 @@ sound_from words next holes entries capacity keeps sorted = record {
       (All-weaker (IsEntry next) (λ e. (1 ≤ e.1.number) × (e.1.number < next)) (λ e known. (omega (arith, known.0, known.1), omega (arith, known.0, known.2))) entries keeps.known);
 }
 
-pub reclaim_keeps : (words next number : ℕ) (holes after : List Span) (entries : List (ℕ × Block)) (block : Block) (capacity grown : ℕ)
-    → Keeps (laid words holes entries next) entries capacity → lookup (is_at (nat_cmp number)) entries ≡ Some block → AreHoles after
+pub reclaim_keeps : (words next number : ℕ) (holes after : List PlaceRange) (entries : List (ℕ × Block)) (block : Block) (capacity grown : ℕ)
+    → HasLayoutInvariant (laid words holes entries next) entries capacity → lookup (is_at (nat_cmp number)) entries ≡ Some block → AreHoles after
     → ((place : ℕ) → holes_at after place ≡ holes_at holes place
     + one_at (record { at = block.at; words = block.words }) place) → length after ≤ length holes + 1
     → capacity ≤ grown
-    → Keeps (laid words after (remove_entry (is_at (nat_cmp number)) entries) next) (remove_entry (is_at (nat_cmp number)) entries) grown
+    → HasLayoutInvariant (laid words after (remove_entry (is_at (nat_cmp number)) entries) next) (remove_entry (is_at (nat_cmp number)) entries) grown
 reclaim_keeps words next number holes after entries block capacity grown keeps found are places len larger = record {
   words = keeps.words;
   next = keeps.next;
@@ -63,11 +63,11 @@ reclaim_keeps words next number holes after entries block capacity grown keeps f
   room = omega (arith, keeps.room, len, larger, length_removed number entries block found);
 }
 
-pub take_keeps : (words next : ℕ) (holes after : List Span) (entries : List (ℕ × Block)) (block : Block) (capacity room : ℕ)
-    → Keeps (laid words holes entries next) entries capacity → block.number ≡ next → 1 ≤ block.words → AreHoles after
+pub take_keeps : (words next : ℕ) (holes after : List PlaceRange) (entries : List (ℕ × Block)) (block : Block) (capacity room : ℕ)
+    → HasLayoutInvariant (laid words holes entries next) entries capacity → block.number ≡ next → 1 ≤ block.words → AreHoles after
     → ((place : ℕ) → holes_at after place + one_at (record { at = block.at; words = block.words }) place
     ≡ holes_at holes place) → length after ≤ length holes → length holes + (length entries + 1) ≤ room
-    → Keeps (laid words after (entries ++ (next, block) ∷ []) (next + 1)) (entries ++ (next, block) ∷ []) room
+    → HasLayoutInvariant (laid words after (entries ++ (next, block) ∷ []) (next + 1)) (entries ++ (next, block) ∷ []) room
 take_keeps words next holes after entries block capacity room keeps number some are places len roomy = record {
   words = keeps.words;
   next = omega arith;

@@ -9,38 +9,38 @@ use Rattle.std.proofs.lemmas.List.{get_or_default}
 use Rattle.std.proofs.lemmas.List.Elements.{All-append, All-cons, All-take, All-drop, All-get_or}
 use Rattle.std.proofs.lemmas.List.Edits.{length-remove, get_or-remove_below, get_or-remove_above, length-insert, get_or-insert_below, get_or-insert_at, get_or-insert_above}
 use Rattle.std.proofs.lemmas.List.Quantifiers.{all_pairs_remove}
-use Rattle.receive_heap.specs.declared.holes.Span.{Span}
-use Rattle.receive_heap.specs.Layout.{AreApart}
-use Rattle.receive_heap.specs.Parts.{AreHoles, Stands, IsClearBehind, IsClearBefore, MeetsNone}
+use Rattle.receive_heap.specs.declared.holes.PlaceRange.{PlaceRange}
+use Rattle.receive_heap.specs.Layout.{AreSeparate}
+use Rattle.receive_heap.specs.Parts.{AreHoles, IsInsertedBetween, IsClearAfter, IsClearBefore, IsDisjointFrom}
 use Rattle.mrpc_table.specs.declared.limits.TheConstants.{MAX_HEAP}
 
-pub parted : (holes : List Span) (at : ℕ) → AreApart holes → IsPartitionedBy (λ hole. nat_lt hole.at at) holes
+pub parted : (holes : List PlaceRange) (at : ℕ) → AreSeparate holes → IsPartitionedBy (λ hole. nat_lt hole.at at) holes
 parted holes at apart i j d le lt low =
     ⊎_elim
     (λ less. let a = apart i j d less lt in grind (arith, nat_tests))
     (λ ge. let e : i ≡ j = omega arith in subst (λ k. nat_lt (get_or holes k d).at at ≡ true) (sym e) low)
     (cases_lt i j)
 
-all_remove : (P : Span → Type 0) (holes : List Span) (i : ℕ) → All P holes → All P (remove holes i)
+all_remove : (P : PlaceRange → Type 0) (holes : List PlaceRange) (i : ℕ) → All P holes → All P (remove holes i)
 all_remove P holes i all = All-append P (take i holes) (drop (suc i) holes) (All-take P i holes all) (All-drop P (suc i) holes all)
 
-all_insert : (P : Span → Type 0) (holes : List Span) (i : ℕ) (span : Span) → P span → All P holes → All P (insert holes i span)
+all_insert : (P : PlaceRange → Type 0) (holes : List PlaceRange) (i : ℕ) (span : PlaceRange) → P span → All P holes → All P (insert holes i span)
 all_insert P holes i span one all = All-append P (take i holes) (span ∷ drop i holes) (All-take P i holes all) (All-cons P span (drop i holes) one (All-drop P i holes all))
 
-pub holes_removed : (holes : List Span) (i : ℕ) → i < length holes → AreHoles holes → AreHoles (remove holes i)
+pub holes_removed : (holes : List PlaceRange) (i : ℕ) → i < length holes → AreHoles holes → AreHoles (remove holes i)
 holes_removed holes i lt are = record {
   apart = all_pairs_remove (λ hole later. hole.at + hole.words < later.at) holes i lt are.apart;
   some = all_remove (λ hole. 1 ≤ hole.words) holes i are.some;
   small = all_remove (λ hole. hole.at + hole.words ≤ MAX_HEAP) holes i are.small;
 }
 
-pub same_hole : (holes : List Span) (i : ℕ) (a b : Span) → i < length holes → a ≡ get_or holes i a → b ≡ get_or holes i b → a ≡ b
+pub same_hole : (holes : List PlaceRange) (i : ℕ) (a b : PlaceRange) → i < length holes → a ≡ get_or holes i a → b ≡ get_or holes i b → a ≡ b
 same_hole holes i a b lt is was = is ∙ get_or_default holes i a b lt ∙ sym was
 
 -- ---- the next hole
 
-pub clear_joined : (holes : List Span) (i : ℕ) (s h : Span) → AreHoles holes → i < length holes → h ≡ get_or holes i h → h.at ≡ s.at + s.words
-    → IsClearBehind (remove holes i) i (record { at = s.at; words = s.words + h.words })
+pub clear_joined : (holes : List PlaceRange) (i : ℕ) (s h : PlaceRange) → AreHoles holes → i < length holes → h ≡ get_or holes i h → h.at ≡ s.at + s.words
+    → IsClearAfter (remove holes i) i (record { at = s.at; words = s.words + h.words })
 clear_joined holes i s h are lt is touch k d le klt =
     let n = length-remove holes i lt in
     let within : k + 1 < length holes = omega (arith, n, klt) in
@@ -50,8 +50,8 @@ clear_joined holes i s h are lt is touch k d le klt =
     let e : get_or holes (k + 1) h ≡ get_or (remove holes i) k d = get_or_default holes (k + 1) h d within ∙ sym (get_or-remove_above holes i d k le lt) in
     subst (λ x. s.at + (s.words + h.words) < x.at) e (omega (arith, b, touch))
 
-pub stands_joined : (holes : List Span) (i : ℕ) (s h : Span) → AreHoles holes → Stands holes i s → i < length holes → h ≡ get_or holes i h → h.at ≡ s.at + s.words
-    → Stands (remove holes i) i (record { at = s.at; words = s.words + h.words })
+pub stands_joined : (holes : List PlaceRange) (i : ℕ) (s h : PlaceRange) → AreHoles holes → IsInsertedBetween holes i s → i < length holes → h ≡ get_or holes i h → h.at ≡ s.at + s.words
+    → IsInsertedBetween (remove holes i) i (record { at = s.at; words = s.words + h.words })
 stands_joined holes i s h are stands lt is touch =
     let n = length-remove holes i lt in
     let top = All-get_or (λ hole. hole.at + hole.words ≤ MAX_HEAP) holes i h lt are.small in
@@ -64,8 +64,8 @@ stands_joined holes i s h are stands lt is touch =
       behind = λ k d le klt. let c = clear_joined holes i s h are lt is touch k d le klt in omega (arith, c);
     }
 
-pub clear_apart : (holes : List Span) (i : ℕ) (s h : Span) → AreHoles holes → Stands holes i s → i < length holes → h ≡ get_or holes i h → h.at ≢ s.at + s.words
-    → IsClearBehind holes i s
+pub clear_apart : (holes : List PlaceRange) (i : ℕ) (s h : PlaceRange) → AreHoles holes → IsInsertedBetween holes i s → i < length holes → h ≡ get_or holes i h → h.at ≢ s.at + s.words
+    → IsClearAfter holes i s
 clear_apart holes i s h are stands lt is differs k d le klt =
     let b : s.at + s.words ≤ h.at = subst (λ x. s.at + s.words ≤ x.at) (sym is) (stands.behind i h (omega arith) lt) in
     let c : s.at + s.words < h.at = grind arith in
@@ -80,7 +80,7 @@ clear_apart holes i s h are stands lt is differs k d le klt =
 
 -- ---- the previous hole
 
-pub clear_joined_before : (holes : List Span) (i : ℕ) (s h : Span) → AreHoles holes → 0 < i → i - 1 < length holes → h ≡ get_or holes (i - 1) h
+pub clear_joined_before : (holes : List PlaceRange) (i : ℕ) (s h : PlaceRange) → AreHoles holes → 0 < i → i - 1 < length holes → h ≡ get_or holes (i - 1) h
     → IsClearBefore (remove holes (i - 1)) (i - 1) (record { at = h.at; words = h.words + s.words })
 clear_joined_before holes i s h are some lt is k d klt =
     let a = are.apart k (i - 1) h klt lt in
@@ -89,9 +89,9 @@ clear_joined_before holes i s h are some lt is k d klt =
     let e : get_or holes k h ≡ get_or (remove holes (i - 1)) k d = get_or_default holes k h d within ∙ sym (get_or-remove_below holes (i - 1) d k klt lt) in
     subst (λ x. x.at + x.words < h.at) e b
 
-pub stands_joined_before : (holes : List Span) (i : ℕ) (s h : Span) → AreHoles holes → Stands holes i s → 0 < i
+pub stands_joined_before : (holes : List PlaceRange) (i : ℕ) (s h : PlaceRange) → AreHoles holes → IsInsertedBetween holes i s → 0 < i
     → i - 1 < length holes → h ≡ get_or holes (i - 1) h → h.at + h.words ≡ s.at
-    → Stands (remove holes (i - 1)) (i - 1) (record { at = h.at; words = h.words + s.words })
+    → IsInsertedBetween (remove holes (i - 1)) (i - 1) (record { at = h.at; words = h.words + s.words })
 stands_joined_before holes i s h are stands some lt is touch =
     let n = length-remove holes (i - 1) lt in
     record {
@@ -104,7 +104,7 @@ stands_joined_before holes i s h are stands some lt is touch =
           subst (λ x. h.at + (h.words + s.words) ≤ x.at) (sym (get_or-remove_above holes (i - 1) d k le lt)) (omega (arith, b, touch));
     }
 
-pub clear_apart_before : (holes : List Span) (i : ℕ) (s h : Span) → AreHoles holes → Stands holes i s → 0 < i
+pub clear_apart_before : (holes : List PlaceRange) (i : ℕ) (s h : PlaceRange) → AreHoles holes → IsInsertedBetween holes i s → 0 < i
     → i - 1 < length holes → h ≡ get_or holes (i - 1) h → h.at + h.words ≢ s.at
     → IsClearBefore holes i s
 clear_apart_before holes i s h are stands some lt is differs k d klt =
@@ -122,7 +122,7 @@ clear_apart_before holes i s h are stands some lt is differs k d klt =
 -- ---- the span among the holes
 
 -- what is at an index of the list with the span: an earlier hole, the span, or a later hole
-pub holes_inserted : (holes : List Span) (i : ℕ) (s : Span) → AreHoles holes → Stands holes i s → IsClearBehind holes i s → IsClearBefore holes i s → AreHoles (insert holes i s)
+pub holes_inserted : (holes : List PlaceRange) (i : ℕ) (s : PlaceRange) → AreHoles holes → IsInsertedBetween holes i s → IsClearAfter holes i s → IsClearBefore holes i s → AreHoles (insert holes i s)
 holes_inserted holes i s are stands behind before = record {
   apart = λ j k d less klt.
       let n = length-insert holes i s stands.within in
@@ -171,8 +171,8 @@ holes_inserted holes i s are stands behind before = record {
 }
 
 -- a span that overlaps no hole is after those that start before it
-pub stands_between : (holes : List Span) (i : ℕ) (s : Span) → AreHoles holes → 1 ≤ s.words → s.at + s.words ≤ MAX_HEAP → MeetsNone holes s
-    → i ≤ length holes → AllWithin (λ hole. hole.at < s.at) holes 0 i → AllWithin (λ hole. s.at ≤ hole.at) holes i (length holes) → Stands holes i s
+pub stands_between : (holes : List PlaceRange) (i : ℕ) (s : PlaceRange) → AreHoles holes → 1 ≤ s.words → s.at + s.words ≤ MAX_HEAP → IsDisjointFrom holes s
+    → i ≤ length holes → AllWithin (λ hole. hole.at < s.at) holes 0 i → AllWithin (λ hole. s.at ≤ hole.at) holes i (length holes) → IsInsertedBetween holes i s
 stands_between holes i s are some small none within low high = record {
   within = within;
   words = some;

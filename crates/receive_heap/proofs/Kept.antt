@@ -9,10 +9,10 @@ use Rattle.std.specs.declared.cmp.Ordering.TheVariants.{Greater}
 use Rattle.std.proofs.lemmas.Bool.Decides.{nat_tests}
 use Rattle.std.proofs.lemmas.Bool.{cases_eq}
 use Rattle.std.proofs.lemmas.List.Elements.{All-head, All-tail, All-cons, All-nil, All-get_or}
-use Rattle.receive_heap.specs.declared.holes.Span.{Span}
+use Rattle.receive_heap.specs.declared.holes.PlaceRange.{PlaceRange}
 use Rattle.receive_heap.specs.declared.extents.Block.{Block}
 use Rattle.receive_heap.specs.Layout.{Layout, IsPartition, IsWithout, IsFirstFit, owners_of}
-use Rattle.receive_heap.specs.Parts.{IsEntry, FitsAt}
+use Rattle.receive_heap.specs.Parts.{IsEntry, IsFirstFitAt}
 
 behind : (number next : ℕ) → number < next → nat_cmp next number ≡ Greater
 behind number next lt = grind (arith, nat_tests)
@@ -142,19 +142,19 @@ numbers_are next (e ∷ entries) known =
 
 -- ---- the first hole that fits
 
-split_at : (holes : List Span) (i : ℕ) (x : Span) → i < length holes → x ≡ get_or holes i x → holes ≡ take i holes ++ x ∷ drop (suc i) holes
+split_at : (holes : List PlaceRange) (i : ℕ) (x : PlaceRange) → i < length holes → x ≡ get_or holes i x → holes ≡ take i holes ++ x ∷ drop (suc i) holes
 split_at [] i x lt is = absurd (omega (arith, lt))
 split_at (h ∷ holes) zero x lt is = ap (λ y. y ∷ holes) (sym is)
 split_at (h ∷ holes) (suc i) x lt is = ap (λ rest. h ∷ rest) (split_at holes i x (omega (arith, lt)) is)
 
-all_front : (words : ℕ) (holes : List Span) (i : ℕ) → ((k : ℕ) (d : Span) → k < i → (get_or holes k d).words < words)
+all_front : (words : ℕ) (holes : List PlaceRange) (i : ℕ) → ((k : ℕ) (d : PlaceRange) → k < i → (get_or holes k d).words < words)
     → i ≤ length holes → All (λ hole. hole.words < words) (take i holes)
 all_front words holes zero each le = All-nil (λ hole. hole.words < words)
 all_front words [] (suc i) each le = All-nil (λ hole. hole.words < words)
 all_front words (h ∷ holes) (suc i) each le =
     All-cons (λ hole. hole.words < words) h (take i holes) (each 0 h (omega arith)) (all_front words holes i (λ k d lt. each (suc k) d (omega (arith, lt))) (omega (arith, le)))
 
-pub first_from_index : (holes : List Span) (words i : ℕ) (x : Span) → FitsAt holes words i → x ≡ get_or holes i x → IsFirstFit holes words x.at
+pub first_from_index : (holes : List PlaceRange) (words i : ℕ) (x : PlaceRange) → IsFirstFitAt holes words i → x ≡ get_or holes i x → IsFirstFit holes words x.at
 first_from_index holes words i x fits is = record {
   before = take i holes;
   hole = x;
@@ -165,35 +165,35 @@ first_from_index holes words i x fits is = record {
   at_front = refl;
 }
 
-pub fits_some : (holes : List Span) (words index : ℕ) → FitsAt holes words index → All (λ hole. hole.words < words) holes → ⊥
+pub fits_some : (holes : List PlaceRange) (words index : ℕ) → IsFirstFitAt holes words index → All (λ hole. hole.words < words) holes → ⊥
 fits_some holes words index fits all =
-    let d : Span = record { at = 0; words = 0 } in
+    let d : PlaceRange = record { at = 0; words = 0 } in
     omega (arith, fits.there d, All-get_or (λ hole. hole.words < words) holes index d fits.within all)
 
 -- the first hole that fits is unique
-one_first : (words : ℕ) (xs ys : List Span) (x y : Span) (more others : List Span) → xs ++ x ∷ more ≡ ys ++ y ∷ others
+one_first : (words : ℕ) (xs ys : List PlaceRange) (x y : PlaceRange) (more others : List PlaceRange) → xs ++ x ∷ more ≡ ys ++ y ∷ others
     → All (λ hole. hole.words < words) xs → All (λ hole. hole.words < words) ys → words ≤ x.words → words ≤ y.words → x ≡ y
 one_first words [] [] x y more others e xs ys hx hy = cc
 one_first words [] (s ∷ ys) x y more others e all_x all_y hx hy =
     let same : x ≡ s = cc in
-    absurd (omega (arith, ap (λ (h : Span). h.words) same, hx, All-head (λ hole. hole.words < words) s ys all_y))
+    absurd (omega (arith, ap (λ (h : PlaceRange). h.words) same, hx, All-head (λ hole. hole.words < words) s ys all_y))
 one_first words (s ∷ xs) [] x y more others e all_x all_y hx hy =
     let same : s ≡ y = cc in
-    absurd (omega (arith, ap (λ (h : Span). h.words) same, hy, All-head (λ hole. hole.words < words) s xs all_x))
+    absurd (omega (arith, ap (λ (h : PlaceRange). h.words) same, hy, All-head (λ hole. hole.words < words) s xs all_x))
 one_first words (s ∷ xs) (z ∷ ys) x y more others e all_x all_y hx hy =
     let rest : xs ++ x ∷ more ≡ ys ++ y ∷ others = cc in
     one_first words xs ys x y more others rest (All-tail (λ hole. hole.words < words) s xs all_x) (All-tail (λ hole. hole.words < words) z ys all_y) hx hy
 
-pub one_fit : (holes : List Span) (words at other : ℕ) → IsFirstFit holes words at → IsFirstFit holes words other → at ≡ other
+pub one_fit : (holes : List PlaceRange) (words at other : ℕ) → IsFirstFit holes words at → IsFirstFit holes words other → at ≡ other
 one_fit holes words at other a b =
-    a.at_front ∙ ap (λ (h : Span). h.at) (one_first words a.before b.before a.hole b.hole a.after b.after (sym a.is ∙ b.is) a.too_small b.too_small a.fits b.fits) ∙ sym b.at_front
+    a.at_front ∙ ap (λ (h : PlaceRange). h.at) (one_first words a.before b.before a.hole b.hole a.after b.after (sym a.is ∙ b.is) a.too_small b.too_small a.fits b.fits) ∙ sym b.at_front
 
 -- if a hole fits, not all are too small
-pub fit_some : (holes : List Span) (words at : ℕ) → IsFirstFit holes words at → All (λ hole. hole.words < words) holes → ⊥
+pub fit_some : (holes : List PlaceRange) (words at : ℕ) → IsFirstFit holes words at → All (λ hole. hole.words < words) holes → ⊥
 fit_some holes words at fit all =
     omega (arith, fit.fits, All-middle fit.before fit.hole fit.after (subst (All (λ hole. hole.words < words)) fit.is all))
   where
-    All-middle : (before : List Span) (hole : Span) (after : List Span) → All (λ h. h.words < words) (before ++ hole ∷ after) → hole.words < words
+    All-middle : (before : List PlaceRange) (hole : PlaceRange) (after : List PlaceRange) → All (λ h. h.words < words) (before ++ hole ∷ after) → hole.words < words
     All-middle [] hole after all = All-head (λ h. h.words < words) hole after all
     All-middle (b ∷ before) hole after all = All-middle before hole after (All-tail (λ h. h.words < words) b (before ++ hole ∷ after) all)
 

@@ -2,10 +2,10 @@
 
 ghost use Rattle.std.specs.Prelude.{◌≡◌, ◌≢◌, ◌<◌, ◌≤◌, ◌+◌, ◌-◌, ◌^◌, ◌↔◌, ◌++◌, ◌∷◌, [], ℕ, All, Some, IfSome, IfNone, IfOk, OnOk, IfErr, OnErr, IsErr};
 ghost use Rattle.mrpc_table.specs.declared.limits.TheConstants.{MAX_HEAP, MIN_HEAP};
-ghost use Rattle.receive_heap.specs.Layout.{IsSound, IsFirstFit, IsLargest, IsNoHole, SaysLargest, IsWithout};
+ghost use Rattle.receive_heap.specs.Layout.{IsPartitioned, IsFirstFit, IsLargest, IsNoHole, HasLargest, IsWithout};
 
-use crate::Span;
-use crate::holes::{cut, first_fit, free, largest};
+use crate::PlaceRange;
+use crate::holes::{first_fit, free, largest, shrink_hole};
 use mrpc_table::Memory;
 use std::alloc::{AllocError, AllocFailed, Global};
 use std::collections::BTreeMap;
@@ -52,7 +52,7 @@ pub struct NotHeld {
 pub struct Extents {
     words: u64,
     // By place. There is capacity for one more for each held block.
-    holes: Vec<Span>,
+    holes: Vec<PlaceRange>,
     // By number.
     held: BTreeMap<u64, Block>,
     next: u64,
@@ -63,7 +63,7 @@ impl Model for Extents {
     ghost use Rattle.std.specs.Vec.{vec_capacity};
     ghost use Rattle.std.specs.Map.{values_of};
     ghost use Rattle.receive_heap.specs.Layout.{Layout};
-    ghost use Rattle.receive_heap.specs.Parts.{Keeps};
+    ghost use Rattle.receive_heap.specs.Parts.{HasLayoutInvariant};
 
     ghost Value = { Layout };
 
@@ -74,7 +74,7 @@ impl Model for Extents {
       next = e.next;
     } };
 
-    ghost invariant = { λ e. Keeps (record {
+    ghost invariant = { λ e. HasLayoutInvariant (record {
       words = e.words;
       holes = e.holes.items;
       held = values_of e.held.entries;
@@ -93,7 +93,7 @@ impl Extents {
         ensures next { IfOk result (λ extents. extents.next ≡ 1) }
     {
         let mut holes = Vec::with_capacity(alloc, 1)?;
-        holes.push(Span {
+        holes.push(PlaceRange {
             at: 1,
             words: words - 1,
         })?;
@@ -136,7 +136,7 @@ impl Extents {
 
         // If a hole is large enough, the only error is `Memory`.
         ensures no_hole { IsNoHole result ↔ All (λ hole. hole.words < words) self.old.holes }
-        ensures largest { IfErr result (SaysLargest self.old.holes words) }
+        ensures largest { IfErr result (HasLargest self.old.holes words) }
         ensures err { OnErr result (self.new ≡ self.old) }
     {
         let Some(index) = first_fit(&self.holes, words) else {
@@ -156,7 +156,7 @@ impl Extents {
         if self.held.insert(block.number, block).is_err() {
             return Err(TakeFault::Memory);
         }
-        cut(&mut self.holes, index, words);
+        shrink_hole(&mut self.holes, index, words);
         self.next += 1;
         Ok(block)
     }
@@ -176,7 +176,7 @@ impl Extents {
         };
         free(
             &mut self.holes,
-            Span {
+            PlaceRange {
                 at: held.at,
                 words: held.words,
             },
@@ -187,7 +187,7 @@ impl Extents {
     /// A law; it does nothing. Held blocks and holes partition the places from 1 on, no two holes touch, and held
     /// blocks have distinct numbers below the next one.
     pub fn partition(&self)
-        ensures { IsSound self.now }
+        ensures { IsPartitioned self.now }
     {
         let _ = self.held.len();
     }

@@ -12,5 +12,5 @@ mod holes;
 mod laws;
 
 pub use extents::{Block, Extents, NotHeld, TakeFault};
-pub use holes::Span;
+pub use holes::PlaceRange;
 pub use laws::held_determine_holes;

@@ -6,31 +6,31 @@ use Rattle.std.proofs.lemmas.Option.{slice_get_cases}
 use Rattle.mrpc_base.specs.Heap.{races_with, stores_of}
 use Rattle.mrpc_table.specs.Valid.{IsValid}
 use Rattle.mrpc_table.specs.declared.call.Call.{Call}
-use Rattle.engine_core.specs.Chains.{Changes, changed}
+use Rattle.engine_core.specs.Chains.{HasChanged, changed}
 use Rattle.engine_core.specs.Moves.{first_at, moved_by}
 use Rattle.engine_core.specs.declared.call_row.TheConstants.{MAX_CALLS}
 use Rattle.engine_core.specs.declared.op.Op.{Op as Step}
 use Rattle.engine_core.specs.declared.op.Op.TheVariants as op
-use Rattle.policy_declarations.specs.declared.item.NamedPolicy.{NamedPolicy}
-use Rattle.replay_script.specs.Lines.{IsLine, conn_of, done, is_conn, op_in}
-use Rattle.replay_script.specs.declared.script.Line.{Line}
-use Rattle.replay_script.specs.declared.script.Line.TheVariants as line
+use Rattle.policy_declarations.specs.declared.declaration.NamedPolicy.{NamedPolicy}
+use Rattle.replay_script.specs.Lines.{IsValidLine, conn_of, chain_after_op, is_conn, op_in}
+use Rattle.replay_script.specs.declared.script.ScriptLine.{ScriptLine}
+use Rattle.replay_script.specs.declared.script.ScriptLine.TheVariants as line
 use Rattle.replay_script.specs.declared.script.Script.{Script}
-use Rattle.call_history.specs.Behind.{chain, moment, standing, taken}
-use Rattle.call_history.specs.Events.{Comes, Course, IsReady, accepted, accepts, changes, has_turn, is_away}
-use Rattle.call_history.specs.Events.{link_failed, operates, refused_for_link, rises, shows, stays, takes, turned}
-use Rattle.call_history.specs.Events.{turns, turns_away}
+use Rattle.call_history.specs.Trace.{chain, timestamp, pending_calls, taken}
+use Rattle.call_history.specs.Transitions.{IsTransition, ConnState, IsReady, accepted, accepts, changes, has_turn, is_away}
+use Rattle.call_history.specs.Transitions.{link_failed, operates, refused_for_link, rises, shows, stays, takes, trace_after_turn}
+use Rattle.call_history.specs.Transitions.{turns, turns_away}
 use Rattle.call_history.specs.Frames.{frames}
 use Rattle.call_history.specs.Legal.{History}
 use Rattle.call_history.specs.Loads.{IsLoaded}
-use Rattle.call_history.specs.Rules.{MayTake, Under}
+use Rattle.call_history.specs.Rules.{MayTake, JudgeContext}
 use Rattle.call_history.specs.declared.happening.Cause.TheVariants as cause
 use Rattle.call_history.specs.declared.happening.Happening.TheVariants as what
-use Rattle.call_history.specs.declared.happening.Taken.{Taken}
+use Rattle.call_history.specs.declared.happening.AcceptedCall.{AcceptedCall}
 use Rattle.call_history.specs.declared.happening.TookCopy.{TookCopy}
 use Rattle.call_history.specs.declared.happening.TookCopy.TheVariants.{Copy, Malformed}
-use Rattle.replay_run.specs.Follows.{Does, Fails, GetsTo, Opened, by_drain, by_send, come_to, on_connection, read_at, submitted, under}
-use Rattle.replay_run.specs.Follows.Does.{stores, races, submits, is_away as is_turned_away, operates_on, shows_it, is_idle, has_turn as does_turn, none_ready, is_sent as does_send, drains}
+use Rattle.replay_run.specs.Follows.{IsLineEffect, IsSendFailure, CanSendAt, OpenConnection, by_drain, by_send, with_state, event_on, read_at, submitted, script_context}
+use Rattle.replay_run.specs.Follows.IsLineEffect.{stores, races, submits, is_away as is_turned_away, operates_on, advances_clock, is_idle, has_turn as does_turn, none_ready, is_sent as does_send, drains}
 use Rattle.replay_laws.proofs.Drains.{drains-on, leaves}
 use Rattle.replay_laws.proofs.Growing.{Grows, after_refusals, grows-more, grows-none, grows-then, one-still, refusals-grow, refusals-still}
 use Rattle.replay_laws.proofs.Heaps.{AreSmall, AreSmallRaces, read-small, small-append, small-stores, small-with}
@@ -40,48 +40,48 @@ use Rattle.replay_laws.proofs.Turning.{Stands, TurnLaws, chain-turned, entries_o
 -- ---- open connections
 
 -- properties of a connection whose link is up, apart from its state
-pub record IsOpen (o : Opened) : Type 0 where
+pub record IsOpen (o : OpenConnection) : Type 0 where
   pub going : o.course.ended ≡ false
   pub stores : AreSmall o.stores
   pub races : AreSmallRaces o.races
 
 -- a line on its connection fails after this many sends of all connections
-pub record FailsOn (s : Script) (l : Line) (one : Opened) (h : History) (n : ℕ) : Type 0 where
+pub record FailsOn (s : Script) (l : ScriptLine) (one : OpenConnection) (h : History) (n : ℕ) : Type 0 where
   pub tried : Call
-  pub other : Opened
+  pub other : OpenConnection
   pub history : History
-  pub fails : Fails s l one tried other
+  pub fails : IsSendFailure s l one tried other
   pub grows : Grows one.conn h one.course.past history other.course.past
   pub count : length (frames s.table history) ≡ n
 
 -- the effect of a line on its connection
-pub record DoesOn (s : Script) (l : Line) (one : Opened) (h : History) : Type 0 where
-  pub other : Opened
+pub record DoesOn (s : Script) (l : ScriptLine) (one : OpenConnection) (h : History) : Type 0 where
+  pub other : OpenConnection
   pub history : History
-  pub does : Does s l one other
+  pub does : IsLineEffect s l one other
   pub grows : Grows one.conn h one.course.past history other.course.past
   pub conn : other.conn ≡ one.conn
   pub opened : IsOpen other
-  pub same_chain : chain other.course.past ≡ done (op_in s.declared.policies l) (chain one.course.past)
+  pub same_chain : chain other.course.past ≡ chain_after_op (op_in s.declared.policies l) (chain one.course.past)
   pub tries : (n : ℕ) → length (frames s.table h) ≤ n → n < length (frames s.table history) → FailsOn s l one h n
 
 -- if nothing is sent, nothing fails
-none-fails : (s : Script) (l : Line) (one : Opened) (h i : History) → length (frames s.table i) ≡ length (frames s.table h) → (n : ℕ)
+none-fails : (s : Script) (l : ScriptLine) (one : OpenConnection) (h i : History) → length (frames s.table i) ≡ length (frames s.table h) → (n : ℕ)
     → length (frames s.table h) ≤ n → n < length (frames s.table i) → FailsOn s l one h n
 none-fails s l one h i same n from below = absurd (omega arith)
 
-module _ (laws : TurnLaws) (graphs : GraphLaws) (s : Script) (one : Opened) (h : History) (opened : IsOpen one) (stands : Stands (under s one.conn) h one.course) where
-  abbrev u : Under
-  u = under s one.conn
+module _ (laws : TurnLaws) (graphs : GraphLaws) (s : Script) (one : OpenConnection) (h : History) (opened : IsOpen one) (stands : Stands (script_context s one.conn) h one.course) where
+  abbrev u : JudgeContext
+  u = script_context s one.conn
 
-  with-course : (c : Course) → c.ended ≡ false → IsOpen (come_to one c)
+  with-course : (c : ConnState) → c.ended ≡ false → IsOpen (with_state one c)
   with-course c going = record { going = going; stores = opened.stores; races = opened.races }
 
   -- ---- stores and races
 
   does-store : (place value : ℕ) → value < 2 ^ 64 → DoesOn s (line.Store one.conn place value) one h
   does-store place value low =
-      let new : Opened = record one { stores = one.stores ++ (place, value) ∷ [] } in
+      let new : OpenConnection = record one { stores = one.stores ++ (place, value) ∷ [] } in
       record {
         other = new;
         history = h;
@@ -95,7 +95,7 @@ module _ (laws : TurnLaws) (graphs : GraphLaws) (s : Script) (one : Opened) (h :
 
   does-race : (load place value : ℕ) → value < 2 ^ 64 → DoesOn s (line.Race one.conn load place value) one h
   does-race load place value low =
-      let new : Opened = record one { races = races_with one.races (record { load = load; place = place; value = value }) } in
+      let new : OpenConnection = record one { races = races_with one.races (record { load = load; place = place; value = value }) } in
       record {
         other = new;
         history = h;
@@ -109,14 +109,14 @@ module _ (laws : TurnLaws) (graphs : GraphLaws) (s : Script) (one : Opened) (h :
 
   -- ---- submissions
 
-  record Accepts (call : Taken) : Type 0 where
+  record Accepts (call : AcceptedCall) : Type 0 where
     history : History
     grows : Grows one.conn h one.course.past history (accepted call one.course).past
     same_chain : chain (accepted call one.course).past ≡ chain one.course.past
     going : (accepted call one.course).ended ≡ false
     still : length (frames s.table history) ≡ length (frames s.table h)
 
-  abbrev call_of : (method number addr count : ℕ) → TookCopy → Taken
+  abbrev call_of : (method number addr count : ℕ) → TookCopy → AcceptedCall
   call_of method number addr count copy = record {
     seq = length (taken one.course.past) + 1;
     method = method;
@@ -129,19 +129,19 @@ module _ (laws : TurnLaws) (graphs : GraphLaws) (s : Script) (one : Opened) (h :
 
   accepts-it : (method number addr count : ℕ) (copy : TookCopy) → Accepts (call_of method number addr count copy)
   accepts-it method number addr count (Copy tree) =
-      let call : Taken = call_of method number addr count (Copy tree) in
+      let call : AcceptedCall = call_of method number addr count (Copy tree) in
       record {
-        history = h ++ on_connection one.conn (what.Took call) ∷ [];
+        history = h ++ event_on one.conn (what.Took call) ∷ [];
         grows = grows-more laws.growth one.conn h h one.course.past one.course.past (what.Took call) (grows-none one.conn h one.course.past stands.here) (λ tenant window. inl refl);
         same_chain = refl;
         going = opened.going;
         still = one-still laws.growth one.conn s.table h (what.Took call) (λ past. refl);
       }
   accepts-it method number addr count (Malformed reason place value) =
-      let call : Taken = call_of method number addr count (Malformed reason place value) in
-      let i : History = h ++ on_connection one.conn (what.Took call) ∷ [] in
+      let call : AcceptedCall = call_of method number addr count (Malformed reason place value) in
+      let i : History = h ++ event_on one.conn (what.Took call) ∷ [] in
       record {
-        history = i ++ on_connection one.conn (what.Refused call.seq cause.Malformed) ∷ [];
+        history = i ++ event_on one.conn (what.Refused call.seq cause.Malformed) ∷ [];
         grows = grows-more laws.growth one.conn h i one.course.past (what.Took call ∷ one.course.past) (what.Refused call.seq cause.Malformed)
             (grows-more laws.growth one.conn h h one.course.past one.course.past (what.Took call) (grows-none one.conn h one.course.past stands.here) (λ tenant window. inl refl))
             (λ tenant window. inl refl);
@@ -151,18 +151,18 @@ module _ (laws : TurnLaws) (graphs : GraphLaws) (s : Script) (one : Opened) (h :
             ∙ one-still laws.growth one.conn s.table h (what.Took call) (λ past. refl);
       }
 
-  may-take : (method number addr count : ℕ) (copy : TookCopy) → length (standing one.course.past) < MAX_CALLS → count ≤ s.loads
+  may-take : (method number addr count : ℕ) (copy : TookCopy) → length (pending_calls one.course.past) < MAX_CALLS → count ≤ s.loads
       → IsSoundCopy s.table method number copy → MayTake u one.course.past (call_of method number addr count copy)
   may-take method number addr count (Copy tree) few loads sound = record { number = refl; few = few; loads = loads; copy = sound }
   may-take method number addr count (Malformed reason place value) few loads sound = record { number = refl; few = few; loads = loads; copy = sound }
 
-  does-take : (method number addr : ℕ) → length (standing one.course.past) < MAX_CALLS
+  does-take : (method number addr : ℕ) → length (pending_calls one.course.past) < MAX_CALLS
       → Takes s.table one.words s.loads method number addr (read_at one.stores one.races) → DoesOn s (line.Submit one.conn method number addr) one h
   does-take method number addr few t =
-      let call : Taken = call_of method number addr (length t.own) t.copy in
+      let call : AcceptedCall = call_of method number addr (length t.own) t.copy in
       let a = accepts-it method number addr (length t.own) t.copy in
-      let c : Course = accepted call one.course in
-      let comes : Comes u one.course (accepts call) c = takes call refl opened.going (may-take method number addr (length t.own) t.copy few t.few t.sound) refl in
+      let c : ConnState = accepted call one.course in
+      let comes : IsTransition u one.course (accepts call) c = takes call refl opened.going (may-take method number addr (length t.own) t.copy few t.few t.sound) refl in
       let loaded : IsLoaded s.table one.words s.loads call t.own = record { taken = t.taken; counted = refl } in
       record {
         other = submitted one t.own c;
@@ -175,69 +175,69 @@ module _ (laws : TurnLaws) (graphs : GraphLaws) (s : Script) (one : Opened) (h :
         tries = none-fails s (line.Submit one.conn method number addr) one h a.history a.still;
       }
 
-  does-turn-away : (method number addr : ℕ) → length (standing one.course.past) ≡ MAX_CALLS → DoesOn s (line.Submit one.conn method number addr) one h
+  does-turn-away : (method number addr : ℕ) → length (pending_calls one.course.past) ≡ MAX_CALLS → DoesOn s (line.Submit one.conn method number addr) one h
   does-turn-away method number addr full =
-      let c : Course = record one.course { past = what.Away method number addr ∷ one.course.past } in
-      let comes : Comes u one.course (turns_away method number addr) c = is_away method number addr refl full refl in
+      let c : ConnState = record one.course { past = what.Away method number addr ∷ one.course.past } in
+      let comes : IsTransition u one.course (turns_away method number addr) c = is_away method number addr refl full refl in
       record {
         other = submitted one [] c;
-        history = h ++ on_connection one.conn (what.Away method number addr) ∷ [];
+        history = h ++ event_on one.conn (what.Away method number addr) ∷ [];
         does = is_turned_away method number addr c refl comes refl;
         grows = grows-more laws.growth one.conn h h one.course.past one.course.past (what.Away method number addr)
             (grows-none one.conn h one.course.past stands.here) (λ tenant window. inl refl);
         conn = refl;
         opened = record { going = opened.going; stores = small-append one.stores (stores_of one.races) opened.stores (small-stores one.races opened.races); races = tt };
         same_chain = refl;
-        tries = none-fails s (line.Submit one.conn method number addr) one h (h ++ on_connection one.conn (what.Away method number addr) ∷ [])
+        tries = none-fails s (line.Submit one.conn method number addr) one h (h ++ event_on one.conn (what.Away method number addr) ∷ [])
             (one-still laws.growth one.conn s.table h (what.Away method number addr) (λ past. refl));
       }
 
   does-submit : (method number addr : ℕ) → IsValid s.table → 1 ≤ s.loads
-      → length (standing one.course.past) ≤ MAX_CALLS → DoesOn s (line.Submit one.conn method number addr) one h
-  does-submit method number addr valid least few = elim (cases_lt (length (standing one.course.past)) MAX_CALLS) [
+      → length (pending_calls one.course.past) ≤ MAX_CALLS → DoesOn s (line.Submit one.conn method number addr) one h
+  does-submit method number addr valid least few = elim (cases_lt (length (pending_calls one.course.past)) MAX_CALLS) [
     | inl low ↦ does-take method number addr low
         (taken-somehow graphs s.table one.words s.loads method number addr (read_at one.stores one.races) valid least (read-small one.stores one.races opened.stores opened.races))
-    | inr high ↦ does-turn-away method number addr (let full : length (standing one.course.past) ≡ MAX_CALLS = omega arith in full)
+    | inr high ↦ does-turn-away method number addr (let full : length (pending_calls one.course.past) ≡ MAX_CALLS = omega arith in full)
   ]
 
   -- ---- operators and the clock
 
-  does-operate : (l : Line) (step : Step) → op_in s.declared.policies l ≡ Some step
-      → Changes (chain one.course.past) step (changed step (chain one.course.past)) → DoesOn s l one h
+  does-operate : (l : ScriptLine) (step : Step) → op_in s.declared.policies l ≡ Some step
+      → HasChanged (chain one.course.past) step (changed step (chain one.course.past)) → DoesOn s l one h
   does-operate l step is change =
-      let c : Course = record one.course { past = what.Op step ∷ one.course.past; row = moved_by step (chain one.course.past).entries one.course.row } in
-      let comes : Comes u one.course (operates step) c = changes step refl change refl in
+      let c : ConnState = record one.course { past = what.Op step ∷ one.course.past; row = moved_by step (chain one.course.past).entries one.course.row } in
+      let comes : IsTransition u one.course (operates step) c = changes step refl change refl in
       record {
-        other = come_to one c;
-        history = h ++ on_connection one.conn (what.Op step) ∷ [];
+        other = with_state one c;
+        history = h ++ event_on one.conn (what.Op step) ∷ [];
         does = operates_on step c is comes refl;
         grows = grows-more laws.growth one.conn h h one.course.past one.course.past (what.Op step) (grows-none one.conn h one.course.past stands.here) (λ tenant window. inl refl);
         conn = refl;
         opened = with-course c opened.going;
-        same_chain = ap (λ o. done o (chain one.course.past)) (sym is);
-        tries = none-fails s l one h (h ++ on_connection one.conn (what.Op step) ∷ []) (one-still laws.growth one.conn s.table h (what.Op step) (λ past. refl));
+        same_chain = ap (λ o. chain_after_op o (chain one.course.past)) (sym is);
+        tries = none-fails s l one h (h ++ event_on one.conn (what.Op step) ∷ []) (one-still laws.growth one.conn s.table h (what.Op step) (λ past. refl));
       }
 
   does-moment : (ms : ℕ) → DoesOn s (line.Moment one.conn ms) one h
-  does-moment ms = elim (cases_lt (moment one.course.past) ms) [
+  does-moment ms = elim (cases_lt (timestamp one.course.past) ms) [
     | inl later ↦
-        let c : Course = record one.course { past = what.Moment ms ∷ one.course.past } in
-        let comes : Comes u one.course (shows ms) c = rises ms refl later refl in
+        let c : ConnState = record one.course { past = what.Moment ms ∷ one.course.past } in
+        let comes : IsTransition u one.course (shows ms) c = rises ms refl later refl in
         record {
-          other = come_to one c;
-          history = h ++ on_connection one.conn (what.Moment ms) ∷ [];
-          does = shows_it ms c refl comes refl;
+          other = with_state one c;
+          history = h ++ event_on one.conn (what.Moment ms) ∷ [];
+          does = advances_clock ms c refl comes refl;
           grows = grows-more laws.growth one.conn h h one.course.past one.course.past (what.Moment ms) (grows-none one.conn h one.course.past stands.here) (λ tenant window. inl refl);
           conn = refl;
           opened = with-course c opened.going;
           same_chain = refl;
-          tries = none-fails s (line.Moment one.conn ms) one h (h ++ on_connection one.conn (what.Moment ms) ∷ [])
+          tries = none-fails s (line.Moment one.conn ms) one h (h ++ event_on one.conn (what.Moment ms) ∷ [])
               (one-still laws.growth one.conn s.table h (what.Moment ms) (λ past. refl));
         }
     | inr earlier ↦ record {
-      other = come_to one one.course;
+      other = with_state one one.course;
       history = h;
-      does = shows_it ms one.course refl (stays ms refl earlier refl) refl;
+      does = advances_clock ms one.course refl (stays ms refl earlier refl) refl;
       grows = grows-none one.conn h one.course.past stands.here;
       conn = refl;
       opened = with-course one.course opened.going;
@@ -261,10 +261,10 @@ module _ (laws : TurnLaws) (graphs : GraphLaws) (s : Script) (one : Opened) (h :
   }
   does-turn-by at low (Some x) is =
       let t = has-turn laws u h one.course stands at x low is in
-      let c : Course = turned t.entry t.seq t.outcome one.course in
-      let comes : Comes u one.course (turns at t.seq t.outcome) c = has_turn at t.seq t.outcome t.entry refl t.has refl in
+      let c : ConnState = trace_after_turn t.entry t.seq t.outcome one.course in
+      let comes : IsTransition u one.course (turns at t.seq t.outcome) c = has_turn at t.seq t.outcome t.entry refl t.has refl in
       record {
-        other = come_to one c;
+        other = with_state one c;
         history = t.history;
         does = does_turn at t.seq t.outcome c refl comes refl;
         grows = t.grows;
@@ -277,15 +277,15 @@ module _ (laws : TurnLaws) (graphs : GraphLaws) (s : Script) (one : Opened) (h :
   -- ---- sends
 
   -- the send of a ready call can fail
-  fails-at : (l : Line) (at : Course) (i : History) (n : ℕ) → GetsTo s l one at → Grows one.conn h one.course.past i at.past → Stands u i at
+  fails-at : (l : ScriptLine) (at : ConnState) (i : History) (n : ℕ) → CanSendAt s l one at → Grows one.conn h one.course.past i at.past → Stands u i at
       → (seq bytes : ℕ) → IsReady u at seq bytes → length (frames s.table i) ≡ n → FailsOn s l one h n
   fails-at l at i n gets grows there seq bytes ready count =
-      let calls : List Taken = standing at.past in
-      let c : Course = record { past = refused_for_link calls at.past; row = []; ended = true } in
+      let calls : List AcceptedCall = pending_calls at.past in
+      let c : ConnState = record { past = refused_for_link calls at.past; row = []; ended = true } in
       let refused = refusals-grow laws.growth one.conn calls i at.past there.here in
       record {
         tried = ready.sent;
-        other = come_to one c;
+        other = with_state one c;
         history = after_refusals laws.growth one.conn calls i;
         fails = record { at = at; gets = gets; seq = seq; bytes = bytes; ready = ready; is_tried = refl; refused = link_failed refl refl; same = refl };
         grows = grows-then one.conn h i (after_refusals laws.growth one.conn calls i) one.course.past at.past c.past grows refused;
@@ -306,7 +306,7 @@ module _ (laws : TurnLaws) (graphs : GraphLaws) (s : Script) (one : Opened) (h :
   does-send-by (Some x) is =
       let l = leaves laws u h one.course stands x is in
       record {
-        other = come_to one l.course;
+        other = with_state one l.course;
         history = l.history;
         does = does_send l.seq l.bytes l.course refl l.comes refl;
         grows = l.grows;
@@ -323,7 +323,7 @@ module _ (laws : TurnLaws) (graphs : GraphLaws) (s : Script) (one : Opened) (h :
   does-drain =
       let d = drains-on laws u h one.course stands in
       record {
-        other = come_to one d.course;
+        other = with_state one d.course;
         history = d.history;
         does = drains d.course refl d.drains refl;
         grows = d.grows;
@@ -338,14 +338,14 @@ module _ (laws : TurnLaws) (graphs : GraphLaws) (s : Script) (one : Opened) (h :
   -- ---- each line
 
   -- what a script guarantees for a line of the connection
-  pub record Given (l : Line) : Type 0 where
+  pub record Given (l : ScriptLine) : Type 0 where
     pub valid : IsValid s.table
     pub least : 1 ≤ s.loads
-    pub few : length (standing one.course.past) ≤ MAX_CALLS
-    pub ranges : IsLine (length s.declared.policies) l
+    pub few : length (pending_calls one.course.past) ≤ MAX_CALLS
+    pub ranges : IsValidLine (length s.declared.policies) l
     pub on : conn_of l ≡ one.conn
     pub uses : is_conn l ≡ false
-    pub step : (o : Step) → op_in s.declared.policies l ≡ Some o → Changes (chain one.course.past) o (changed o (chain one.course.past))
+    pub step : (o : Step) → op_in s.declared.policies l ≡ Some o → HasChanged (chain one.course.past) o (changed o (chain one.course.past))
     pub engine : (conn at : ℕ) → l ≡ line.Turn conn at → at < length (entries_of one.course)
 
   policy-at : (policy : ℕ) → policy < length s.declared.policies → (p : NamedPolicy) × (slice_get s.declared.policies policy ≡ Some p)
@@ -354,7 +354,7 @@ module _ (laws : TurnLaws) (graphs : GraphLaws) (s : Script) (one : Opened) (h :
     | inr past ↦ let far : length s.declared.policies ≤ policy = past.0 in absurd (omega arith)
   ]
 
-  pub does-line : (l : Line) → Given l → DoesOn s l one h
+  pub does-line : (l : ScriptLine) → Given l → DoesOn s l one h
   does-line (line.Conn conn words) g = absurd (let never : is_conn (line.Conn conn words) ≡ false = g.uses in cc)
   does-line (line.Store conn place value) g =
       subst (λ c. DoesOn s (line.Store c place value) one h) (sym g.on) (does-store place value g.ranges)

@@ -8,35 +8,35 @@ use Rattle.frame_transport.specs.declared.format.TheConstants.{HEADER_LEN}
 use Rattle.engine_core.specs.Moves.{Row, first_at, without_call}
 use Rattle.engine_core.specs.declared.outcome.Outcome.{Outcome}
 use Rattle.engine_core.specs.declared.outcome.Outcome.TheVariants as outcomes
-use Rattle.call_history.specs.Behind.{chain}
-use Rattle.call_history.specs.Draining.{BeginsToDrain, Drains, Ending, IsDone, Passes, SendsSome, Turns, again}
+use Rattle.call_history.specs.Trace.{chain}
+use Rattle.call_history.specs.Draining.{HasPartlyDrained, HasDrained, TurnsEnding, IsFinalOutcome, IsPass, HasSentSome, HasTurns, again}
 use Rattle.call_history.specs.Draining.{at_rest, begins_again, goes, is_held, is_idle, is_over, next, none, one}
 use Rattle.call_history.specs.Draining.{redacts}
-use Rattle.call_history.specs.Events.{Comes, Course, HasTurn, IsReady, is_sent, sends, turned}
+use Rattle.call_history.specs.Transitions.{IsTransition, ConnState, IsEntryTurn, IsReady, is_sent, sends, trace_after_turn}
 use Rattle.call_history.specs.Frames.{frames}
 use Rattle.call_history.specs.Legal.{History}
-use Rattle.call_history.specs.Rules.{Under, payload}
+use Rattle.call_history.specs.Rules.{JudgeContext, payload}
 use Rattle.call_history.specs.declared.happening.Happening.TheVariants.{Sent}
-use Rattle.replay_run.specs.Follows.{on_connection}
+use Rattle.replay_run.specs.Follows.{event_on}
 use Rattle.replay_laws.proofs.Found.{IsIn, filter-lt, found-at, total}
 use Rattle.replay_laws.proofs.Growing.{Grows, grows-more, grows-none, grows-then, one-sent}
 use Rattle.replay_laws.proofs.Outcomes.{redaction-clears}
 use Rattle.replay_laws.proofs.Turning.{Stands, TurnLaws, Turned, chain-turned, distance, done-nearer, done-parts, entries_of, form-there, has-turn, parts, redacted-parts}
 
-abbrev pub sent_by : Under → History → ℕ
+abbrev pub sent_by : JudgeContext → History → ℕ
 sent_by u h = length (frames u.table h)
 
 -- a connection reached another state, and nothing was sent
-pub record ComesTo (u : Under) (h : History) (c : Course) (h' : History) (c' : Course) : Type 0 where
+pub record ComesTo (u : JudgeContext) (h : History) (c : ConnState) (h' : History) (c' : ConnState) : Type 0 where
   pub grows : Grows u.conn h c.past h' c'.past
   pub stands : Stands u h' c'
   pub still : sent_by u h' ≡ sent_by u h
   pub same_chain : chain c'.past ≡ chain c.past
 
-comes-none : (u : Under) (h : History) (c : Course) → Stands u h c → ComesTo u h c h c
+comes-none : (u : JudgeContext) (h : History) (c : ConnState) → Stands u h c → ComesTo u h c h c
 comes-none u h c stands = record { grows = grows-none u.conn h c.past stands.here; stands = stands; still = refl; same_chain = refl }
 
-comes-then : (u : Under) (h i j : History) (c d e : Course) → ComesTo u h c i d → ComesTo u i d j e → ComesTo u h c j e
+comes-then : (u : JudgeContext) (h i j : History) (c d e : ConnState) → ComesTo u h c i d → ComesTo u i d j e → ComesTo u h c j e
 comes-then u h i j c d e first second = record {
   grows = grows-then u.conn h i j c.past d.past e.past first.grows second.grows;
   stands = second.stands;
@@ -44,40 +44,40 @@ comes-then u h i j c d e first second = record {
   same_chain = second.same_chain ∙ first.same_chain;
 }
 
-turn-comes : (u : Under) (h : History) (c : Course) (position : ℕ) → (t : Turned u h c position)
-    → ComesTo u h c t.history (turned t.entry t.seq t.outcome c)
+turn-comes : (u : JudgeContext) (h : History) (c : ConnState) (position : ℕ) → (t : Turned u h c position)
+    → ComesTo u h c t.history (trace_after_turn t.entry t.seq t.outcome c)
 turn-comes u h c position t =
     record { grows = t.grows; stands = t.stands; still = t.still; same_chain = chain-turned t.entry t.seq t.outcome c }
 
 -- ---- the turns of one entry
 
 -- how many parts remain after turns that end so
-abbrev IsLess : ℕ → ℕ → Ending → Type 0
+abbrev IsLess : ℕ → ℕ → TurnsEnding → Type 0
 IsLess new old at_rest = new ≤ old
 IsLess new old again = new < old
 
-record TurnsOn (u : Under) (position : ℕ) (h : History) (c : Course) : Type 0 where
-  ending : Ending
+record TurnsOn (u : JudgeContext) (position : ℕ) (h : History) (c : ConnState) : Type 0 where
+  ending : TurnsEnding
   history : History
-  course : Course
-  turns : Turns u position c ending course
+  course : ConnState
+  turns : HasTurns u position c ending course
   comes : ComesTo u h c history course
   less : IsLess (parts u.conn course) (parts u.conn c) ending
 
-less-le : (a b c : ℕ) (ending : Ending) → a ≤ b → IsLess c a ending → IsLess c b ending
+less-le : (a b c : ℕ) (ending : TurnsEnding) → a ≤ b → IsLess c a ending → IsLess c b ending
 less-le a b c at_rest le less = omega arith
 less-le a b c again le less = omega arith
 
-module _ (laws : TurnLaws) (u : Under) where
+module _ (laws : TurnLaws) (u : JudgeContext) where
   abbrev TurnsFrom : ℕ → ℕ → Type 0
-  TurnsFrom position fuel = (h : History) (c : Course) → Stands u h c → position < length (entries_of c)
+  TurnsFrom position fuel = (h : History) (c : ConnState) → Stands u h c → position < length (entries_of c)
       → distance (length (entries_of c)) c.row ≤ fuel → TurnsOn u position h c
 
   -- the entry is done with a call, and continues with the next
-  turns-next : (position fuel : ℕ) (h : History) (c : Course) (t : Turned u h c position) → IsDone t.outcome → position < length (entries_of c)
+  turns-next : (position fuel : ℕ) (h : History) (c : ConnState) (t : Turned u h c position) → IsFinalOutcome t.outcome → position < length (entries_of c)
       → distance (length (entries_of c)) c.row ≤ suc fuel → TurnsFrom position fuel → TurnsOn u position h c
   turns-next position fuel h c t done low few others =
-      let mid : Course = turned t.entry t.seq t.outcome c in
+      let mid : ConnState = trace_after_turn t.entry t.seq t.outcome c in
       let same : length (entries_of mid) ≡ length (entries_of c) = ap (λ k. length k.entries) (chain-turned t.entry t.seq t.outcome c) in
       let end : ℕ = length (entries_of c) in
       let nearer : distance end mid.row < distance end c.row = done-nearer end t.entry t.seq position t.outcome c done t.there low in
@@ -93,34 +93,34 @@ module _ (laws : TurnLaws) (u : Under) where
       }
 
   -- an entry that holds a call is done, and one that clears fields starts again
-  turn-by : (position fuel : ℕ) (h : History) (c : Course) → Stands u h c → (t : Turned u h c position) (outcome : Outcome) → t.outcome ≡ outcome
+  turn-by : (position fuel : ℕ) (h : History) (c : ConnState) → Stands u h c → (t : Turned u h c position) (outcome : Outcome) → t.outcome ≡ outcome
       → position < length (entries_of c) → distance (length (entries_of c)) c.row ≤ suc fuel → TurnsFrom position fuel → TurnsOn u position h c
   turn-by position fuel h c stands t (outcomes.Passed n) is low few others =
-      turns-next position fuel h c t (subst IsDone (sym is) tt) low few others
+      turns-next position fuel h c t (subst IsFinalOutcome (sym is) tt) low few others
   turn-by position fuel h c stands t (outcomes.Held left cost) is low few others = record {
     ending = at_rest;
     history = h;
     course = c;
-    turns = is_held c t.seq left cost t.entry (subst (λ o. HasTurn u c position t.seq o t.entry) is t.has);
+    turns = is_held c t.seq left cost t.entry (subst (λ o. IsEntryTurn u c position t.seq o t.entry) is t.has);
     comes = comes-none u h c stands;
     less = omega arith;
   }
   turn-by position fuel h c stands t (outcomes.Refused n why) is low few others =
-      turns-next position fuel h c t (subst IsDone (sym is) tt) low few others
+      turns-next position fuel h c t (subst IsFinalOutcome (sym is) tt) low few others
   turn-by position fuel h c stands t outcomes.Redacted is low few others =
-      let has : HasTurn u c position t.seq outcomes.Redacted t.entry = subst (λ o. HasTurn u c position t.seq o t.entry) is t.has in
+      let has : IsEntryTurn u c position t.seq outcomes.Redacted t.entry = subst (λ o. IsEntryTurn u c position t.seq o t.entry) is t.has in
       let clears = redaction-clears t.entry.policy _ _ has.call _ has.comes in
       record {
         ending = again;
         history = t.history;
-        course = turned t.entry t.seq outcomes.Redacted c;
+        course = trace_after_turn t.entry t.seq outcomes.Redacted c;
         turns = redacts c t.seq t.entry has;
-        comes = subst (λ o. ComesTo u h c t.history (turned t.entry t.seq o c)) is (turn-comes u h c position t);
+        comes = subst (λ o. ComesTo u h c t.history (trace_after_turn t.entry t.seq o c)) is (turn-comes u h c position t);
         less = redacted-parts laws.smaller u.conn t.entry t.seq position c has.call clears.0 t.there has.is_form
             (t.policy ∙ ap (λ p. Some p) clears.1) clears.2;
       }
 
-  turns-idle : (position : ℕ) (h : History) (c : Course) → Stands u h c → first_at position c.row ≡ None → TurnsOn u position h c
+  turns-idle : (position : ℕ) (h : History) (c : ConnState) → Stands u h c → first_at position c.row ≡ None → TurnsOn u position h c
   turns-idle position h c stands empty = record {
     ending = at_rest;
     history = h;
@@ -130,14 +130,14 @@ module _ (laws : TurnLaws) (u : Under) where
     less = omega arith;
   }
 
-  turns-found : (position fuel : ℕ) (h : History) (c : Course) → Stands u h c → (found : Option (ℕ × ℕ)) → first_at position c.row ≡ found
+  turns-found : (position fuel : ℕ) (h : History) (c : ConnState) → Stands u h c → (found : Option (ℕ × ℕ)) → first_at position c.row ≡ found
       → position < length (entries_of c) → distance (length (entries_of c)) c.row ≤ suc fuel → TurnsFrom position fuel → TurnsOn u position h c
   turns-found position fuel h c stands None is low few others = turns-idle position h c stands is
   turns-found position fuel h c stands (Some x) is low few others =
       let t = has-turn laws u h c stands position x low is in
       turn-by position fuel h c stands t t.outcome refl low few others
 
-  none-near : (position : ℕ) (h : History) (c : Course) → Stands u h c → (found : Option (ℕ × ℕ)) → first_at position c.row ≡ found
+  none-near : (position : ℕ) (h : History) (c : ConnState) → Stands u h c → (found : Option (ℕ × ℕ)) → first_at position c.row ≡ found
       → position < length (entries_of c) → distance (length (entries_of c)) c.row ≤ zero → TurnsOn u position h c
   none-near position h c stands None is low few = turns-idle position h c stands is
   none-near position h c stands (Some x) is low few =
@@ -157,18 +157,18 @@ module _ (laws : TurnLaws) (u : Under) where
 
   -- ---- the turns of all entries
 
-  record PassesOn (position : ℕ) (h : History) (c : Course) : Type 0 where
+  record PassesOn (position : ℕ) (h : History) (c : ConnState) : Type 0 where
     history : History
-    course : Course
-    passes : Passes u position c course
+    course : ConnState
+    passes : IsPass u position c course
     comes : ComesTo u h c history course
 
   abbrev PassesBelow : ℕ → Type 0
-  PassesBelow weight = (h : History) (c : Course) → Stands u h c → parts u.conn c < weight → PassesOn 0 h c
+  PassesBelow weight = (h : History) (c : ConnState) → Stands u h c → parts u.conn c < weight → PassesOn 0 h c
 
-  pass-by : (weight : ℕ) (position : ℕ) (h : History) (c : Course) → PassesBelow weight → position < length (entries_of c) → parts u.conn c ≤ weight
-      → (first : TurnsOn u position h c) (ending : Ending) → first.ending ≡ ending
-      → ((i : History) (d : Course) → Stands u i d → parts u.conn d ≤ weight → length (entries_of d) ≡ length (entries_of c) → PassesOn (position + 1) i d)
+  pass-by : (weight : ℕ) (position : ℕ) (h : History) (c : ConnState) → PassesBelow weight → position < length (entries_of c) → parts u.conn c ≤ weight
+      → (first : TurnsOn u position h c) (ending : TurnsEnding) → first.ending ≡ ending
+      → ((i : History) (d : ConnState) → Stands u i d → parts u.conn d ≤ weight → length (entries_of d) ≡ length (entries_of c) → PassesOn (position + 1) i d)
       → PassesOn position h c
   pass-by weight position h c below low few first at_rest is others =
       let less : parts u.conn first.course ≤ parts u.conn c = subst (IsLess (parts u.conn first.course) (parts u.conn c)) is first.less in
@@ -176,7 +176,7 @@ module _ (laws : TurnLaws) (u : Under) where
       record {
         history = rest.history;
         course = rest.course;
-        passes = next position c first.course rest.course low (subst (λ e. Turns u position c e first.course) is first.turns) rest.passes;
+        passes = next position c first.course rest.course low (subst (λ e. HasTurns u position c e first.course) is first.turns) rest.passes;
         comes = comes-then u h first.history rest.history c first.course rest.course first.comes rest.comes;
       }
   pass-by weight position h c below low few first again is others =
@@ -185,11 +185,11 @@ module _ (laws : TurnLaws) (u : Under) where
       record {
         history = rest.history;
         course = rest.course;
-        passes = begins_again position c first.course rest.course low (subst (λ e. Turns u position c e first.course) is first.turns) rest.passes;
+        passes = begins_again position c first.course rest.course low (subst (λ e. HasTurns u position c e first.course) is first.turns) rest.passes;
         comes = comes-then u h first.history rest.history c first.course rest.course first.comes rest.comes;
       }
 
-  passes-from : (weight : ℕ) → PassesBelow weight → (left position : ℕ) (h : History) (c : Course) → Stands u h c → parts u.conn c ≤ weight
+  passes-from : (weight : ℕ) → PassesBelow weight → (left position : ℕ) (h : History) (c : ConnState) → Stands u h c → parts u.conn c ≤ weight
       → length (entries_of c) ≡ position + left → PassesOn position h c
   passes-from weight below zero position h c stands few long = record {
     history = h;
@@ -216,10 +216,10 @@ module _ (laws : TurnLaws) (u : Under) where
   -- ---- sends
 
   -- a call is ready after this many sends
-  pub record IsReadyAt (old : Course) (h : History) (n : ℕ) : Type 0 where
+  pub record IsReadyAt (old : ConnState) (h : History) (n : ℕ) : Type 0 where
     pub history : History
-    pub course : Course
-    pub sent : SendsSome u old course
+    pub course : ConnState
+    pub sent : HasSentSome u old course
     pub grows : Grows u.conn h old.past history course.past
     pub stands : Stands u history course
     pub seq : ℕ
@@ -227,10 +227,10 @@ module _ (laws : TurnLaws) (u : Under) where
     pub ready : IsReady u course seq bytes
     pub count : sent_by u history ≡ n
 
-  pub record SendsOn (h : History) (c : Course) : Type 0 where
+  pub record SendsOn (h : History) (c : ConnState) : Type 0 where
     pub history : History
-    pub course : Course
-    pub sent : SendsSome u c course
+    pub course : ConnState
+    pub sent : HasSentSome u c course
     pub grows : Grows u.conn h c.past history course.past
     pub stands : Stands u history course
     pub same_chain : chain course.past ≡ chain c.past
@@ -239,13 +239,13 @@ module _ (laws : TurnLaws) (u : Under) where
     pub tries : (n : ℕ) → sent_by u h ≤ n → n < sent_by u history → IsReadyAt c h n
 
   -- the first ready call leaves
-  pub record Leaves (h : History) (c : Course) : Type 0 where
+  pub record Leaves (h : History) (c : ConnState) : Type 0 where
     pub seq : ℕ
     pub bytes : ℕ
     pub ready : IsReady u c seq bytes
     pub history : History
-    pub course : Course
-    pub comes : Comes u c (sends seq bytes) course
+    pub course : ConnState
+    pub comes : IsTransition u c (sends seq bytes) course
     pub grows : Grows u.conn h c.past history course.past
     pub stands : Stands u history course
     pub same_chain : chain course.past ≡ chain c.past
@@ -256,7 +256,7 @@ module _ (laws : TurnLaws) (u : Under) where
   ones [] = refl
   ones (x ∷ row) = let rest : total (λ call. 1) row ≡ length row = ones row in omega arith
 
-  pub leaves : (h : History) (c : Course) → Stands u h c → (x : ℕ × ℕ) → first_at (length (entries_of c)) c.row ≡ Some x → Leaves h c
+  pub leaves : (h : History) (c : ConnState) → Stands u h c → (x : ℕ × ℕ) → first_at (length (entries_of c)) c.row ≡ Some x → Leaves h c
   leaves h c stands x found =
       let end : ℕ = length (entries_of c) in
       let at = found-at end c.row x found in
@@ -265,8 +265,8 @@ module _ (laws : TurnLaws) (u : Under) where
       let call = form-there laws u h c stands x.0 end there in
       let bytes : ℕ = HEADER_LEN + length (payload u.table call.0) in
       let ready : IsReady u c x.0 bytes = record { first = found ∙ ap (λ y. Some y) same; sent = call.0; is_form = call.1; long = refl } in
-      let new : Course = record c { past = Sent x.0 bytes ∷ c.past; row = without_call x.0 c.row } in
-      let comes : Comes u c (sends x.0 bytes) new = is_sent x.0 bytes refl stands.going ready refl in
+      let new : ConnState = record c { past = Sent x.0 bytes ∷ c.past; row = without_call x.0 c.row } in
+      let comes : IsTransition u c (sends x.0 bytes) new = is_sent x.0 bytes refl stands.going ready refl in
       let grows = grows-more laws.growth u.conn h h c.past c.past (Sent x.0 bytes) (grows-none u.conn h c.past stands.here) (λ tenant window. inl refl) in
       let fewer : total (λ call. 1) (without_call x.0 c.row) < total (λ call. 1) c.row =
       filter-lt (λ (call : ℕ × ℕ). 1) (λ (call : ℕ × ℕ). not (x.0 == call.0)) c.row (x.0, end) there (ap not (eq-eqb x.0 x.0 refl)) (omega arith) in
@@ -274,7 +274,7 @@ module _ (laws : TurnLaws) (u : Under) where
         seq = x.0;
         bytes = bytes;
         ready = ready;
-        history = h ++ on_connection u.conn (Sent x.0 bytes) ∷ [];
+        history = h ++ event_on u.conn (Sent x.0 bytes) ∷ [];
         course = new;
         comes = comes;
         grows = grows;
@@ -284,7 +284,7 @@ module _ (laws : TurnLaws) (u : Under) where
         count = one-sent laws.growth u.conn u.table h x.0 bytes;
       }
 
-  at-once : (h : History) (c : Course) → Stands u h c → (l : Leaves h c) (n : ℕ) → sent_by u h ≡ n → IsReadyAt c h n
+  at-once : (h : History) (c : ConnState) → Stands u h c → (l : Leaves h c) (n : ℕ) → sent_by u h ≡ n → IsReadyAt c h n
   at-once h c stands l n is = record {
     history = h;
     course = c;
@@ -297,7 +297,7 @@ module _ (laws : TurnLaws) (u : Under) where
     count = is;
   }
 
-  behind-one : (h : History) (c : Course) (l : Leaves h c) (n : ℕ) → IsReadyAt l.course l.history n → IsReadyAt c h n
+  behind-one : (h : History) (c : ConnState) (l : Leaves h c) (n : ℕ) → IsReadyAt l.course l.history n → IsReadyAt c h n
   behind-one h c l n later = record {
     history = later.history;
     course = later.course;
@@ -310,7 +310,7 @@ module _ (laws : TurnLaws) (u : Under) where
     count = later.count;
   }
 
-  sends-idle : (h : History) (c : Course) → Stands u h c → first_at (length (entries_of c)) c.row ≡ None → SendsOn h c
+  sends-idle : (h : History) (c : ConnState) → Stands u h c → first_at (length (entries_of c)) c.row ≡ None → SendsOn h c
   sends-idle h c stands empty = record {
     history = h;
     course = c;
@@ -323,8 +323,8 @@ module _ (laws : TurnLaws) (u : Under) where
     tries = λ n from below. absurd (omega arith);
   }
 
-  sends-by : (fuel : ℕ) (h : History) (c : Course) → Stands u h c → (found : Option (ℕ × ℕ)) → first_at (length (entries_of c)) c.row ≡ found → length c.row ≤ fuel
-      → ((i : History) (d : Course) → Stands u i d → length d.row < fuel → SendsOn i d) → SendsOn h c
+  sends-by : (fuel : ℕ) (h : History) (c : ConnState) → Stands u h c → (found : Option (ℕ × ℕ)) → first_at (length (entries_of c)) c.row ≡ found → length c.row ≤ fuel
+      → ((i : History) (d : ConnState) → Stands u i d → length d.row < fuel → SendsOn i d) → SendsOn h c
   sends-by fuel h c stands None is few others = sends-idle h c stands is
   sends-by fuel h c stands (Some x) is few others =
       let l = leaves h c stands x is in
@@ -350,7 +350,7 @@ module _ (laws : TurnLaws) (u : Under) where
         ];
       }
 
-  pub sends-on : (fuel : ℕ) (h : History) (c : Course) → Stands u h c → length c.row < fuel → SendsOn h c
+  pub sends-on : (fuel : ℕ) (h : History) (c : ConnState) → Stands u h c → length c.row < fuel → SendsOn h c
   sends-on zero h c stands few = absurd (omega arith)
   sends-on (suc fuel) h c stands few =
       let low : length c.row ≤ fuel = omega arith in
@@ -360,10 +360,10 @@ module _ (laws : TurnLaws) (u : Under) where
   -- ---- a drain
 
   -- a call is ready after this many sends of a drain
-  pub record DrainTries (old : Course) (h : History) (n : ℕ) : Type 0 where
+  pub record DrainTries (old : ConnState) (h : History) (n : ℕ) : Type 0 where
     pub history : History
-    pub course : Course
-    pub begins : BeginsToDrain u old course
+    pub course : ConnState
+    pub begins : HasPartlyDrained u old course
     pub grows : Grows u.conn h old.past history course.past
     pub stands : Stands u history course
     pub seq : ℕ
@@ -371,16 +371,16 @@ module _ (laws : TurnLaws) (u : Under) where
     pub ready : IsReady u course seq bytes
     pub count : sent_by u history ≡ n
 
-  pub record DrainsOn (h : History) (c : Course) : Type 0 where
+  pub record DrainsOn (h : History) (c : ConnState) : Type 0 where
     pub history : History
-    pub course : Course
-    pub drains : Drains u c course
+    pub course : ConnState
+    pub drains : HasDrained u c course
     pub grows : Grows u.conn h c.past history course.past
     pub stands : Stands u history course
     pub same_chain : chain course.past ≡ chain c.past
     pub tries : (n : ℕ) → sent_by u h ≤ n → n < sent_by u history → DrainTries c h n
 
-  drain-tries : (h : History) (c : Course) (p : PassesOn 0 h c) (n : ℕ) → IsReadyAt p.course p.history n → DrainTries c h n
+  drain-tries : (h : History) (c : ConnState) (p : PassesOn 0 h c) (n : ℕ) → IsReadyAt p.course p.history n → DrainTries c h n
   drain-tries h c p n at = record {
     history = at.history;
     course = at.course;
@@ -393,7 +393,7 @@ module _ (laws : TurnLaws) (u : Under) where
     count = at.count;
   }
 
-  pub drains-on : (h : History) (c : Course) → Stands u h c → DrainsOn h c
+  pub drains-on : (h : History) (c : ConnState) → Stands u h c → DrainsOn h c
   drains-on h c stands =
       let p = passes-below (suc (parts u.conn c)) h c stands (omega arith) in
       let s = sends-on (suc (length p.course.row)) p.history p.course p.comes.stands (omega arith) in

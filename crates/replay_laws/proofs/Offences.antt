@@ -18,11 +18,11 @@ use Rattle.mrpc_table.specs.declared.table.Label.TheVariants.{Plain, Optional, R
 use Rattle.mrpc_table.specs.declared.table.Table.{Table}
 use Rattle.graph_form.specs.declared.reason.Reason.{Reason}
 use Rattle.graph_form.specs.declared.reason.Reason.TheVariants.{Address, Presence, Case, Length, Utf8, Narrow, Depth, Loads, NoMethod}
-use Rattle.graph_form.specs.Roles.{Role, value, presence, run_length, run_presence, run_address, run_word, link}
+use Rattle.graph_form.specs.Roles.{WordRole, value, presence, run_length, run_presence, run_address, run_word, link}
 use Rattle.graph_form.specs.Roles.{count, elements_address, entry_count, entries_address, case_word, element_words}
 use Rattle.graph_form.specs.Roles.{run_words, size_words, word_bytes}
-use Rattle.graph_form.specs.Placed.{LiesIn, Offends, IsFine}
-use Rattle.graph_form.specs.Malformed.{OffendsFirst, order_of}
+use Rattle.graph_form.specs.Placed.{IsSpanInHeap, IsInvalidWord, IsValidWord}
+use Rattle.graph_form.specs.Malformed.{IsInvalidFirst, reason_rank}
 
 -- ---- decidable facts
 
@@ -77,7 +77,7 @@ utf8-by : (bytes : List ℕ) (b : Bool) → is_utf8 bytes ≡ b → Holds (IsUtf
 utf8-by bytes true is = inl (IsUtf8-from_is_utf8 bytes is)
 utf8-by bytes false is = inr (λ utf8. true≢false (sym (is_utf8-from_IsUtf8 bytes utf8) ∙ is))
 
-pub lies-holds : (H place words : ℕ) → Holds (LiesIn H place words)
+pub lies-holds : (H place words : ℕ) → Holds (IsSpanInHeap H place words)
 lies-holds H place words = elim (both (1 ≤ place) (place + words ≤ H) (up-to 1 place) (up-to (place + words) H)) [
   | inl h ↦ inl (record { from_one = h.0; to_end = h.1 })
   | inr never ↦ inr (λ lies. never (lies.from_one, lies.to_end))
@@ -118,8 +118,8 @@ not-zero v = elim (cases_eq v 0) [ inl same ↦ inr (λ never. never same) | inr
 
 -- ---- reasons
 
-abbrev Offence : Table → ℕ → Role → ℕ → Reason → Type 0
-Offence T H role v reason = Holds (Offends T H role v reason)
+abbrev Offence : Table → ℕ → WordRole → ℕ → Reason → Type 0
+Offence T H role v reason = Holds (IsInvalidWord T H role v reason)
 
 module _ (T : Table) (H : ℕ) where
   none : Holds ⊥
@@ -130,23 +130,23 @@ module _ (T : Table) (H : ℕ) where
       (other (IsUtf8 (before ++ take left (word_bytes v))) (utf8-by (before ++ take left (word_bytes v)) (is_utf8 (before ++ take left (word_bytes v))) refl))
   text-utf8 k left before v = none
 
-  offence : (role : Role) (v : ℕ) (reason : Reason) → Offence T H role v reason
+  offence : (role : WordRole) (v : ℕ) (reason : Reason) → Offence T H role v reason
   offence (value k) v Narrow = other (IsWordForm k v) (form-holds k v)
   offence (presence k) v Presence = below 1 v
   offence (run_length k) v Length = up-to H (run_words v)
   offence (run_presence k) v Length = up-to H ((v + 6) / 8)
-  offence (run_address k bytes) v Address = other (LiesIn H v (run_words bytes)) (lies-holds H v (run_words bytes))
+  offence (run_address k bytes) v Address = other (IsSpanInHeap H v (run_words bytes)) (lies-holds H v (run_words bytes))
   offence (run_word k left before) v Narrow = both (left < 8) (2 ^ (8 * left) ≤ v) (below left 8) (up-to (2 ^ (8 * left)) v)
   offence (run_word k left before) v Utf8 = text-utf8 k left before v
   offence (link m depth needed) v Address =
-      both ((v ≢ 0) ⊎ IsTrue needed) (LiesIn H v (size_words T m) → ⊥) (either (v ≢ 0) (IsTrue needed) (not-zero v) (needed-holds needed))
-      (other (LiesIn H v (size_words T m)) (lies-holds H v (size_words T m)))
+      both ((v ≢ 0) ⊎ IsTrue needed) (IsSpanInHeap H v (size_words T m) → ⊥) (either (v ≢ 0) (IsTrue needed) (not-zero v) (needed-holds needed))
+      (other (IsSpanInHeap H v (size_words T m)) (lies-holds H v (size_words T m)))
   offence (link m depth needed) v Depth = both (v ≢ 0) (MAX_DEPTH ≤ depth) (not-zero v) (up-to MAX_DEPTH depth)
   offence (count k depth) v Length = up-to H (v * element_words k)
   offence (elements_address k elements depth) v Address =
-      other (LiesIn H v (elements * element_words k)) (lies-holds H v (elements * element_words k))
+      other (IsSpanInHeap H v (elements * element_words k)) (lies-holds H v (elements * element_words k))
   offence (entry_count key k depth) v Length = up-to H (4 * v)
-  offence (entries_address key k entries depth) v Address = other (LiesIn H v (4 * entries)) (lies-holds H v (4 * entries))
+  offence (entries_address key k entries depth) v Address = other (IsSpanInHeap H v (4 * entries)) (lies-holds H v (4 * entries))
   offence (case_word fs oneof depth) v Case =
       both (v ≢ 0) (IsNoMember fs oneof v) (not-zero v) (member-by fs oneof v (field_at fs v) refl)
   offence role v reason = none
@@ -157,7 +157,7 @@ reason_at : ℕ → Reason
 reason_at n = cond (n == 1) Presence (cond (n == 2) Case (cond (n == 3) Length (cond (n == 4) Narrow (cond (n == 5) Utf8
     (cond (n == 6) Address (cond (n == 7) Depth (cond (n == 8) Loads NoMethod)))))))
 
-at-its-place : (q : Reason) → reason_at (order_of q) ≡ q
+at-its-place : (q : Reason) → reason_at (reason_rank q) ≡ q
 unfolding reason_at
 at-its-place Presence = refl
 at-its-place Case = refl
@@ -169,7 +169,7 @@ at-its-place Depth = refl
 at-its-place Loads = refl
 at-its-place NoMethod = refl
 
-from-one : (q : Reason) → 1 ≤ order_of q
+from-one : (q : Reason) → 1 ≤ reason_rank q
 from-one Presence = omega arith
 from-one Case = omega arith
 from-one Length = omega arith
@@ -180,7 +180,7 @@ from-one Depth = omega arith
 from-one Loads = omega arith
 from-one NoMethod = omega arith
 
-to-nine : (q : Reason) → order_of q < 10
+to-nine : (q : Reason) → reason_rank q < 10
 to-nine Presence = omega arith
 to-nine Case = omega arith
 to-nine Length = omega arith
@@ -193,27 +193,27 @@ to-nine NoMethod = omega arith
 
 module _ (P : Reason → Type 0) where
   abbrev NoneBelow : ℕ → Type 0
-  NoneBelow n = (q : Reason) → order_of q < n → P q → ⊥
+  NoneBelow n = (q : Reason) → reason_rank q < n → P q → ⊥
 
   abbrev IsFirst : Reason → Type 0
-  IsFirst r = P r × ((q : Reason) → P q → order_of r ≤ order_of q)
+  IsFirst r = P r × ((q : Reason) → P q → reason_rank r ≤ reason_rank q)
 
-  is-first : (r : Reason) → NoneBelow (order_of r) → P r → IsFirst r
-  is-first r never p = (p, λ q x. elim (cases_lt (order_of q) (order_of r)) [ inl lt ↦ absurd (never q lt x) | inr le ↦ le ])
+  is-first : (r : Reason) → NoneBelow (reason_rank r) → P r → IsFirst r
+  is-first r never p = (p, λ q x. elim (cases_lt (reason_rank q) (reason_rank r)) [ inl lt ↦ absurd (never q lt x) | inr le ↦ le ])
 
-  none-further : (r : Reason) (n : ℕ) → order_of r ≡ n → NoneBelow n → (P r → ⊥) → NoneBelow (n + 1)
-  none-further r n at never not q low p = elim (cases_lt (order_of q) n) [
+  none-further : (r : Reason) (n : ℕ) → reason_rank r ≡ n → NoneBelow n → (P r → ⊥) → NoneBelow (n + 1)
+  none-further r n at never not q low p = elim (cases_lt (reason_rank q) n) [
     | inl lt ↦ never q lt p
     | inr le ↦
-        let here : order_of q ≡ order_of r = omega arith in
+        let here : reason_rank q ≡ reason_rank r = omega arith in
         not (subst P (sym (at-its-place q) ∙ ap reason_at here ∙ at-its-place r) p)
   ]
 
   abbrev Told : Type 0
   Told = ((q : Reason) → P q → ⊥) ⊎ ((r : Reason) × IsFirst r)
 
-  told-from : (r : Reason) (n : ℕ) → order_of r ≡ n → Holds (P r) → (NoneBelow (n + 1) → Told) → NoneBelow n → Told
-  told-from r n at (inl p) others never = inr (r, is-first r (λ q low. never q (subst (λ m. order_of q < m) at low)) p)
+  told-from : (r : Reason) (n : ℕ) → reason_rank r ≡ n → Holds (P r) → (NoneBelow (n + 1) → Told) → NoneBelow n → Told
+  told-from r n at (inl p) others never = inr (r, is-first r (λ q low. never q (subst (λ m. reason_rank q < m) at low)) p)
   told-from r n at (inr not) others never = others (none-further r n at never not)
 
   first-of : ((q : Reason) → Holds (P q)) → Told
@@ -222,14 +222,14 @@ module _ (P : Reason → Type 0) where
       (told-from Narrow 4 refl (holds Narrow) (told-from Utf8 5 refl (holds Utf8) (told-from Address 6 refl (holds Address)
       (told-from Depth 7 refl (holds Depth) (told-from Loads 8 refl (holds Loads) (told-from NoMethod 9 refl (holds NoMethod)
       (λ never. inl (λ q. never q (to-nine q)))))))))))
-      (λ q low p. let least : 1 ≤ order_of q = from-one q in absurd (omega arith))
+      (λ q low p. let least : 1 ≤ reason_rank q = from-one q in absurd (omega arith))
 
 -- a word is valid, or has a first reason
-abbrev pub IsJudged : Table → ℕ → Role → ℕ → Type 0
-IsJudged T H role v = IsFine T H role v ⊎ ((reason : Reason) × OffendsFirst T H role v reason)
+abbrev pub IsJudged : Table → ℕ → WordRole → ℕ → Type 0
+IsJudged T H role v = IsValidWord T H role v ⊎ ((reason : Reason) × IsInvalidFirst T H role v reason)
 
-pub judged : (T : Table) (H : ℕ) (role : Role) (v : ℕ) → IsJudged T H role v
-judged T H role v = elim (first-of (Offends T H role v) (offence T H role v)) [
+pub judged : (T : Table) (H : ℕ) (role : WordRole) (v : ℕ) → IsJudged T H role v
+judged T H role v = elim (first-of (IsInvalidWord T H role v) (offence T H role v)) [
   | inl fine ↦ inl fine
   | inr found ↦ inr (found.0, record { offends = found.1.0; first = found.1.1 })
 ]

@@ -6,10 +6,10 @@ use Rattle.mrpc_table.specs.declared.call.Call.{Call}
 use Rattle.policy_access.specs.Verdict.{verdict}
 use Rattle.policy_redact.specs.Redacting.{cleared}
 use Rattle.policy_redact.specs.declared.redact.Clear.{Clear}
-use Rattle.engine_core.specs.Answers.{Answer, Answers, Past, drawn, redact, allows, denies, was_charged, charges}
+use Rattle.engine_core.specs.Answers.{Answer, IsEntryAnswer, Past, drawn, redact, allows, denies, was_charged, charges}
 use Rattle.engine_core.specs.Answers.{holds, refuses, is_within, is_over, draws, was_counted, counts, is_clear}
 use Rattle.engine_core.specs.Answers.{redacts}
-use Rattle.engine_core.specs.Turns.{ComesOut, passes, is_noted, is_held, is_refused, is_noted_and_refused, is_redacted, noted_in}
+use Rattle.engine_core.specs.Turns.{IsTurnOutcome, passes, is_noted_and_passes, is_held, is_refused, is_noted_and_refused, is_redacted, noted_in}
 use Rattle.engine_core.specs.declared.outcome.Noted.{Noted}
 use Rattle.engine_core.specs.declared.outcome.Noted.TheVariants.{Nothing, Charged, Drawn, Counted}
 use Rattle.engine_core.specs.declared.outcome.Why.TheVariants.{Denied, Short, Over}
@@ -25,12 +25,12 @@ IsNext next n policy = Unit {0}
 
 pub record Out (next : ℕ → ℕ → ℕ) (policy : Policy) (level moment : ℕ) (form : Call) (past : Past) : Type 0 where
   pub outcome : Outcome
-  pub comes : ComesOut policy level moment form past outcome
+  pub comes : IsTurnOutcome policy level moment form past outcome
   pub in_turn : IsNext next (noted_in outcome) policy
 
 abbrev pub AnswerLaw : Type 0
 AnswerLaw = (policy : Policy) (level moment : ℕ) (form : Call) (past : Past)
-    → (answer : Answer) × Answers policy level moment form past answer
+    → (answer : Answer) × IsEntryAnswer policy level moment form past answer
 
 module _ (next : ℕ → ℕ → ℕ) (policy : Policy) (level moment : ℕ) (form : Call) (past : Past) where
   draw-out : (tenant per cap : ℕ) → policy ≡ Quota tenant per cap → ((t : ℕ) → past ≢ drawn t)
@@ -43,7 +43,7 @@ module _ (next : ℕ → ℕ → ℕ) (policy : Policy) (level moment : ℕ) (fo
       elim (cases_lt ticket cap) [
         | inl low ↦ record {
           outcome = Passed (Drawn window ticket);
-          comes = is_noted (Drawn window ticket) (draws tenant per cap ticket is was refl) (is_within tenant per cap ticket is refl low refl) refl;
+          comes = is_noted_and_passes (Drawn window ticket) (draws tenant per cap ticket is was refl) (is_within tenant per cap ticket is refl low refl) refl;
           in_turn = turn;
         }
         | inr high ↦ record {
@@ -53,7 +53,7 @@ module _ (next : ℕ → ℕ → ℕ) (policy : Policy) (level moment : ℕ) (fo
         }
       ]
 
-  by-answer : (answer : Answer) → Answers policy level moment form past answer → Out next policy level moment form past
+  by-answer : (answer : Answer) → IsEntryAnswer policy level moment form past answer → Out next policy level moment form past
   by-answer answer (allows p is allow same) =
       record { outcome = Passed Nothing; comes = passes (allows p is allow refl) refl; in_turn = tt }
   by-answer answer (denies p is allow same) =
@@ -62,7 +62,7 @@ module _ (next : ℕ → ℕ → ℕ) (policy : Policy) (level moment : ℕ) (fo
       record { outcome = Passed Nothing; comes = passes (was_charged r is was refl) refl; in_turn = tt }
   by-answer answer (charges r is was enough same) = record {
     outcome = Passed (Charged (level - r.per));
-    comes = is_noted (Charged (level - r.per)) (charges r is was enough refl) (was_charged r is (λ e. cc) refl) refl;
+    comes = is_noted_and_passes (Charged (level - r.per)) (charges r is was enough refl) (was_charged r is (λ e. cc) refl) refl;
     in_turn = tt;
   }
   by-answer answer (holds r is was short mode same) =
@@ -78,7 +78,7 @@ module _ (next : ℕ → ℕ → ℕ) (policy : Policy) (level moment : ℕ) (fo
       record { outcome = Passed Nothing; comes = passes (was_counted is was refl) refl; in_turn = tt }
   by-answer answer (counts is was same) = record {
     outcome = Passed Counted;
-    comes = is_noted Counted (counts is was refl) (was_counted is (λ e. cc) refl) refl;
+    comes = is_noted_and_passes Counted (counts is was refl) (was_counted is (λ e. cc) refl) refl;
     in_turn = tt;
   }
   by-answer answer (is_clear clears is left same) =
@@ -95,7 +95,7 @@ module _ (policy : Policy) (level moment : ℕ) (form : Call) (past : Past) wher
   abbrev Clears : Type 0
   Clears = (clears : List Clear) × (policy ≡ Redact clears) × (cleared clears form ≢ form.tree)
 
-  answer-clears : (answer : Answer) → Answers policy level moment form past answer → answer ≡ redact → Clears
+  answer-clears : (answer : Answer) → IsEntryAnswer policy level moment form past answer → answer ≡ redact → Clears
   answer-clears answer (allows p is allow same) e = absurd cc
   answer-clears answer (denies p is allow same) e = absurd cc
   answer-clears answer (was_charged r is was same) e = absurd cc
@@ -110,9 +110,9 @@ module _ (policy : Policy) (level moment : ℕ) (form : Call) (past : Past) wher
   answer-clears answer (is_clear clears is left same) e = absurd cc
   answer-clears answer (redacts clears is left same) e = (clears, is, left)
 
-  pub redaction-clears : ComesOut policy level moment form past Redacted → Clears
+  pub redaction-clears : IsTurnOutcome policy level moment form past Redacted → Clears
   redaction-clears (passes answers is) = absurd cc
-  redaction-clears (is_noted n first then is) = absurd cc
+  redaction-clears (is_noted_and_passes n first then is) = absurd cc
   redaction-clears (is_held l cost answers is) = absurd cc
   redaction-clears (is_refused why answers is) = absurd cc
   redaction-clears (is_noted_and_refused n why first then is) = absurd cc

@@ -6,21 +6,21 @@ use Rattle.std.specs.Prelude.{All, filter}
 use Rattle.std.proofs.lemmas.Bool.{cases_eq, true≢false}
 use Rattle.std.proofs.lemmas.List.Elements.{All-head, All-tail, All-map}
 use Rattle.replay_script.specs.Lines.{IsScript, conn_of, is_submit}
-use Rattle.replay_script.specs.declared.script.Line.{Line}
-use Rattle.replay_script.specs.declared.script.Line.TheVariants as line
+use Rattle.replay_script.specs.declared.script.ScriptLine.{ScriptLine}
+use Rattle.replay_script.specs.declared.script.ScriptLine.TheVariants as line
 use Rattle.replay_script.specs.declared.script.Script.{Script}
-use Rattle.call_history.specs.Behind.{Behind, chain, has_failed, standing, stands, taken}
-use Rattle.call_history.specs.Events.{Comes, Course, Event, IsCourse, accepts, fails, operates, sends, shows, turns, turns_away}
-use Rattle.call_history.specs.Frames.{frame_of, frames_behind}
-use Rattle.call_history.specs.Legal.{History, IsLegal, behind}
-use Rattle.call_history.specs.Places.{ArePlaces, IsSettled}
-use Rattle.call_history.specs.declared.happening.Happened.{Happened}
+use Rattle.call_history.specs.Trace.{Trace, chain, has_failed, pending_calls, is_pending, taken}
+use Rattle.call_history.specs.Transitions.{IsTransition, ConnState, Transition, IsValidState, accepts, fails, operates, sends, shows, turns, turns_away}
+use Rattle.call_history.specs.Frames.{frame_of, frames_of_trace}
+use Rattle.call_history.specs.Legal.{History, IsLegal, trace_of}
+use Rattle.call_history.specs.Positions.{AreLegalPositions, IsSettled}
+use Rattle.call_history.specs.declared.happening.ConnectionEvent.{ConnectionEvent}
 use Rattle.call_history.specs.declared.happening.Happening.{Happening}
 use Rattle.call_history.specs.declared.happening.Happening.TheVariants.{Took, Op}
-use Rattle.call_history.specs.declared.happening.Taken.{Taken}
-use Rattle.replay_run.specs.Follows.{Does, Follows, Leads, Opened, State, Step, come_to, goes_on, on_connection, opens, start, under}
-use Rattle.replay_run.specs.Follows.Does.{stores, races, submits, is_away, operates_on, shows_it, is_idle, has_turn, none_ready, is_sent, drains}
-use Rattle.replay_run.specs.Sound.{IsSoundOn}
+use Rattle.call_history.specs.declared.happening.AcceptedCall.{AcceptedCall}
+use Rattle.replay_run.specs.Follows.{IsLineEffect, Follows, IsStateAfter, OpenConnection, ScriptState, IsScriptStep, with_state, advances, event_on, opens, start, script_context}
+use Rattle.replay_run.specs.Follows.IsLineEffect.{stores, races, submits, is_away, operates_on, advances_clock, is_idle, has_turn, none_ready, is_sent, drains}
+use Rattle.replay_run.specs.Consistency.{IsConsistentOn}
 use Rattle.replay_laws.specs.SetFirst.{IsSetFirst, allowed_copies}
 use Rattle.replay_laws.specs.Scripts.{IsDrainedLast}
 use Rattle.replay_laws.proofs.Allowed.{ArePlain}
@@ -32,37 +32,37 @@ use Rattle.replay_laws.proofs.Steady.{Goes, Rests, Steady, acceptance-goes, drai
 -- the laws of the layers below
 pub record Laws : Type 0 where
   pub stands_once_taken : StandsOnceTaken
-  pub joined : (conn : ℕ) (h k : History) → behind conn (h ++ k) ≡ behind conn k ++ behind conn h
-  pub apart : (conn : ℕ) (h k : History) → All (λ x. x.conn ≢ conn) k → behind conn (h ++ k) ≡ behind conn h
-  pub sound : (s : Script) (lines others : List Line) (st : State) → IsScript s → s.lines ≡ lines ++ others
-      → Leads s start lines st → All (IsSoundOn s st.history) st.opened
-  pub legal : (s : Script) (end : State) → IsScript s → Follows s end → IsLegal s.table s.loads end.history
-  pub settled : (s : Script) (old new : Opened) → IsCourse (under s old.conn) old.course
-      → Does s (line.Drain old.conn) old new
-      → IsSettled (under s old.conn) new.course.past (map (λ call. call.1) new.course.row)
+  pub joined : (conn : ℕ) (h k : History) → trace_of conn (h ++ k) ≡ trace_of conn k ++ trace_of conn h
+  pub apart : (conn : ℕ) (h k : History) → All (λ x. x.conn ≢ conn) k → trace_of conn (h ++ k) ≡ trace_of conn h
+  pub sound : (s : Script) (lines others : List ScriptLine) (st : ScriptState) → IsScript s → s.lines ≡ lines ++ others
+      → IsStateAfter s start lines st → All (IsConsistentOn s st.history) st.opened
+  pub legal : (s : Script) (end : ScriptState) → IsScript s → Follows s end → IsLegal s.table s.loads end.history
+  pub settled : (s : Script) (old new : OpenConnection) → IsValidState (script_context s old.conn) old.course
+      → IsLineEffect s (line.Drain old.conn) old new
+      → IsSettled (script_context s old.conn) new.course.past (map (λ call. call.1) new.course.row)
 
 -- ---- one line on its connection
 
-record Done (l : Line) (old new : Opened) : Type 0 where
+record Done (l : ScriptLine) (old new : OpenConnection) : Type 0 where
   conn : new.conn ≡ old.conn
   going : Goes old.course.past new.course.past
   rests : is_submit l ≡ false → Rests old.course.past new.course.past
 
-by-steady : (l : Line) (old new : Opened) (c : Course) → new ≡ come_to old c → Steady old.course.past c.past
+by-steady : (l : ScriptLine) (old new : OpenConnection) (c : ConnState) → new ≡ with_state old c → Steady old.course.past c.past
     → Done l old new
 by-steady l old new c is steady =
     subst (Done l old) (sym is) (record { conn = refl; going = steady.going; rests = λ other. steady.rests })
 
-by-event : (s : Script) (l : Line) (old new : Opened) (event : Event) (c : Course)
-    → ((call : Taken) → event ≢ accepts call) → event ≢ fails → Comes (under s old.conn) old.course event c
-    → new ≡ come_to old c → Done l old new
+by-event : (s : Script) (l : ScriptLine) (old new : OpenConnection) (event : Transition) (c : ConnState)
+    → ((call : AcceptedCall) → event ≢ accepts call) → event ≢ fails → IsTransition (script_context s old.conn) old.course event c
+    → new ≡ with_state old c → Done l old new
 by-event s l old new event c not-taken not-failed comes is =
-    by-steady l old new c is (event-steady (under s old.conn) old.course c event not-taken not-failed comes)
+    by-steady l old new c is (event-steady (script_context s old.conn) old.course c event not-taken not-failed comes)
 
-no-submission : (l : Line) (conn method number addr : ℕ) → l ≡ line.Submit conn method number addr → is_submit l ≡ false → ⊥
+no-submission : (l : ScriptLine) (conn method number addr : ℕ) → l ≡ line.Submit conn method number addr → is_submit l ≡ false → ⊥
 no-submission l conn method number addr is other = true≢false (sym (ap is_submit is) ∙ other)
 
-does-done : (s : Script) (l : Line) (old new : Opened) → Does s l old new → Done l old new
+does-done : (s : Script) (l : ScriptLine) (old new : OpenConnection) → IsLineEffect s l old new → Done l old new
 does-done s l old new (stores place value is makes) =
     subst (Done l old) (sym makes) (record { conn = refl; going = λ h. h; rests = λ other h. h })
 does-done s l old new (races load place value is makes) =
@@ -70,15 +70,15 @@ does-done s l old new (races load place value is makes) =
 does-done s l old new (submits call own c is after reads loaded comes makes) =
     subst (Done l old) (sym makes) (record {
       conn = refl;
-      going = acceptance-goes (under s old.conn) old.course c call comes;
+      going = acceptance-goes (script_context s old.conn) old.course c call comes;
       rests = λ other. absurd (no-submission l old.conn call.method call.number call.addr is other);
     })
 does-done s l old new (is_away method number addr c is comes makes) =
-    let steady = event-steady (under s old.conn) old.course c (turns_away method number addr) (λ call e. cc) (λ e. cc) comes in
+    let steady = event-steady (script_context s old.conn) old.course c (turns_away method number addr) (λ call e. cc) (λ e. cc) comes in
     subst (Done l old) (sym makes) (record { conn = refl; going = steady.going; rests = λ other. steady.rests })
 does-done s l old new (operates_on step c is comes makes) =
     by-event s l old new (operates step) c (λ call e. cc) (λ e. cc) comes makes
-does-done s l old new (shows_it ms c is comes makes) =
+does-done s l old new (advances_clock ms c is comes makes) =
     by-event s l old new (shows ms) c (λ call e. cc) (λ e. cc) comes makes
 does-done s l old new (is_idle position is empty makes) =
     subst (Done l old) (sym makes) (record { conn = refl; going = λ h. h; rests = λ other h. h })
@@ -89,35 +89,35 @@ does-done s l old new (none_ready is empty makes) =
 does-done s l old new (is_sent seq bytes c is comes makes) =
     by-event s l old new (sends seq bytes) c (λ call e. cc) (λ e. cc) comes makes
 does-done s l old new (drains c is drained makes) =
-    by-steady l old new c makes (drain-steady (under s old.conn) old.course c drained)
+    by-steady l old new c makes (drain-steady (script_context s old.conn) old.course c drained)
 
 -- ---- lists of lines
 
-leads-push : (s : Script) (old mid new : State) (lines : List Line) (l : Line) → Leads s old lines mid
-    → Step s mid l new → Leads s old (lines ++ l ∷ []) new
-leads-push s old mid new [] l leads step = (new, subst (λ (st : State). Step s st l new) leads step, refl)
+leads-push : (s : Script) (old mid new : ScriptState) (lines : List ScriptLine) (l : ScriptLine) → IsStateAfter s old lines mid
+    → IsScriptStep s mid l new → IsStateAfter s old (lines ++ l ∷ []) new
+leads-push s old mid new [] l leads step = (new, subst (λ (st : ScriptState). IsScriptStep s st l new) leads step, refl)
 leads-push s old mid new (x ∷ lines) l leads step = (leads.0, leads.1, leads-push s leads.0 mid new lines l leads.2 step)
 
-record Split (s : Script) (old end : State) (xs ys : List Line) : Type 0 where
-  mid : State
-  first : Leads s old xs mid
-  rest : Leads s mid ys end
+record Split (s : Script) (old end : ScriptState) (xs ys : List ScriptLine) : Type 0 where
+  mid : ScriptState
+  first : IsStateAfter s old xs mid
+  rest : IsStateAfter s mid ys end
 
-leads-split : (s : Script) (old end : State) (xs ys : List Line) → Leads s old (xs ++ ys) end → Split s old end xs ys
+leads-split : (s : Script) (old end : ScriptState) (xs ys : List ScriptLine) → IsStateAfter s old (xs ++ ys) end → Split s old end xs ys
 leads-split s old end [] ys leads = record { mid = old; first = refl; rest = leads }
 leads-split s old end (x ∷ xs) ys leads =
     let split = leads-split s leads.0 end xs ys leads.2 in
     record { mid = split.mid; first = (leads.0, leads.1, split.first); rest = split.rest }
 
-step-history : (s : Script) (old new : State) (l : Line) → Step s old l new
+step-history : (s : Script) (old new : ScriptState) (l : ScriptLine) → IsScriptStep s old l new
     → (k : History) × (new.history ≡ old.history ++ k)
 step-history s old new l (opens conn words is makes) =
-    ([], ap (λ (st : State). st.history) makes ∙ sym (append-nil old.history))
-step-history s old new l (goes_on one other on does goes) = (map (on_connection one.conn) goes.piece, goes.history)
+    ([], ap (λ (st : ScriptState). st.history) makes ∙ sym (append-nil old.history))
+step-history s old new l (advances one other on does goes) = (map (event_on one.conn) goes.piece, goes.history)
 
-leads-history : (s : Script) (old end : State) (lines : List Line) → Leads s old lines end
+leads-history : (s : Script) (old end : ScriptState) (lines : List ScriptLine) → IsStateAfter s old lines end
     → (k : History) × (end.history ≡ old.history ++ k)
-leads-history s old end [] leads = ([], ap (λ (st : State). st.history) leads ∙ sym (append-nil old.history))
+leads-history s old end [] leads = ([], ap (λ (st : ScriptState). st.history) leads ∙ sym (append-nil old.history))
 leads-history s old end (l ∷ lines) leads =
     let first = step-history s old leads.0 l leads.1 in
     let rest = leads-history s leads.0 end lines leads.2 in
@@ -125,55 +125,55 @@ leads-history s old end (l ∷ lines) leads =
 
 -- ---- the effect of a line on a connection's history
 
-data Moves (conn : ℕ) (l : Line) (old new : State) : Type 0 where
-  still : behind conn new.history ≡ behind conn old.history → Moves conn l old new
-  moved : (one other : Opened) → conn_of l ≡ conn → behind conn old.history ≡ one.course.past
-      → behind conn new.history ≡ other.course.past → Done l one other → Moves conn l old new
+data Moves (conn : ℕ) (l : ScriptLine) (old new : ScriptState) : Type 0 where
+  still : trace_of conn new.history ≡ trace_of conn old.history → Moves conn l old new
+  moved : (one other : OpenConnection) → conn_of l ≡ conn → trace_of conn old.history ≡ one.course.past
+      → trace_of conn new.history ≡ other.course.past → Done l one other → Moves conn l old new
 
 all-of : {A : Type 0} (P : A → Type 0) → ((x : A) → P x) → (xs : List A) → All P xs
 all-of P f xs k d lt = f _
 
-of-others : (conn one : ℕ) (piece : List Happening) → one ≢ conn → All (λ x. x.conn ≢ conn) (map (on_connection one) piece)
+of-others : (conn one : ℕ) (piece : List Happening) → one ≢ conn → All (λ x. x.conn ≢ conn) (map (event_on one) piece)
 of-others conn one piece apart =
-    All-map (λ (x : Happened). x.conn ≢ conn) (on_connection one) piece
+    All-map (λ (x : ConnectionEvent). x.conn ≢ conn) (event_on one) piece
     (all-of (λ (what : Happening). one ≢ conn) (λ what. apart) piece)
 
-step-moves : Laws → (s : Script) (lines others : List Line) (l : Line) (old new : State) (conn : ℕ) → IsScript s
-    → s.lines ≡ lines ++ l ∷ others → Leads s start lines old → Step s old l new → Moves conn l old new
+step-moves : Laws → (s : Script) (lines others : List ScriptLine) (l : ScriptLine) (old new : ScriptState) (conn : ℕ) → IsScript s
+    → s.lines ≡ lines ++ l ∷ others → IsStateAfter s start lines old → IsScriptStep s old l new → Moves conn l old new
 step-moves laws s lines others l old new conn script order leads (opens number words is makes) =
-    still (ap (λ (st : State). behind conn st.history) makes)
-step-moves laws s lines others l old new conn script order leads (goes_on one other on does goes) =
+    still (ap (λ (st : ScriptState). trace_of conn st.history) makes)
+step-moves laws s lines others l old new conn script order leads (advances one other on does goes) =
     elim (cases_eq one.conn conn) [
       | inl same ↦
           let done = does-done s l one other does in
-          let before : IsSoundOn s old.history one =
-          at-middle (IsSoundOn s old.history) goes.front goes.back one
-          (subst (λ (os : List Opened). All (IsSoundOn s old.history) os) goes.before
+          let before : IsConsistentOn s old.history one =
+          at-middle (IsConsistentOn s old.history) goes.front goes.back one
+          (subst (λ (os : List OpenConnection). All (IsConsistentOn s old.history) os) goes.before
           (laws.sound s lines (l ∷ others) old script order leads)) in
           let further : s.lines ≡ (lines ++ l ∷ []) ++ others = order ∙ sym (append_assoc lines (l ∷ []) others) in
-          let all : Leads s start (lines ++ l ∷ []) new =
-          leads-push s start old new lines l leads (goes_on one other on does goes) in
-          let behind-it : IsSoundOn s new.history other =
-          at-middle (IsSoundOn s new.history) goes.front goes.back other
-          (subst (λ (os : List Opened). All (IsSoundOn s new.history) os) goes.after
+          let all : IsStateAfter s start (lines ++ l ∷ []) new =
+          leads-push s start old new lines l leads (advances one other on does goes) in
+          let behind-it : IsConsistentOn s new.history other =
+          at-middle (IsConsistentOn s new.history) goes.front goes.back other
+          (subst (λ (os : List OpenConnection). All (IsConsistentOn s new.history) os) goes.after
           (laws.sound s (lines ++ l ∷ []) others new script further all)) in
-          moved one other (on ∙ same) (sym (before.past ∙ ap (λ (n : ℕ). behind n old.history) same))
-          (sym (behind-it.past ∙ ap (λ (n : ℕ). behind n new.history) (done.conn ∙ same))) done
+          moved one other (on ∙ same) (sym (before.past ∙ ap (λ (n : ℕ). trace_of n old.history) same))
+          (sym (behind-it.past ∙ ap (λ (n : ℕ). trace_of n new.history) (done.conn ∙ same))) done
       | inr apart ↦
-          still (ap (behind conn) goes.history
-          ∙ laws.apart conn old.history (map (on_connection one.conn) goes.piece) (of-others conn one.conn goes.piece apart))
+          still (ap (trace_of conn) goes.history
+          ∙ laws.apart conn old.history (map (event_on one.conn) goes.piece) (of-others conn one.conn goes.piece apart))
     ]
 
 -- what lines of this kind preserve on a connection holds after them
-through : Laws → (s : Script) (conn : ℕ) (P : Behind → Type 0) (A : Line → Type 0)
-    → ((l : Line) (old new : Opened) → A l → conn_of l ≡ conn → Done l old new → P old.course.past → P new.course.past)
-    → (lines others : List Line) (st end : State) → IsScript s → s.lines ≡ lines ++ others → Leads s start lines st
-    → Leads s st others end → All A others → P (behind conn st.history) → P (behind conn end.history)
+through : Laws → (s : Script) (conn : ℕ) (P : Trace → Type 0) (A : ScriptLine → Type 0)
+    → ((l : ScriptLine) (old new : OpenConnection) → A l → conn_of l ≡ conn → Done l old new → P old.course.past → P new.course.past)
+    → (lines others : List ScriptLine) (st end : ScriptState) → IsScript s → s.lines ≡ lines ++ others → IsStateAfter s start lines st
+    → IsStateAfter s st others end → All A others → P (trace_of conn st.history) → P (trace_of conn end.history)
 through laws s conn P A keeps lines [] st end script order leads more each h =
-    subst (λ (x : State). P (behind conn x.history)) (sym more) h
+    subst (λ (x : ScriptState). P (trace_of conn x.history)) (sym more) h
 through laws s conn P A keeps lines (l ∷ others) st end script order leads more each h =
     let moves = step-moves laws s lines others l st more.0 conn script order leads more.1 in
-    let next : P (behind conn more.0.history) = elim moves [
+    let next : P (trace_of conn more.0.history) = elim moves [
       | still e ↦ subst P (sym e) h
       | moved one other on a b done ↦ subst P (sym b) (keeps l one other (All-head A l others each) on done (subst P a h))
     ] in
@@ -182,12 +182,12 @@ through laws s conn P A keeps lines (l ∷ others) st end script order leads mor
 
 -- ---- chains that are set up first
 
-earlier-none : (later past : Behind) → taken (later ++ past) ≡ [] → taken past ≡ []
+earlier-none : (later past : Trace) → taken (later ++ past) ≡ [] → taken past ≡ []
 earlier-none [] past none = none
 earlier-none (Took call ∷ later) past none = absurd (push-not-nil (taken (later ++ past)) call none)
 earlier-none (x ∷ later) past none = earlier-none later past none
 
-earlier-plain : (later past : Behind) → IsSetFirst (later ++ past) → ArePlain (chain (later ++ past)).entries
+earlier-plain : (later past : Trace) → IsSetFirst (later ++ past) → ArePlain (chain (later ++ past)).entries
     → (taken past ≡ []) ⊎ ArePlain (chain past).entries
 earlier-plain [] past first plain = inr plain
 earlier-plain (Op step ∷ later) past first plain = inl (earlier-none later past first)
@@ -195,35 +195,35 @@ earlier-plain (x ∷ later) past first plain = earlier-plain later past first pl
 
 -- ---- after the drain
 
-drained-none : Laws → (s : Script) (conn : ℕ) (front back : List Line) (old new : State) → IsScript s
-    → s.lines ≡ front ++ line.Drain conn ∷ back → Leads s start front old → Step s old (line.Drain conn) new
-    → ArePlain (chain (behind conn new.history)).entries → standing (behind conn new.history) ≡ []
+drained-none : Laws → (s : Script) (conn : ℕ) (front back : List ScriptLine) (old new : ScriptState) → IsScript s
+    → s.lines ≡ front ++ line.Drain conn ∷ back → IsStateAfter s start front old → IsScriptStep s old (line.Drain conn) new
+    → ArePlain (chain (trace_of conn new.history)).entries → pending_calls (trace_of conn new.history) ≡ []
 drained-none laws s conn front back old new script order leads (opens number words is makes) plain = absurd cc
-drained-none laws s conn front back old new script order leads (goes_on one other on does goes) plain =
+drained-none laws s conn front back old new script order leads (advances one other on does goes) plain =
     let done = does-done s (line.Drain conn) one other does in
-    let before : IsSoundOn s old.history one =
-    at-middle (IsSoundOn s old.history) goes.front goes.back one
-    (subst (λ (os : List Opened). All (IsSoundOn s old.history) os) goes.before
+    let before : IsConsistentOn s old.history one =
+    at-middle (IsConsistentOn s old.history) goes.front goes.back one
+    (subst (λ (os : List OpenConnection). All (IsConsistentOn s old.history) os) goes.before
     (laws.sound s front (line.Drain conn ∷ back) old script order leads)) in
     let further : s.lines ≡ (front ++ line.Drain conn ∷ []) ++ back =
     order ∙ sym (append_assoc front (line.Drain conn ∷ []) back) in
-    let all : Leads s start (front ++ line.Drain conn ∷ []) new =
-    leads-push s start old new front (line.Drain conn) leads (goes_on one other on does goes) in
-    let behind-it : IsSoundOn s new.history other =
-    at-middle (IsSoundOn s new.history) goes.front goes.back other
-    (subst (λ (os : List Opened). All (IsSoundOn s new.history) os) goes.after
+    let all : IsStateAfter s start (front ++ line.Drain conn ∷ []) new =
+    leads-push s start old new front (line.Drain conn) leads (advances one other on does goes) in
+    let behind-it : IsConsistentOn s new.history other =
+    at-middle (IsConsistentOn s new.history) goes.front goes.back other
+    (subst (λ (os : List OpenConnection). All (IsConsistentOn s new.history) os) goes.after
     (laws.sound s (front ++ line.Drain conn ∷ []) back new script further all)) in
-    let past-is : other.course.past ≡ behind conn new.history =
-    behind-it.past ∙ ap (λ (n : ℕ). behind n new.history) (done.conn ∙ sym on) in
-    let settled = laws.settled s one other before.course (subst (λ (n : ℕ). Does s (line.Drain n) one other) on does) in
-    let places : ArePlaces (under s one.conn) other.course.past (map (λ call. call.1) other.course.row) =
-    subst (λ (n : ℕ). ArePlaces (under s n) other.course.past (map (λ call. call.1) other.course.row)) done.conn
+    let past-is : other.course.past ≡ trace_of conn new.history =
+    behind-it.past ∙ ap (λ (n : ℕ). trace_of n new.history) (done.conn ∙ sym on) in
+    let settled = laws.settled s one other before.course (subst (λ (n : ℕ). IsLineEffect s (line.Drain n) one other) on does) in
+    let places : AreLegalPositions (script_context s one.conn) other.course.past (map (λ call. call.1) other.course.row) =
+    subst (λ (n : ℕ). AreLegalPositions (script_context s n) other.course.past (map (λ call. call.1) other.course.row)) done.conn
     behind-it.course.places in
-    subst (λ (p : Behind). standing p ≡ []) past-is
-    (none-stands (under s one.conn) other.course.past (map (λ call. call.1) other.course.row) places settled
-    (subst (λ (p : Behind). ArePlain (chain p).entries) (sym past-is) plain))
+    subst (λ (p : Trace). pending_calls p ≡ []) past-is
+    (none-stands (script_context s one.conn) other.course.past (map (λ call. call.1) other.course.row) places settled
+    (subst (λ (p : Trace). ArePlain (chain p).entries) (sym past-is) plain))
 
-rests-on : (conn : ℕ) (l : Line) (old new : Opened) → (is_submit l ≡ true → conn_of l ≢ conn) → conn_of l ≡ conn
+rests-on : (conn : ℕ) (l : ScriptLine) (old new : OpenConnection) → (is_submit l ≡ true → conn_of l ≢ conn) → conn_of l ≡ conn
     → Done l old new → Rests old.course.past new.course.past
 rests-on conn l old new other on done =
     let given : (b : Bool) → is_submit l ≡ b → Rests old.course.past new.course.past = λ b. elim b as (λ b. is_submit l ≡ b → Rests old.course.past new.course.past) [
@@ -232,36 +232,36 @@ rests-on conn l old new other on done =
     ] in
     given (is_submit l) refl
 
-pub script-sends : Laws → (s : Script) (end : State) (conn : ℕ) → IsScript s → Follows s end → IsDrainedLast s conn
-    → IsSetFirst (behind conn end.history) → ArePlain (chain (behind conn end.history)).entries
-    → frames_behind s.table conn (behind conn end.history)
+pub script-sends : Laws → (s : Script) (end : ScriptState) (conn : ℕ) → IsScript s → Follows s end → IsDrainedLast s conn
+    → IsSetFirst (trace_of conn end.history) → ArePlain (chain (trace_of conn end.history)).entries
+    → frames_of_trace s.table conn (trace_of conn end.history)
     ≡ map (frame_of s.table)
-    (allowed_copies conn (chain (behind conn end.history)).entries (taken (behind conn end.history)))
+    (allowed_copies conn (chain (trace_of conn end.history)).entries (taken (trace_of conn end.history)))
 script-sends laws s end conn script follows last first plain =
-    let past : Behind = behind conn end.history in
+    let past : Trace = trace_of conn end.history in
     let legal = laws.legal s end script follows conn in
     let unfailed : has_failed past ≡ false =
-    through laws s conn (λ (p : Behind). has_failed p ≡ false) (λ (l : Line). Unit {0})
+    through laws s conn (λ (p : Trace). has_failed p ≡ false) (λ (l : ScriptLine). Unit {0})
     (λ l old new any on done h. done.going h) [] s.lines start end script refl refl follows.leads
-    (all-of (λ (l : Line). Unit {0}) (λ l. tt) s.lines) refl in
+    (all-of (λ (l : ScriptLine). Unit {0}) (λ l. tt) s.lines) refl in
     let split = leads-split s start end last.front (line.Drain conn ∷ last.back)
-    (subst (λ (ls : List Line). Leads s start ls end) last.order follows.leads) in
-    let old : State = split.mid in
+    (subst (λ (ls : List ScriptLine). IsStateAfter s start ls end) last.order follows.leads) in
+    let old : ScriptState = split.mid in
     let at = split.rest in
-    let new : State = at.0 in
+    let new : ScriptState = at.0 in
     let grown = leads-history s new end last.back at.2 in
-    let longer : past ≡ behind conn grown.0 ++ behind conn new.history =
-    ap (behind conn) grown.1 ∙ laws.joined conn new.history grown.0 in
-    let earlier = earlier-plain (behind conn grown.0) (behind conn new.history) (subst IsSetFirst longer first)
-    (subst (λ (p : Behind). ArePlain (chain p).entries) longer plain) in
-    let none-then : standing (behind conn new.history) ≡ [] = elim earlier [
-      | inl none ↦ ap (filter (stands (behind conn new.history))) none
+    let longer : past ≡ trace_of conn grown.0 ++ trace_of conn new.history =
+    ap (trace_of conn) grown.1 ∙ laws.joined conn new.history grown.0 in
+    let earlier = earlier-plain (trace_of conn grown.0) (trace_of conn new.history) (subst IsSetFirst longer first)
+    (subst (λ (p : Trace). ArePlain (chain p).entries) longer plain) in
+    let none-then : pending_calls (trace_of conn new.history) ≡ [] = elim earlier [
+      | inl none ↦ ap (filter (is_pending (trace_of conn new.history))) none
       | inr so ↦ drained-none laws s conn last.front last.back old new script last.order split.first at.1 so
     ] in
     let further : s.lines ≡ (last.front ++ line.Drain conn ∷ []) ++ last.back =
     last.order ∙ sym (append_assoc last.front (line.Drain conn ∷ []) last.back) in
-    let none-stand : standing past ≡ [] =
-    through laws s conn (λ (p : Behind). standing p ≡ []) (λ (l : Line). is_submit l ≡ true → conn_of l ≢ conn)
+    let none-stand : pending_calls past ≡ [] =
+    through laws s conn (λ (p : Trace). pending_calls p ≡ []) (λ (l : ScriptLine). is_submit l ≡ true → conn_of l ≢ conn)
     (λ l a b other on done h. rests-on conn l a b other on done h) (last.front ++ line.Drain conn ∷ []) last.back new end
     script further (leads-push s start old new last.front (line.Drain conn) split.first at.1) at.2 last.others none-then in
-    all-sent laws.stands_once_taken (under s conn) past legal.prefix first plain unfailed none-stand
+    all-sent laws.stands_once_taken (script_context s conn) past legal.prefix first plain unfailed none-stand

@@ -9,8 +9,8 @@ use Rattle.graph_form.specs.declared.reason.Reason.{Reason}
 use Rattle.graph_form.specs.declared.reason.Reason.TheVariants.{NoMethod}
 use Rattle.graph_form.specs.Forgotten.{tree_of}
 use Rattle.graph_form.specs.Placed.{IsSound, Placed}
-use Rattle.graph_form.specs.Malformed.{ComesTo, IsMalformed, Outcome, ReadsBy, is_copied, is_malformed}
-use Rattle.call_history.specs.Loads.{IsTaken, is_copied as takes_copy, is_malformed as takes_malformed, no_method}
+use Rattle.graph_form.specs.Malformed.{HasOutcome, IsMalformed, GraphOutcome, AreReadBy, is_copied, is_malformed}
+use Rattle.call_history.specs.Loads.{IsCopyByLoads, is_copied as takes_copy, is_malformed as takes_malformed, no_method}
 use Rattle.call_history.specs.declared.happening.TookCopy.{TookCopy}
 use Rattle.call_history.specs.declared.happening.TookCopy.TheVariants.{Copy, Malformed}
 use Rattle.replay_laws.proofs.Walking.{LimitLaw, OffenceLaw, comes-to}
@@ -34,8 +34,8 @@ IsSoundCopy T method number (Malformed reason place value) =
 pub record Takes (T : Table) (H limit method number addr : ℕ) (reading : ℕ → ℕ → ℕ) : Type 0 where
   pub own : List (ℕ × ℕ)
   pub copy : TookCopy
-  pub reads : ReadsBy reading 1 own
-  pub taken : IsTaken T H limit method number addr own copy
+  pub reads : AreReadBy reading 1 own
+  pub taken : IsCopyByLoads T H limit method number addr own copy
   pub few : length own ≤ limit
   pub sound : IsSoundCopy T method number copy
 
@@ -43,8 +43,8 @@ module _ (laws : GraphLaws) (T : Table) (H limit method number addr : ℕ) (read
   abbrev msg : ℕ
   msg = message_at T method number
 
-  taken-by : IsValid T → method < length T.methods → (own : List (ℕ × ℕ)) (outcome : Outcome) → ReadsBy reading 1 own
-      → ComesTo T H msg addr limit own outcome → Takes T H limit method number addr reading
+  taken-by : IsValid T → method < length T.methods → (own : List (ℕ × ℕ)) (outcome : GraphOutcome) → AreReadBy reading 1 own
+      → HasOutcome T H msg addr limit own outcome → Takes T H limit method number addr reading
   taken-by valid has own outcome reads (is_copied P sound loads few is) = record {
     own = own;
     copy = Copy (tree_of T msg P);

@@ -9,25 +9,25 @@ use Rattle.std.proofs.lemmas.Bool.Decides.{nat_tests}
 use Rattle.engine_core.specs.declared.outcome.Noted.TheVariants as notes
 use Rattle.engine_core.specs.declared.policy.Policy.{Policy}
 use Rattle.engine_core.specs.declared.policy.Policy.TheVariants.{Access, Rate, Quota, Count, Redact}
-use Rattle.call_history.specs.Behind.{Behind, policy_of}
-use Rattle.call_history.specs.Legal.{History, behind}
-use Rattle.call_history.specs.Tickets.{drawn_by, is_quota_of}
-use Rattle.call_history.specs.declared.happening.Happened.{Happened}
+use Rattle.call_history.specs.Trace.{Trace, policy_in_trace}
+use Rattle.call_history.specs.Legal.{History, trace_of}
+use Rattle.call_history.specs.Tickets.{tickets_drawn_by, is_quota_of}
+use Rattle.call_history.specs.declared.happening.ConnectionEvent.{ConnectionEvent}
 use Rattle.call_history.specs.declared.happening.Happening.TheVariants.{Drawn}
-use Rattle.replay_run.specs.Tickets.{AreInTurn, tickets, tickets_after}
+use Rattle.replay_run.specs.Tickets.{AreConsecutive, tickets, tickets_after}
 use Rattle.replay_laws.proofs.Outcomes.{IsNext}
 
-after-one : (tenant window : ℕ) (b h : History) (x : Happened) → tickets_after tenant window b (h ++ x ∷ [])
-    ≡ tickets_after tenant window b h ++ drawn_by tenant window x.what (behind x.conn (b ++ h))
+after-one : (tenant window : ℕ) (b h : History) (x : ConnectionEvent) → tickets_after tenant window b (h ++ x ∷ [])
+    ≡ tickets_after tenant window b h ++ tickets_drawn_by tenant window x.what (trace_of x.conn (b ++ h))
 after-one tenant window b [] x =
-    append-nil (drawn_by tenant window x.what (behind x.conn b))
-    ∙ ap (λ c. drawn_by tenant window x.what (behind x.conn c)) (sym (append-nil b))
+    append-nil (tickets_drawn_by tenant window x.what (trace_of x.conn b))
+    ∙ ap (λ c. tickets_drawn_by tenant window x.what (trace_of x.conn c)) (sym (append-nil b))
 after-one tenant window b (y ∷ h) x =
-    let now : List ℕ = drawn_by tenant window y.what (behind y.conn b) in
+    let now : List ℕ = tickets_drawn_by tenant window y.what (trace_of y.conn b) in
     let rest : List ℕ = tickets_after tenant window (b ++ y ∷ []) h in
     ap (λ ts. now ++ ts) (after-one tenant window (b ++ y ∷ []) h x
-    ∙ ap (λ c. rest ++ drawn_by tenant window x.what (behind x.conn c)) (append_assoc b (y ∷ []) h))
-    ∙ sym (append_assoc now rest (drawn_by tenant window x.what (behind x.conn (b ++ y ∷ h))))
+    ∙ ap (λ c. rest ++ tickets_drawn_by tenant window x.what (trace_of x.conn c)) (append_assoc b (y ∷ []) h))
+    ∙ sym (append_assoc now rest (tickets_drawn_by tenant window x.what (trace_of x.conn (b ++ y ∷ h))))
 
 range-push : (a n m : ℕ) → m ≡ a + n → range_with_len a (n + 1) ≡ range_with_len a n ++ m ∷ []
 range-push a zero m is = let same : a ≡ m = omega arith in ap (λ k. k ∷ []) same
@@ -56,14 +56,14 @@ abbrev pub next_in : History → ℕ → ℕ → ℕ
 next_in h tenant window = length (tickets tenant window h)
 
 -- the event draws no ticket but the next
-abbrev pub TellsNext : History → Happened → Type 0
+abbrev pub TellsNext : History → ConnectionEvent → Type 0
 TellsNext h x = (tenant window : ℕ)
-    → IsNoneOrNext (drawn_by tenant window x.what (behind x.conn h)) (next_in h tenant window)
+    → IsNoneOrNext (tickets_drawn_by tenant window x.what (trace_of x.conn h)) (next_in h tenant window)
 
-pub turns-on : (h : History) (x : Happened) → AreInTurn h → TellsNext h x → AreInTurn (h ++ x ∷ [])
+pub turns-on : (h : History) (x : ConnectionEvent) → AreConsecutive h → TellsNext h x → AreConsecutive (h ++ x ∷ [])
 turns-on h x turn tells tenant window =
     subst Counts (sym (after-one tenant window [] h x))
-    (counts-push (tickets tenant window h) (drawn_by tenant window x.what (behind x.conn h)) (turn tenant window) (tells tenant window))
+    (counts-push (tickets tenant window h) (tickets_drawn_by tenant window x.what (trace_of x.conn h)) (turn tenant window) (tells tenant window))
 
 -- ---- a draw
 
@@ -85,10 +85,10 @@ own-next next (Quota owner per cap) at ticket tenant window is here own =
 own-next next Count at ticket tenant window is here own = absurd cc
 own-next next (Redact clears) at ticket tenant window is here own = absurd cc
 
-pub draw-tells : (next : ℕ → ℕ → ℕ) (policy : Policy) (seq : ℕ) (name : List ℕ) (at ticket : ℕ) (past : Behind)
-    → policy_of name past ≡ Some policy → IsNext next (notes.Drawn at ticket) policy
-    → (tenant window : ℕ) → IsNoneOrNext (drawn_by tenant window (Drawn seq name at ticket) past) (next tenant window)
+pub draw-tells : (next : ℕ → ℕ → ℕ) (policy : Policy) (seq : ℕ) (name : List ℕ) (at ticket : ℕ) (past : Trace)
+    → policy_in_trace name past ≡ Some policy → IsNext next (notes.Drawn at ticket) policy
+    → (tenant window : ℕ) → IsNoneOrNext (tickets_drawn_by tenant window (Drawn seq name at ticket) past) (next tenant window)
 draw-tells next policy seq name at ticket past is turn tenant window =
-    draw-if (at == window) (option_map_or (is_quota_of tenant) (policy_of name past) false) ticket (next tenant window)
+    draw-if (at == window) (option_map_or (is_quota_of tenant) (policy_in_trace name past) false) ticket (next tenant window)
     (λ here own. own-next next policy at ticket tenant window turn here
     (ap (λ (o : Option Policy). option_map_or (is_quota_of tenant) o false) (sym is) ∙ own))

@@ -4,11 +4,11 @@ use Rattle.std.proofs.Common.{ap, ◌∙◌, subst, append_assoc, arith}
 use Rattle.mrpc_table.specs.declared.table.Table.{Table}
 use Rattle.graph_form.specs.declared.reason.Reason.{Reason}
 use Rattle.graph_form.specs.declared.reason.Reason.TheVariants.{Address, Loads}
-use Rattle.graph_form.specs.Roles.{Role, Expected, behind, node_words, size_words}
-use Rattle.graph_form.specs.Placed.{Placed, nothing, first, word, loads, LiesIn, AreSound}
+use Rattle.graph_form.specs.Roles.{WordRole, Expected, expected_after, node_words, size_words}
+use Rattle.graph_form.specs.Placed.{Placed, nothing, first, word, loads, IsSpanInHeap, AreSound}
 use Rattle.graph_form.specs.Forgotten.{tree_of}
-use Rattle.graph_form.specs.Loading.{LeadsTo}
-use Rattle.graph_form.specs.Malformed.{OffendsFirst, IsMalformed, no_root, ReadsBy, Outcome, copied, malformed, ComesTo, is_copied, is_malformed}
+use Rattle.graph_form.specs.Loading.{AreExpectedAfter}
+use Rattle.graph_form.specs.Malformed.{IsInvalidFirst, IsMalformed, no_root, AreReadBy, GraphOutcome, copied, malformed, HasOutcome, is_copied, is_malformed}
 use Rattle.replay_laws.proofs.Offences.{judged, lies-holds}
 
 -- ---- loads that lead to the end
@@ -38,12 +38,12 @@ record IsWhole (T : Table) (H : ℕ) (es : Expected) (xs : List (ℕ × ℕ)) : 
   sound : AreSound T H es placed
   loads_are : xs ≡ loads placed
 
-whole : (T : Table) (H : ℕ) (es : Expected) (xs : List (ℕ × ℕ)) → LeadsTo T H es xs [] → IsWhole T H es xs
+whole : (T : Table) (H : ℕ) (es : Expected) (xs : List (ℕ × ℕ)) → AreExpectedAfter T H es xs [] → IsWhole T H es xs
 whole T H es [] h = record { placed = nothing; sound = subst (λ es. AreSound T H es nothing) (sym h) tt; loads_are = refl }
 whole T H [] (x ∷ xs) h = absurd h
 whole T H (e ∷ es) (x ∷ xs) h =
-    let rest = whole T H (behind T e.0 x.0 x.1 ++ es) xs h.3 in
-    let parts = split T H (behind T e.0 x.0 x.1) es rest.placed rest.sound in
+    let rest = whole T H (expected_after T e.0 x.0 x.1 ++ es) xs h.3 in
+    let parts = split T H (expected_after T e.0 x.0 x.1) es rest.placed rest.sound in
     record {
       placed = first (word x.0 x.1 parts.front) parts.back;
       sound = (h.0, h.1, h.2, parts.front_sound, parts.back_sound);
@@ -53,13 +53,13 @@ whole T H (e ∷ es) (x ∷ xs) h =
 -- ---- loads by a reading
 
 data Walked (T : Table) (H : ℕ) (reading : ℕ → ℕ → ℕ) (fuel k : ℕ) (es : Expected) : Type 0 where
-  to_end : (own : List (ℕ × ℕ)) → ReadsBy reading k own → LeadsTo T H es own [] → length own ≤ fuel
+  to_end : (own : List (ℕ × ℕ)) → AreReadBy reading k own → AreExpectedAfter T H es own [] → length own ≤ fuel
       → Walked T H reading fuel k es
-  at_word : (before : List (ℕ × ℕ)) (e : Role × ℕ) (rest : Expected) (v : ℕ) (reason : Reason)
-      → ReadsBy reading k (before ++ (e.1, v) ∷ []) → length before < fuel → LeadsTo T H es before (e ∷ rest)
-      → v < 2 ^ 64 → OffendsFirst T H e.0 v reason → Walked T H reading fuel k es
-  at_limit : (own : List (ℕ × ℕ)) (e : Role × ℕ) (rest : Expected) → ReadsBy reading k own → length own ≡ fuel
-      → LeadsTo T H es own (e ∷ rest) → Walked T H reading fuel k es
+  at_word : (before : List (ℕ × ℕ)) (e : WordRole × ℕ) (rest : Expected) (v : ℕ) (reason : Reason)
+      → AreReadBy reading k (before ++ (e.1, v) ∷ []) → length before < fuel → AreExpectedAfter T H es before (e ∷ rest)
+      → v < 2 ^ 64 → IsInvalidFirst T H e.0 v reason → Walked T H reading fuel k es
+  at_limit : (own : List (ℕ × ℕ)) (e : WordRole × ℕ) (rest : Expected) → AreReadBy reading k own → length own ≡ fuel
+      → AreExpectedAfter T H es own (e ∷ rest) → Walked T H reading fuel k es
 
 walk : (T : Table) (H : ℕ) (reading : ℕ → ℕ → ℕ) → ((k place : ℕ) → reading k place < 2 ^ 64) → (fuel k : ℕ)
     (es : Expected) → Walked T H reading fuel k es
@@ -69,7 +69,7 @@ walk T H reading small (suc fuel) k (e ∷ rest) =
     let v : ℕ = reading k e.1 in
     elim (judged T H e.0 v) [
       | inr found ↦ at_word [] e rest v found.0 (refl, tt) (omega arith) refl (small k e.1) found.1
-      | inl fine ↦ elim (walk T H reading small fuel (k + 1) (behind T e.0 e.1 v ++ rest)) [
+      | inl fine ↦ elim (walk T H reading small fuel (k + 1) (expected_after T e.0 e.1 v ++ rest)) [
         | to_end own reads leads few ↦
             to_end ((e.1, v) ∷ own) (refl, reads) (refl, small k e.1, fine, leads) (omega arith)
         | at_word before f others w reason reads few leads low offends ↦
@@ -82,13 +82,13 @@ walk T H reading small (suc fuel) k (e ∷ rest) =
 -- ---- the outcome of a graph
 
 abbrev pub OffenceLaw : Type 0
-OffenceLaw = (T : Table) (H msg address limit : ℕ) (xs : List (ℕ × ℕ)) (e : Role × ℕ) (rest : Expected) (v : ℕ) (reason : Reason)
-    → LiesIn H address (size_words T msg) → LeadsTo T H (node_words T msg 1 address) xs (e ∷ rest) → length xs < limit → v < 2 ^ 64
-    → OffendsFirst T H e.0 v reason → IsMalformed T H msg address limit (xs ++ (e.1, v) ∷ []) reason e.1 v
+OffenceLaw = (T : Table) (H msg address limit : ℕ) (xs : List (ℕ × ℕ)) (e : WordRole × ℕ) (rest : Expected) (v : ℕ) (reason : Reason)
+    → IsSpanInHeap H address (size_words T msg) → AreExpectedAfter T H (node_words T msg 1 address) xs (e ∷ rest) → length xs < limit → v < 2 ^ 64
+    → IsInvalidFirst T H e.0 v reason → IsMalformed T H msg address limit (xs ++ (e.1, v) ∷ []) reason e.1 v
 
 abbrev pub LimitLaw : Type 0
-LimitLaw = (T : Table) (H msg address limit : ℕ) (xs : List (ℕ × ℕ)) (x : ℕ × ℕ) (e : Role × ℕ) (rest : Expected)
-    → LiesIn H address (size_words T msg) → LeadsTo T H (node_words T msg 1 address) (xs ++ x ∷ []) (e ∷ rest)
+LimitLaw = (T : Table) (H msg address limit : ℕ) (xs : List (ℕ × ℕ)) (x : ℕ × ℕ) (e : WordRole × ℕ) (rest : Expected)
+    → IsSpanInHeap H address (size_words T msg) → AreExpectedAfter T H (node_words T msg 1 address) (xs ++ x ∷ []) (e ∷ rest)
     → length (xs ++ x ∷ []) ≡ limit → IsMalformed T H msg address limit (xs ++ x ∷ []) Loads x.0 x.1
 
 record HasLast (xs : List (ℕ × ℕ)) : Type 0 where
@@ -103,12 +103,12 @@ has-last (x ∷ y ∷ ys) h = let r = has-last (y ∷ ys) (omega arith) in recor
 
 pub record Comes (T : Table) (H msg address limit : ℕ) (reading : ℕ → ℕ → ℕ) : Type 0 where
   pub own : List (ℕ × ℕ)
-  pub outcome : Outcome
-  pub reads : ReadsBy reading 1 own
-  pub comes : ComesTo T H msg address limit own outcome
+  pub outcome : GraphOutcome
+  pub reads : AreReadBy reading 1 own
+  pub comes : HasOutcome T H msg address limit own outcome
 
 module _ (offence : OffenceLaw) (full : LimitLaw) (T : Table) (H msg address limit : ℕ) (reading : ℕ → ℕ → ℕ) where
-  walked-comes : 1 ≤ limit → LiesIn H address (size_words T msg) → Walked T H reading limit 1 (node_words T msg 1 address)
+  walked-comes : 1 ≤ limit → IsSpanInHeap H address (size_words T msg) → Walked T H reading limit 1 (node_words T msg 1 address)
       → Comes T H msg address limit reading
   walked-comes least lies (to_end own reads leads few) =
       let w = whole T H (node_words T msg 1 address) own leads in
@@ -127,7 +127,7 @@ module _ (offence : OffenceLaw) (full : LimitLaw) (T : Table) (H msg address lim
   walked-comes least lies (at_limit own e rest reads long leads) =
       let l = has-last own (omega (arith, long, least)) in
       let fault = full T H msg address limit l.front l.last e rest lies
-      (subst (λ xs. LeadsTo T H (node_words T msg 1 address) xs (e ∷ rest)) l.is leads) (sym (ap length l.is) ∙ long) in
+      (subst (λ xs. AreExpectedAfter T H (node_words T msg 1 address) xs (e ∷ rest)) l.is leads) (sym (ap length l.is) ∙ long) in
       record {
         own = own;
         outcome = malformed Loads l.last.0 l.last.1;

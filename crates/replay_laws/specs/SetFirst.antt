@@ -7,15 +7,15 @@ use Rattle.policy_access.specs.Verdict.{verdict}
 use Rattle.engine_core.specs.Chains.{Entry}
 use Rattle.engine_core.specs.declared.policy.Policy.{Policy}
 use Rattle.engine_core.specs.declared.policy.Policy.TheVariants.{Access, Count}
-use Rattle.call_history.specs.Behind.{Behind, copied, taken}
+use Rattle.call_history.specs.Trace.{Trace, copied, taken}
 use Rattle.call_history.specs.declared.happening.Happening.TheVariants.{Op}
-use Rattle.call_history.specs.declared.happening.Taken.{Taken}
+use Rattle.call_history.specs.declared.happening.AcceptedCall.{AcceptedCall}
 
 -- an access or a count policy
-abbrev pub IsPlain : Policy → Type 0
-IsPlain (Access p) = Unit {0}
-IsPlain Count = Unit {0}
-IsPlain _ = ⊥
+abbrev pub IsAccessOrCount : Policy → Type 0
+IsAccessOrCount (Access p) = Unit {0}
+IsAccessOrCount Count = Unit {0}
+IsAccessOrCount _ = ⊥
 
 -- such a policy allows a call: an access policy by its verdict, a count always
 abbrev pub permits : Policy → Call → Bool
@@ -27,15 +27,15 @@ abbrev pub allowed_of : List Entry → Option Call → Option Call
 allowed_of entries None = None
 allowed_of entries (Some call) = if list_all (λ e. permits e.policy call) entries then Some call else None
 
-abbrev pub allowed : ℕ → List Entry → Taken → Option Call
-allowed conn entries call = allowed_of entries (copied conn call call.copy)
+abbrev pub allowed_copy : ℕ → List Entry → AcceptedCall → Option Call
+allowed_copy conn entries call = allowed_of entries (copied conn call call.copy)
 
 -- the copies of the calls that all entries allow, in order
-abbrev pub allowed_copies : ℕ → List Entry → List Taken → List Call
-allowed_copies conn entries calls = filter_map (allowed conn entries) calls
+abbrev pub allowed_copies : ℕ → List Entry → List AcceptedCall → List Call
+allowed_copies conn entries calls = filter_map (allowed_copy conn entries) calls
 
 -- no operation came after an accepted call
-abbrev pub IsSetFirst : Behind → Type 0
+abbrev pub IsSetFirst : Trace → Type 0
 IsSetFirst [] = Unit {0}
 IsSetFirst (Op step ∷ past) = taken past ≡ []
 IsSetFirst (_ ∷ past) = IsSetFirst past

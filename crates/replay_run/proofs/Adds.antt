@@ -7,18 +7,18 @@ use Rattle.engine_core.specs.declared.outcome.Noted.{Noted}
 use Rattle.engine_core.specs.declared.outcome.Noted.TheVariants as notes
 use Rattle.engine_core.specs.declared.outcome.Outcome.{Outcome}
 use Rattle.engine_core.specs.declared.outcome.Outcome.TheVariants as outcomes
-use Rattle.call_history.specs.Behind.{Behind, chain, standing, taken}
-use Rattle.call_history.specs.Draining.{Ending, at_rest, again, Turns, is_idle, is_held, redacts, goes, Passes, is_over, next, begins_again, SendsSome, none, one, BeginsToDrain}
-use Rattle.call_history.specs.Events.{Course, Comes, Event, accepts, operates, sends, shows, turns, turns_away, fails}
-use Rattle.call_history.specs.Events.{takes, is_away, changes, rises, stays, has_turn, is_sent, link_failed, turned}
-use Rattle.call_history.specs.Events.{note_behind, refused_for_link}
-use Rattle.call_history.specs.Frames.{frames_behind}
-use Rattle.call_history.specs.Rules.{Under}
-use Rattle.call_history.specs.Tickets.{tickets_behind}
+use Rattle.call_history.specs.Trace.{Trace, chain, pending_calls, taken}
+use Rattle.call_history.specs.Draining.{TurnsEnding, at_rest, again, HasTurns, is_idle, is_held, redacts, goes, IsPass, is_over, next, begins_again, HasSentSome, none, one, HasPartlyDrained}
+use Rattle.call_history.specs.Transitions.{ConnState, IsTransition, Transition, accepts, operates, sends, shows, turns, turns_away, fails}
+use Rattle.call_history.specs.Transitions.{takes, is_away, changes, rises, stays, has_turn, is_sent, link_failed, trace_after_turn}
+use Rattle.call_history.specs.Transitions.{with_note, refused_for_link}
+use Rattle.call_history.specs.Frames.{frames_of_trace}
+use Rattle.call_history.specs.Rules.{JudgeContext}
+use Rattle.call_history.specs.Tickets.{tickets_of_trace}
 use Rattle.call_history.specs.declared.happening.Cause.TheVariants as cause
 use Rattle.call_history.specs.declared.happening.Happening.{Happening}
 use Rattle.call_history.specs.declared.happening.Happening.TheVariants.{Took, Away, Op, Moment, Charged, Drawn, Counted, Redacted, Sent, Refused}
-use Rattle.call_history.specs.declared.happening.Taken.{Taken}
+use Rattle.call_history.specs.declared.happening.AcceptedCall.{AcceptedCall}
 use Rattle.call_history.specs.declared.happening.TookCopy.{TookCopy}
 use Rattle.call_history.specs.declared.happening.TookCopy.TheVariants.{Copy, Malformed}
 
@@ -62,22 +62,22 @@ IsOfChange (Sent seq bytes) = ⊥
 IsOfChange (Refused seq why) = Unit {0}
 
 -- events of a kind were added to a trace
-pub record Adds (P : Happening → Type 0) (old new : Behind) : Type 0 where
+pub record Adds (P : Happening → Type 0) (old new : Trace) : Type 0 where
   pub more : List Happening
   pub each : AllByRecursion P more
   pub is : new ≡ more ++ old
 
-pub adds-nothing : (P : Happening → Type 0) (past : Behind) → Adds P past past
+pub adds-nothing : (P : Happening → Type 0) (past : Trace) → Adds P past past
 adds-nothing P past = record { more = []; each = tt; is = refl }
 
-pub adds-one : (P : Happening → Type 0) (x : Happening) (past : Behind) → P x → Adds P past (x ∷ past)
+pub adds-one : (P : Happening → Type 0) (x : Happening) (past : Trace) → P x → Adds P past (x ∷ past)
 adds-one P x past holds = record { more = x ∷ []; each = (holds, tt); is = refl }
 
 pub all-append : (P : Happening → Type 0) (xs ys : List Happening) → AllByRecursion P xs → AllByRecursion P ys → AllByRecursion P (xs ++ ys)
 all-append P [] ys a b = b
 all-append P (x ∷ xs) ys a b = (a.0, all-append P xs ys a.1 b)
 
-pub adds-more : (P : Happening → Type 0) (old mid new : Behind) → Adds P old mid → Adds P mid new → Adds P old new
+pub adds-more : (P : Happening → Type 0) (old mid new : Trace) → Adds P old mid → Adds P mid new → Adds P old new
 adds-more P old mid new a b = record {
   more = b.more ++ a.more;
   each = all-append P b.more a.more b.each a.each;
@@ -88,7 +88,7 @@ pub all-weaker : (P Q : Happening → Type 0) → ((x : Happening) → P x → Q
 all-weaker P Q gives [] a = tt
 all-weaker P Q gives (x ∷ xs) a = (gives x a.0, all-weaker P Q gives xs a.1)
 
-pub adds-weaker : (P Q : Happening → Type 0) → ((x : Happening) → P x → Q x) → (old new : Behind) → Adds P old new → Adds Q old new
+pub adds-weaker : (P Q : Happening → Type 0) → ((x : Happening) → P x → Q x) → (old new : Trace) → Adds P old new → Adds Q old new
 adds-weaker P Q gives old new a = record { more = a.more; each = all-weaker P Q gives a.more a.each; is = a.is }
 
 pub turn-drains : (x : Happening) → IsOfTurn x → IsOfDrain x
@@ -105,16 +105,16 @@ turn-drains (Refused seq why) holds = tt
 
 -- ---- what stays
 
-unmoved-by : (X : Type 0) (f : Behind → X) (P : Happening → Type 0) → ((x : Happening) (past : Behind) → P x → f (x ∷ past) ≡ f past)
-    → (more : List Happening) (old : Behind) → AllByRecursion P more → f (more ++ old) ≡ f old
+unmoved-by : (X : Type 0) (f : Trace → X) (P : Happening → Type 0) → ((x : Happening) (past : Trace) → P x → f (x ∷ past) ≡ f past)
+    → (more : List Happening) (old : Trace) → AllByRecursion P more → f (more ++ old) ≡ f old
 unmoved-by X f P keeps [] old each = refl
 unmoved-by X f P keeps (x ∷ more) old each = keeps x (more ++ old) each.0 ∙ unmoved-by X f P keeps more old each.1
 
-pub unmoved : (X : Type 0) (f : Behind → X) (P : Happening → Type 0) → ((x : Happening) (past : Behind) → P x → f (x ∷ past) ≡ f past)
-    → (old new : Behind) → Adds P old new → f new ≡ f old
+pub unmoved : (X : Type 0) (f : Trace → X) (P : Happening → Type 0) → ((x : Happening) (past : Trace) → P x → f (x ∷ past) ≡ f past)
+    → (old new : Trace) → Adds P old new → f new ≡ f old
 unmoved X f P keeps old new a = ap f a.is ∙ unmoved-by X f P keeps a.more old a.each
 
-pub chain-kept : (x : Happening) (past : Behind) → IsOfDrain x → chain (x ∷ past) ≡ chain past
+pub chain-kept : (x : Happening) (past : Trace) → IsOfDrain x → chain (x ∷ past) ≡ chain past
 chain-kept (Took call) past holds = absurd holds
 chain-kept (Away method number addr) past holds = absurd holds
 chain-kept (Op step) past holds = absurd holds
@@ -126,7 +126,7 @@ chain-kept (Redacted seq name version) past holds = refl
 chain-kept (Sent seq bytes) past holds = refl
 chain-kept (Refused seq why) past holds = refl
 
-pub taken-kept : (x : Happening) (past : Behind) → IsOfDrain x → taken (x ∷ past) ≡ taken past
+pub taken-kept : (x : Happening) (past : Trace) → IsOfDrain x → taken (x ∷ past) ≡ taken past
 taken-kept (Took call) past holds = absurd holds
 taken-kept (Away method number addr) past holds = absurd holds
 taken-kept (Op step) past holds = absurd holds
@@ -139,73 +139,73 @@ taken-kept (Sent seq bytes) past holds = refl
 taken-kept (Refused seq why) past holds = refl
 
 module _ (T : Table) (conn : ℕ) where
-  pub frames-kept-by_turn : (x : Happening) (past : Behind) → IsOfTurn x → frames_behind T conn (x ∷ past) ≡ frames_behind T conn past
+  pub frames-kept-by_turn : (x : Happening) (past : Trace) → IsOfTurn x → frames_of_trace T conn (x ∷ past) ≡ frames_of_trace T conn past
   frames-kept-by_turn (Took call) past holds = absurd holds
   frames-kept-by_turn (Away method number addr) past holds = absurd holds
   frames-kept-by_turn (Op step) past holds = absurd holds
   frames-kept-by_turn (Moment ms) past holds = absurd holds
-  frames-kept-by_turn (Charged seq name left) past holds = append-nil (frames_behind T conn past)
-  frames-kept-by_turn (Drawn seq name window ticket) past holds = append-nil (frames_behind T conn past)
-  frames-kept-by_turn (Counted seq name) past holds = append-nil (frames_behind T conn past)
-  frames-kept-by_turn (Redacted seq name version) past holds = append-nil (frames_behind T conn past)
+  frames-kept-by_turn (Charged seq name left) past holds = append-nil (frames_of_trace T conn past)
+  frames-kept-by_turn (Drawn seq name window ticket) past holds = append-nil (frames_of_trace T conn past)
+  frames-kept-by_turn (Counted seq name) past holds = append-nil (frames_of_trace T conn past)
+  frames-kept-by_turn (Redacted seq name version) past holds = append-nil (frames_of_trace T conn past)
   frames-kept-by_turn (Sent seq bytes) past holds = absurd holds
-  frames-kept-by_turn (Refused seq why) past holds = append-nil (frames_behind T conn past)
+  frames-kept-by_turn (Refused seq why) past holds = append-nil (frames_of_trace T conn past)
 
-  pub frames-kept-by_change : (x : Happening) (past : Behind) → IsOfChange x → frames_behind T conn (x ∷ past) ≡ frames_behind T conn past
-  frames-kept-by_change (Took call) past holds = append-nil (frames_behind T conn past)
-  frames-kept-by_change (Away method number addr) past holds = append-nil (frames_behind T conn past)
-  frames-kept-by_change (Op step) past holds = append-nil (frames_behind T conn past)
-  frames-kept-by_change (Moment ms) past holds = append-nil (frames_behind T conn past)
+  pub frames-kept-by_change : (x : Happening) (past : Trace) → IsOfChange x → frames_of_trace T conn (x ∷ past) ≡ frames_of_trace T conn past
+  frames-kept-by_change (Took call) past holds = append-nil (frames_of_trace T conn past)
+  frames-kept-by_change (Away method number addr) past holds = append-nil (frames_of_trace T conn past)
+  frames-kept-by_change (Op step) past holds = append-nil (frames_of_trace T conn past)
+  frames-kept-by_change (Moment ms) past holds = append-nil (frames_of_trace T conn past)
   frames-kept-by_change (Charged seq name left) past holds = absurd holds
   frames-kept-by_change (Drawn seq name window ticket) past holds = absurd holds
   frames-kept-by_change (Counted seq name) past holds = absurd holds
   frames-kept-by_change (Redacted seq name version) past holds = absurd holds
   frames-kept-by_change (Sent seq bytes) past holds = absurd holds
-  frames-kept-by_change (Refused seq why) past holds = append-nil (frames_behind T conn past)
+  frames-kept-by_change (Refused seq why) past holds = append-nil (frames_of_trace T conn past)
 
 module _ (tenant window : ℕ) where
-  pub tickets-kept-by_change : (x : Happening) (past : Behind) → IsOfChange x → tickets_behind tenant window (x ∷ past) ≡ tickets_behind tenant window past
-  tickets-kept-by_change (Took call) past holds = append-nil (tickets_behind tenant window past)
-  tickets-kept-by_change (Away method number addr) past holds = append-nil (tickets_behind tenant window past)
-  tickets-kept-by_change (Op step) past holds = append-nil (tickets_behind tenant window past)
-  tickets-kept-by_change (Moment ms) past holds = append-nil (tickets_behind tenant window past)
+  pub tickets-kept-by_change : (x : Happening) (past : Trace) → IsOfChange x → tickets_of_trace tenant window (x ∷ past) ≡ tickets_of_trace tenant window past
+  tickets-kept-by_change (Took call) past holds = append-nil (tickets_of_trace tenant window past)
+  tickets-kept-by_change (Away method number addr) past holds = append-nil (tickets_of_trace tenant window past)
+  tickets-kept-by_change (Op step) past holds = append-nil (tickets_of_trace tenant window past)
+  tickets-kept-by_change (Moment ms) past holds = append-nil (tickets_of_trace tenant window past)
   tickets-kept-by_change (Charged seq name left) past holds = absurd holds
   tickets-kept-by_change (Drawn seq name at ticket) past holds = absurd holds
   tickets-kept-by_change (Counted seq name) past holds = absurd holds
   tickets-kept-by_change (Redacted seq name version) past holds = absurd holds
   tickets-kept-by_change (Sent seq bytes) past holds = absurd holds
-  tickets-kept-by_change (Refused seq why) past holds = append-nil (tickets_behind tenant window past)
+  tickets-kept-by_change (Refused seq why) past holds = append-nil (tickets_of_trace tenant window past)
 
 -- ---- transitions
 
-note-adds : (name : List ℕ) (seq : ℕ) (n : Noted) (past : Behind) → Adds IsOfTurn past (note_behind name seq n past)
+note-adds : (name : List ℕ) (seq : ℕ) (n : Noted) (past : Trace) → Adds IsOfTurn past (with_note name seq n past)
 note-adds name seq notes.Nothing past = adds-nothing IsOfTurn past
 note-adds name seq (notes.Charged left) past = adds-one IsOfTurn (Charged seq name left) past tt
 note-adds name seq (notes.Drawn window ticket) past = adds-one IsOfTurn (Drawn seq name window ticket) past tt
 note-adds name seq notes.Counted past = adds-one IsOfTurn (Counted seq name) past tt
 
-pub turned-adds : (e : Entry) (seq : ℕ) (outcome : Outcome) (c : Course) → Adds IsOfTurn c.past (turned e seq outcome c).past
+pub turned-adds : (e : Entry) (seq : ℕ) (outcome : Outcome) (c : ConnState) → Adds IsOfTurn c.past (trace_after_turn e seq outcome c).past
 turned-adds e seq (outcomes.Passed n) c = note-adds e.name seq n c.past
 turned-adds e seq (outcomes.Held left cost) c = adds-nothing IsOfTurn c.past
 turned-adds e seq (outcomes.Refused n why) c =
-    adds-more IsOfTurn c.past (note_behind e.name seq n c.past) (turned e seq (outcomes.Refused n why) c).past (note-adds e.name seq n c.past)
-    (adds-one IsOfTurn _ (note_behind e.name seq n c.past) tt)
+    adds-more IsOfTurn c.past (with_note e.name seq n c.past) (trace_after_turn e seq (outcomes.Refused n why) c).past (note-adds e.name seq n c.past)
+    (adds-one IsOfTurn _ (with_note e.name seq n c.past) tt)
 turned-adds e seq outcomes.Redacted c = adds-one IsOfTurn (Redacted seq e.name e.version) c.past tt
 
-refused-adds : (calls : List Taken) (past : Behind) → Adds IsOfTurn past (refused_for_link calls past)
+refused-adds : (calls : List AcceptedCall) (past : Trace) → Adds IsOfTurn past (refused_for_link calls past)
 refused-adds [] past = adds-nothing IsOfTurn past
 refused-adds (call ∷ calls) past =
     let x : Happening = Refused call.seq cause.Transport in
     adds-more IsOfTurn past (x ∷ past) (refused_for_link calls (x ∷ past)) (adds-one IsOfTurn x past tt) (refused-adds calls (x ∷ past))
 
 -- an accepted call with a copy of which nothing is known
-abbrev pub accepted_as : Taken → TookCopy → Course → Course
+abbrev pub accepted_as : AcceptedCall → TookCopy → ConnState → ConnState
 accepted_as call copy c = elim copy [
   | Copy tree ↦ record c { past = Took call ∷ c.past; row = c.row ++ (call.seq, 0) ∷ [] }
   | Malformed reason place value ↦ record c { past = Refused call.seq cause.Malformed ∷ Took call ∷ c.past }
 ]
 
-accepted-adds : (call : Taken) (copy : TookCopy) (c : Course) → Adds IsOfChange c.past (accepted_as call copy c).past
+accepted-adds : (call : AcceptedCall) (copy : TookCopy) (c : ConnState) → Adds IsOfChange c.past (accepted_as call copy c).past
 accepted-adds call (Copy tree) c = adds-one IsOfChange (Took call) c.past tt
 accepted-adds call (Malformed reason place value) c = record {
   more = Refused call.seq cause.Malformed ∷ Took call ∷ [];
@@ -214,7 +214,7 @@ accepted-adds call (Malformed reason place value) c = record {
 }
 
 -- turns and failures of the link
-abbrev pub IsTurning : Event → Type 0
+abbrev pub IsTurning : Transition → Type 0
 IsTurning (accepts call) = ⊥
 IsTurning (turns_away method number addr) = ⊥
 IsTurning (operates step) = ⊥
@@ -223,7 +223,7 @@ IsTurning (turns position seq outcome) = Unit {0}
 IsTurning (sends seq bytes) = ⊥
 IsTurning fails = Unit {0}
 
-abbrev pub IsChanging : Event → Type 0
+abbrev pub IsChanging : Transition → Type 0
 IsChanging (accepts call) = Unit {0}
 IsChanging (turns_away method number addr) = Unit {0}
 IsChanging (operates step) = Unit {0}
@@ -232,35 +232,35 @@ IsChanging (turns position seq outcome) = ⊥
 IsChanging (sends seq bytes) = ⊥
 IsChanging fails = ⊥
 
-pub turning-adds : (u : Under) (old : Course) (event : Event) (new : Course) → IsTurning event → Comes u old event new → Adds IsOfTurn old.past new.past
+pub turning-adds : (u : JudgeContext) (old : ConnState) (event : Transition) (new : ConnState) → IsTurning event → IsTransition u old event new → Adds IsOfTurn old.past new.past
 turning-adds u old event new turning (takes call is going may makes) = absurd (subst IsTurning is turning)
 turning-adds u old event new turning (is_away method number addr is full makes) = absurd (subst IsTurning is turning)
 turning-adds u old event new turning (changes step is made makes) = absurd (subst IsTurning is turning)
 turning-adds u old event new turning (rises ms is later makes) = absurd (subst IsTurning is turning)
 turning-adds u old event new turning (stays ms is earlier makes) = absurd (subst IsTurning is turning)
 turning-adds u old event new turning (has_turn position seq outcome e is turn makes) =
-    subst (λ (c : Course). Adds IsOfTurn old.past c.past) (sym makes) (turned-adds e seq outcome old)
+    subst (λ (c : ConnState). Adds IsOfTurn old.past c.past) (sym makes) (turned-adds e seq outcome old)
 turning-adds u old event new turning (is_sent seq bytes is going ready makes) = absurd (subst IsTurning is turning)
 turning-adds u old event new turning (link_failed is makes) =
-    subst (λ (c : Course). Adds IsOfTurn old.past c.past) (sym makes) (refused-adds (standing old.past) old.past)
+    subst (λ (c : ConnState). Adds IsOfTurn old.past c.past) (sym makes) (refused-adds (pending_calls old.past) old.past)
 
-pub changing-adds : (u : Under) (old : Course) (event : Event) (new : Course) → IsChanging event → Comes u old event new → Adds IsOfChange old.past new.past
+pub changing-adds : (u : JudgeContext) (old : ConnState) (event : Transition) (new : ConnState) → IsChanging event → IsTransition u old event new → Adds IsOfChange old.past new.past
 changing-adds u old event new changing (takes call is going may makes) =
-    subst (λ (c : Course). Adds IsOfChange old.past c.past) (sym makes) (accepted-adds call call.copy old)
+    subst (λ (c : ConnState). Adds IsOfChange old.past c.past) (sym makes) (accepted-adds call call.copy old)
 changing-adds u old event new changing (is_away method number addr is full makes) =
-    subst (λ (c : Course). Adds IsOfChange old.past c.past) (sym makes) (adds-one IsOfChange (Away method number addr) old.past tt)
+    subst (λ (c : ConnState). Adds IsOfChange old.past c.past) (sym makes) (adds-one IsOfChange (Away method number addr) old.past tt)
 changing-adds u old event new changing (changes step is made makes) =
-    subst (λ (c : Course). Adds IsOfChange old.past c.past) (sym makes) (adds-one IsOfChange (Op step) old.past tt)
+    subst (λ (c : ConnState). Adds IsOfChange old.past c.past) (sym makes) (adds-one IsOfChange (Op step) old.past tt)
 changing-adds u old event new changing (rises ms is later makes) =
-    subst (λ (c : Course). Adds IsOfChange old.past c.past) (sym makes) (adds-one IsOfChange (Moment ms) old.past tt)
+    subst (λ (c : ConnState). Adds IsOfChange old.past c.past) (sym makes) (adds-one IsOfChange (Moment ms) old.past tt)
 changing-adds u old event new changing (stays ms is earlier makes) =
-    subst (λ (c : Course). Adds IsOfChange old.past c.past) (sym makes) (adds-nothing IsOfChange old.past)
+    subst (λ (c : ConnState). Adds IsOfChange old.past c.past) (sym makes) (adds-nothing IsOfChange old.past)
 changing-adds u old event new changing (has_turn position seq outcome e is turn makes) = absurd (subst IsChanging is changing)
 changing-adds u old event new changing (is_sent seq bytes is going ready makes) = absurd (subst IsChanging is changing)
 changing-adds u old event new changing (link_failed is makes) = absurd (subst IsChanging is changing)
 
 -- a call that is sent
-pub sending-adds : (u : Under) (old : Course) (seq bytes : ℕ) (new : Course) → Comes u old (sends seq bytes) new → Adds IsOfDrain old.past new.past
+pub sending-adds : (u : JudgeContext) (old : ConnState) (seq bytes : ℕ) (new : ConnState) → IsTransition u old (sends seq bytes) new → Adds IsOfDrain old.past new.past
 sending-adds u old seq bytes new (takes call is going may makes) = absurd (subst IsChanging (sym is) tt)
 sending-adds u old seq bytes new (is_away method number addr is full makes) = absurd (subst IsChanging (sym is) tt)
 sending-adds u old seq bytes new (changes step is made makes) = absurd (subst IsChanging (sym is) tt)
@@ -268,33 +268,33 @@ sending-adds u old seq bytes new (rises ms is later makes) = absurd (subst IsCha
 sending-adds u old seq bytes new (stays ms is earlier makes) = absurd (subst IsChanging (sym is) tt)
 sending-adds u old seq bytes new (has_turn position s outcome e is turn makes) = absurd (subst IsTurning (sym is) tt)
 sending-adds u old seq bytes new (is_sent s b is going ready makes) =
-    subst (λ (c : Course). Adds IsOfDrain old.past c.past) (sym makes) (adds-one IsOfDrain (Sent s b) old.past tt)
+    subst (λ (c : ConnState). Adds IsOfDrain old.past c.past) (sym makes) (adds-one IsOfDrain (Sent s b) old.past tt)
 sending-adds u old seq bytes new (link_failed is makes) = absurd (subst IsTurning (sym is) tt)
 
 -- ---- drains
 
-pub turned-drains : (e : Entry) (seq : ℕ) (outcome : Outcome) (c : Course) → Adds IsOfDrain c.past (turned e seq outcome c).past
-turned-drains e seq outcome c = adds-weaker IsOfTurn IsOfDrain turn-drains c.past (turned e seq outcome c).past (turned-adds e seq outcome c)
+pub turned-drains : (e : Entry) (seq : ℕ) (outcome : Outcome) (c : ConnState) → Adds IsOfDrain c.past (trace_after_turn e seq outcome c).past
+turned-drains e seq outcome c = adds-weaker IsOfTurn IsOfDrain turn-drains c.past (trace_after_turn e seq outcome c).past (turned-adds e seq outcome c)
 
-pub turns-add : (u : Under) (position : ℕ) (old : Course) (ending : Ending) (new : Course) → Turns u position old ending new → Adds IsOfDrain old.past new.past
+pub turns-add : (u : JudgeContext) (position : ℕ) (old : ConnState) (ending : TurnsEnding) (new : ConnState) → HasTurns u position old ending new → Adds IsOfDrain old.past new.past
 turns-add u position old ending new (is_idle c empty) = adds-nothing IsOfDrain c.past
 turns-add u position old ending new (is_held c seq level cost e turn) = adds-nothing IsOfDrain c.past
 turns-add u position old ending new (redacts c seq e turn) = turned-drains e seq outcomes.Redacted c
 turns-add u position old ending new (goes c d other seq outcome e turn done rest) =
-    adds-more IsOfDrain c.past (turned e seq outcome c).past d.past (turned-drains e seq outcome c) (turns-add u position (turned e seq outcome c) other d rest)
+    adds-more IsOfDrain c.past (trace_after_turn e seq outcome c).past d.past (turned-drains e seq outcome c) (turns-add u position (trace_after_turn e seq outcome c) other d rest)
 
-pub passes-add : (u : Under) (position : ℕ) (old new : Course) → Passes u position old new → Adds IsOfDrain old.past new.past
+pub passes-add : (u : JudgeContext) (position : ℕ) (old new : ConnState) → IsPass u position old new → Adds IsOfDrain old.past new.past
 passes-add u position old new (is_over p c end) = adds-nothing IsOfDrain c.past
 passes-add u position old new (next p c between d within these rest) =
     adds-more IsOfDrain c.past between.past d.past (turns-add u p c at_rest between these) (passes-add u (p + 1) between d rest)
 passes-add u position old new (begins_again p c between d within these rest) =
     adds-more IsOfDrain c.past between.past d.past (turns-add u p c again between these) (passes-add u 0 between d rest)
 
-pub sends-add : (u : Under) (old new : Course) → SendsSome u old new → Adds IsOfDrain old.past new.past
+pub sends-add : (u : JudgeContext) (old new : ConnState) → HasSentSome u old new → Adds IsOfDrain old.past new.past
 sends-add u old new (none c) = adds-nothing IsOfDrain c.past
 sends-add u old new (one c between d seq bytes comes rest) =
     adds-more IsOfDrain c.past between.past d.past (sending-adds u c seq bytes between comes) (sends-add u between d rest)
 
-pub begins-adds : (u : Under) (old new : Course) → BeginsToDrain u old new → Adds IsOfDrain old.past new.past
+pub begins-adds : (u : JudgeContext) (old new : ConnState) → HasPartlyDrained u old new → Adds IsOfDrain old.past new.past
 begins-adds u old new begins =
     adds-more IsOfDrain old.past begins.between.past new.past (passes-add u 0 old begins.between begins.passes) (sends-add u begins.between new begins.sent)

@@ -2,7 +2,7 @@
 use Rattle.std.proofs.Common.{◌≡◌, ℕ, ◌+◌, ◌≤◌, List, [], ◌∷◌, ◌++◌, length, take, Option, Some, None, sym, ap, ◌∙◌}
 use Rattle.std.proofs.Common.{subst, append_assoc, append-nil, length-append, zero-add, suc-add, arith}
 use Rattle.std.specs.Io.KnownBytes.{Appends}
-use Rattle.replay_run.specs.Kept.{TellsSome}
+use Rattle.replay_run.specs.Kept.{IsPrefixWritten}
 
 pub appends-nothing : (old : Option (List ℕ)) → Appends old old []
 appends-nothing None = tt
@@ -25,7 +25,7 @@ pub record TellsBehind (old new : Option (List ℕ)) (xs ys : List ℕ) : Type 0
   pub most : many ≤ length (xs ++ ys)
   pub told : Appends old new (take many (xs ++ ys))
 
-pub tells-behind : (old mid new : Option (List ℕ)) (xs ys : List ℕ) → Appends old mid xs → TellsSome mid new ys → TellsBehind old new xs ys
+pub tells-behind : (old mid new : Option (List ℕ)) (xs ys : List ℕ) → Appends old mid xs → IsPrefixWritten mid new ys → TellsBehind old new xs ys
 tells-behind old mid new xs ys a some = record {
   many = length xs + some.0;
   least = omega arith;

@@ -1,17 +1,17 @@
 -- The laws of histories, as parameters of these proofs.
 use Rattle.std.proofs.Common.{◌≡◌, ◌≢◌, ℕ, [], ◌∷◌, ◌++◌}
 use Rattle.std.specs.Prelude.{All}
-use Rattle.call_history.specs.Draining.{BeginsToDrain, Drains}
-use Rattle.call_history.specs.Events.{Comes, Course, Event, IsCourse, beginning}
-use Rattle.call_history.specs.Legal.{History, behind}
-use Rattle.call_history.specs.Rules.{Under}
-use Rattle.call_history.specs.declared.happening.Happened.{Happened}
+use Rattle.call_history.specs.Draining.{HasPartlyDrained, HasDrained}
+use Rattle.call_history.specs.Transitions.{IsTransition, ConnState, Transition, IsValidState, initial_state}
+use Rattle.call_history.specs.Legal.{History, trace_of}
+use Rattle.call_history.specs.Rules.{JudgeContext}
+use Rattle.call_history.specs.declared.happening.ConnectionEvent.{ConnectionEvent}
 
 pub record HistoryLaws : Type 0 where
-  pub joined : (conn : ℕ) (h k : History) → behind conn (h ++ k) ≡ behind conn k ++ behind conn h
-  pub one_more : (conn : ℕ) (h : History) (x : Happened) → x.conn ≡ conn → behind conn (h ++ x ∷ []) ≡ x.what ∷ behind conn h
-  pub apart : (conn : ℕ) (h k : History) → All (λ x. x.conn ≢ conn) k → behind conn (h ++ k) ≡ behind conn h
-  pub begins : (u : Under) → IsCourse u beginning
-  pub event : (u : Under) (old new : Course) (event : Event) → IsCourse u old → Comes u old event new → IsCourse u new
-  pub partly : (u : Under) (old new : Course) → IsCourse u old → BeginsToDrain u old new → IsCourse u new
-  pub whole : (u : Under) (old new : Course) → IsCourse u old → Drains u old new → IsCourse u new
+  pub joined : (conn : ℕ) (h k : History) → trace_of conn (h ++ k) ≡ trace_of conn k ++ trace_of conn h
+  pub one_more : (conn : ℕ) (h : History) (x : ConnectionEvent) → x.conn ≡ conn → trace_of conn (h ++ x ∷ []) ≡ x.what ∷ trace_of conn h
+  pub apart : (conn : ℕ) (h k : History) → All (λ x. x.conn ≢ conn) k → trace_of conn (h ++ k) ≡ trace_of conn h
+  pub begins : (u : JudgeContext) → IsValidState u initial_state
+  pub event : (u : JudgeContext) (old new : ConnState) (event : Transition) → IsValidState u old → IsTransition u old event new → IsValidState u new
+  pub partly : (u : JudgeContext) (old new : ConnState) → IsValidState u old → HasPartlyDrained u old new → IsValidState u new
+  pub whole : (u : JudgeContext) (old new : ConnState) → IsValidState u old → HasDrained u old new → IsValidState u new

@@ -12,18 +12,18 @@ use Rattle.std.proofs.lemmas.List.FromFn.{length-range_with_len}
 use Rattle.mrpc_base.specs.Quota.{Counters, drawn_in, tickets_of}
 use Rattle.mrpc_base.specs.declared.tickets.TheConstants.{WINDOWS}
 use Rattle.replay_script.specs.Lines.{IsScript}
-use Rattle.replay_script.specs.declared.script.Line.{Line}
+use Rattle.replay_script.specs.declared.script.ScriptLine.{ScriptLine}
 use Rattle.replay_script.specs.declared.script.Script.{Script}
-use Rattle.call_history.specs.Legal.{History, behind}
+use Rattle.call_history.specs.Legal.{History, trace_of}
 use Rattle.audit_text.specs.Lines.{audit, audit_line}
-use Rattle.replay_run.specs.Follows.{Opened, State, start, on_connection, under}
-use Rattle.replay_run.specs.Kept.{After, Broke, HaveCounted, OnRan, TellsSome, drawn_of, opened_of}
-use Rattle.replay_run.specs.Running.{Breaks, Replays, Stops, stops_behind}
-use Rattle.replay_run.specs.Stands.{all_stands}
-use Rattle.replay_run.specs.Tickets.{AreInTurn, tickets}
-use Rattle.replay_run.specs.declared.connection.Connection.{Connection}
-use Rattle.replay_run.specs.declared.stop.Stop.{Stop}
-use Rattle.replay_run.specs.declared.stop.Stop.TheVariants.{Memory, Out, Wire}
+use Rattle.replay_run.specs.Follows.{OpenConnection, ScriptState, start, event_on, script_context}
+use Rattle.replay_run.specs.Kept.{HasRunSomeLines, HasBroken, HaveCounted, OnRan, IsPrefixWritten, drawn_of, open_connection_of}
+use Rattle.replay_run.specs.Running.{IsBrokenRun, IsFullRun, IsStoppedRun, stops_behind}
+use Rattle.replay_run.specs.PendingLines.{all_stands_lines}
+use Rattle.replay_run.specs.Tickets.{AreConsecutive, tickets}
+use Rattle.replay_run.specs.declared.connection.RunConnection.{RunConnection}
+use Rattle.replay_run.specs.declared.replay_error.ReplayError.{ReplayError}
+use Rattle.replay_run.specs.declared.replay_error.ReplayError.TheVariants.{Memory, Out, Wire}
 use Rattle.replay_run.proofs.Bytes.{TellsBehind, appends-more, tells-behind}
 use Rattle.replay_run.proofs.Followed.{front-stands, legal-of, until-stands}
 use Rattle.replay_run.proofs.GivenLaws.{HistoryLaws}
@@ -60,31 +60,31 @@ module _ (laws : HistoryLaws) (s : Script) (script : IsScript s) where
   abbrev tenants : ℕ
   tenants = length s.declared.tenants
 
-  abbrev AreOfScript : List Opened → Type 0
+  abbrev AreOfScript : List OpenConnection → Type 0
   AreOfScript os = AllAreKnown tenants s (policies-good s script) os
 
-  known-or-lacks : (conn : ℕ) (h : History) (os : List Opened) → AreSound laws s h os → AreOfScript os → AreKnown tenants (behind conn h) ⊎ Lacks conn (map (λ o. o.conn) os)
+  known-or-lacks : (conn : ℕ) (h : History) (os : List OpenConnection) → AreSound laws s h os → AreOfScript os → AreKnown tenants (trace_of conn h) ⊎ Lacks conn (map (λ o. o.conn) os)
   known-or-lacks conn h [] each known = inr tt
   known-or-lacks conn h (o ∷ os) each known = elim (eqb_tells o.conn conn) [
-    | inl is ↦ inl (subst (λ c. AreKnown tenants (behind c h)) is.1 (subst (AreKnown tenants) each.0.past known.0))
+    | inl is ↦ inl (subst (λ c. AreKnown tenants (trace_of c h)) is.1 (subst (AreKnown tenants) each.0.past known.0))
     | inr is ↦ elim (known-or-lacks conn h os each.1 known.1) [ inl all ↦ inl all | inr lacks ↦ inr (is.1, lacks) ]
   ]
 
-  known-behind : (before : List Line) (st : State) → Stands laws s before st → AreOfScript st.opened → (conn : ℕ) → AreKnown tenants (behind conn st.history)
+  known-behind : (before : List ScriptLine) (st : ScriptState) → Stands laws s before st → AreOfScript st.opened → (conn : ℕ) → AreKnown tenants (trace_of conn st.history)
   known-behind before st stands known conn = elim (known-or-lacks conn st.history st.opened stands.each known) [
     | inl all ↦ all
     | inr lacks ↦ subst (AreKnown tenants) (sym (stands.quiet conn (subst (Lacks conn) stands.are lacks))) tt
   ]
 
-  outside-none : (before : List Line) (st : State) → Stands laws s before st → AreOfScript st.opened → (tenant window : ℕ) → IsOutside tenants tenant window
+  outside-none : (before : List ScriptLine) (st : ScriptState) → Stands laws s before st → AreOfScript st.opened → (tenant window : ℕ) → IsOutside tenants tenant window
       → tickets tenant window st.history ≡ []
   outside-none before st stands known tenant window out =
-      none-told laws tenant window st.history (λ conn. none-behind tenants tenant window out (under s conn) (behind conn st.history)
+      none-told laws tenant window st.history (λ conn. none-behind tenants tenant window out (script_context s conn) (trace_of conn st.history)
       (legal-of laws s script before st stands conn).prefix (known-behind before st stands known conn))
 
-  in-turn : (before : List Line) (st : State) (quotas : Counters) → Stands laws s before st → AreOfScript st.opened → quotas.tenants ≡ tenants → HaveCounted tenants quotas
+  in-turn : (before : List ScriptLine) (st : ScriptState) (quotas : Counters) → Stands laws s before st → AreOfScript st.opened → quotas.tenants ≡ tenants → HaveCounted tenants quotas
       → ((tenant window : ℕ) → tenant < quotas.tenants → window < WINDOWS → IfSome (drawn_of quotas tenant window) (λ now. now ≡ tickets tenant window st.history))
-      → AreInTurn st.history
+      → AreConsecutive st.history
   in-turn before st quotas stands known same counted drawn tenant window = elim (cases_lt tenant tenants) [
     | inr far ↦ none-in-turn (tickets tenant window st.history) (outside-none before st stands known tenant window (inl far))
     | inl declared ↦ elim (cases_lt window 1024) [
@@ -96,21 +96,21 @@ module _ (laws : HistoryLaws) (s : Script) (script : IsScript s) where
 
   -- ---- what the run writes
 
-  pub run-replays : (cs : List Connection) (quotas : Counters) (out out' last wire wire' : Option (List ℕ)) → After s s.lines cs quotas out out' wire wire' → HaveCounted tenants quotas
-      → Appends out' last (all_stands (map opened_of cs)) → Replays s out last wire wire'
+  pub run-replays : (cs : List RunConnection) (quotas : Counters) (out out' last wire wire' : Option (List ℕ)) → HasRunSomeLines s s.lines cs quotas out out' wire wire' → HaveCounted tenants quotas
+      → Appends out' last (all_stands_lines (map open_connection_of cs)) → IsFullRun s out last wire wire'
   run-replays cs quotas out out' last wire wire' a counted told =
       let stands : Stands laws s s.lines a.0 = front-stands laws s script s.lines [] a.0 (sym (append-nil s.lines)) a.1.leads in
       let known : AreOfScript a.0.opened = leads-known tenants s (policies-good s script) s.lines start a.0 a.1.leads tt in
       record {
         end = a.0;
         follows = record { leads = a.1.leads; in_turn = in-turn s.lines a.0 quotas stands known a.1.holds.tenants counted a.1.holds.drawn };
-        told = appends-more out out' last (audit s.table a.0.history) (all_stands a.0.opened) a.1.told
-            (subst (λ os. Appends out' last (all_stands os)) a.1.holds.opened told);
+        told = appends-more out out' last (audit s.table a.0.history) (all_stands_lines a.0.opened) a.1.told
+            (subst (λ os. Appends out' last (all_stands_lines os)) a.1.holds.opened told);
         handed = a.1.handed;
       }
 
-  pub run-breaks : (cs : List Connection) (quotas : Counters) (out out' last wire wire' : Option (List ℕ)) → Broke s cs quotas out out' wire wire' → HaveCounted tenants quotas
-      → Appends out' last (all_stands (map opened_of cs)) → Breaks s out last wire wire'
+  pub run-breaks : (cs : List RunConnection) (quotas : Counters) (out out' last wire wire' : Option (List ℕ)) → HasBroken s cs quotas out out' wire wire' → HaveCounted tenants quotas
+      → Appends out' last (all_stands_lines (map open_connection_of cs)) → IsBrokenRun s out last wire wire'
   run-breaks cs quotas out out' last wire wire' b counted told =
       let stands : Stands laws s (b.until.lines ++ b.until.failing ∷ []) b.end = until-stands laws s script b.tried b.end b.until in
       let known : AreOfScript b.end.opened = until-known tenants s (policies-good s script) b.tried b.end b.until in
@@ -118,19 +118,19 @@ module _ (laws : HistoryLaws) (s : Script) (script : IsScript s) where
         end = b.end;
         tried = b.tried;
         follows = record { until = b.until; in_turn = in-turn (b.until.lines ++ b.until.failing ∷ []) b.end quotas stands known b.tenants counted b.drawn };
-        told = appends-more out out' last (audit s.table b.end.history) (all_stands b.end.opened) b.told
-            (subst (λ os. Appends out' last (all_stands os)) b.opened told);
+        told = appends-more out out' last (audit s.table b.end.history) (all_stands_lines b.end.opened) b.told
+            (subst (λ os. Appends out' last (all_stands_lines os)) b.opened told);
         handed = record { many = b.many; fewer = b.few; handed = b.handed };
       }
 
 -- after a send that failed, writing the pending calls can stop
-pub broken-stops : (s : Script) (cs : List Connection) (quotas : Counters) (out out' last wire wire' : Option (List ℕ)) → Broke s cs quotas out out' wire wire'
-    → TellsSome out' last (all_stands (map opened_of cs)) → Stops s out last wire wire'
+pub broken-stops : (s : Script) (cs : List RunConnection) (quotas : Counters) (out out' last wire wire' : Option (List ℕ)) → HasBroken s cs quotas out out' wire wire'
+    → IsPrefixWritten out' last (all_stands_lines (map open_connection_of cs)) → IsStoppedRun s out last wire wire'
 broken-stops s cs quotas out out' last wire wire' b some =
-    let before : State = b.until.before in
-    let piece : History = map (on_connection b.until.one.conn) b.until.goes.piece in
-    let tells : TellsBehind out last (audit s.table b.end.history) (all_stands b.end.opened) =
-    tells-behind out out' last (audit s.table b.end.history) (all_stands b.end.opened) b.told (subst (λ os. TellsSome out' last (all_stands os)) b.opened some) in
+    let before : ScriptState = b.until.before in
+    let piece : History = map (event_on b.until.one.conn) b.until.goes.piece in
+    let tells : TellsBehind out last (audit s.table b.end.history) (all_stands_lines b.end.opened) =
+    tells-behind out out' last (audit s.table b.end.history) (all_stands_lines b.end.opened) b.told (subst (λ os. IsPrefixWritten out' last (all_stands_lines os)) b.opened some) in
     let long : length (audit s.table b.end.history) ≡ length (audit s.table before.history ++ audit s.table piece) =
     ap length (ap (audit s.table) b.until.goes.history ∙ flat_map-append (audit_line s.table) before.history piece) in
     let least : length (audit s.table b.end.history) ≤ tells.many = tells.least in
@@ -143,21 +143,21 @@ broken-stops s cs quotas out out' last wire wire' b some =
 
 -- ---- the results of the lines
 
-abbrev IsNoSending : Result (Unit {0}) Stop → Type 0
+abbrev IsNoSending : Result (Unit {0}) ReplayError → Type 0
 IsNoSending result = (result ≡ Err Memory) ⊎ (result ≡ Err Out)
 
-pub of-stopped : (result : Result (Unit {0}) Stop) (Done Broken Stopped : Type 0) → OnRan result Done Broken Stopped Stopped → IsNoSending result → Stopped
+pub of-stopped : (result : Result (Unit {0}) ReplayError) (Done Broken Stopped : Type 0) → OnRan result Done Broken Stopped Stopped → IsNoSending result → Stopped
 of-stopped (Ok value) Done Broken Stopped ran either = absurd (elim (either) [ inl e ↦ (cc) | inr e ↦ (cc) ])
 of-stopped (Err Wire) Done Broken Stopped ran either = absurd (elim (either) [ inl e ↦ (cc) | inr e ↦ (cc) ])
 of-stopped (Err Memory) Done Broken Stopped ran either = ran
 of-stopped (Err Out) Done Broken Stopped ran either = ran
 
 -- the pending calls were written, and the quotas knew their tickets
-pub of-done : (result : Result (Unit {0}) Stop) (Lines Counted Ends : Type 0) → OnOk result Lines → OnOk result Counted → (Lines → Counted → Ends) → OnOk result Ends
+pub of-done : (result : Result (Unit {0}) ReplayError) (Lines Counted Ends : Type 0) → OnOk result Lines → OnOk result Counted → (Lines → Counted → Ends) → OnOk result Ends
 of-done (Ok value) Lines Counted Ends lines counted ends = ends lines counted
 of-done (Err stop) Lines Counted Ends lines counted ends = tt
 
 -- writing them stopped
-pub of-untold : (result : Result (Unit {0}) Stop) (Told : Type 0) → OnErr result Told → IsNoSending result → Told
+pub of-untold : (result : Result (Unit {0}) ReplayError) (Told : Type 0) → OnErr result Told → IsNoSending result → Told
 of-untold (Ok value) Told told either = absurd (elim (either) [ inl e ↦ (cc) | inr e ↦ (cc) ])
 of-untold (Err stop) Told told either = told

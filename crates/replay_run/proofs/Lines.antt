@@ -4,14 +4,14 @@ use Rattle.std.specs.Prelude.{Option, Some, None}
 use Rattle.std.specs.List.{AllByRecursion}
 use Rattle.std.proofs.lemmas.Bool.{eq-eqb, ne_eqb}
 use Rattle.engine_core.specs.declared.op.Op.{Op}
-use Rattle.policy_declarations.specs.declared.item.NamedPolicy.{NamedPolicy}
+use Rattle.policy_declarations.specs.declared.declaration.NamedPolicy.{NamedPolicy}
 use Rattle.script_grammar.specs.declared.fault.ScriptReason.TheVariants.{Known}
-use Rattle.replay_script.specs.Lines.{heap_of, op_in, Allows, is_open}
-use Rattle.replay_script.specs.declared.script.Line.{Line}
-use Rattle.replay_script.specs.declared.script.Line.TheVariants.{Conn, Store, Race, Submit, Attach, Detach, Upgrade, Moment, Turn, Send, Drain}
+use Rattle.replay_script.specs.Lines.{heap_of, op_in, IsAllowedAfter, is_open}
+use Rattle.replay_script.specs.declared.script.ScriptLine.{ScriptLine}
+use Rattle.replay_script.specs.declared.script.ScriptLine.TheVariants.{Conn, Store, Race, Submit, Attach, Detach, Upgrade, Moment, Turn, Send, Drain}
 
 -- the numbers of the connections that they open
-abbrev pub openings : List Line → List ℕ
+abbrev pub openings : List ScriptLine → List ℕ
 openings [] = []
 openings (Conn conn words ∷ lines) = conn ∷ openings lines
 openings (_ ∷ lines) = openings lines
@@ -24,7 +24,7 @@ abbrev pub AreApart : List ℕ → Type 0
 AreApart [] = Unit {0}
 AreApart (n ∷ ns) = AllByRecursion (λ other. other ≢ n) ns × AreApart ns
 
-pub openings-append : (xs ys : List Line) → openings (xs ++ ys) ≡ openings xs ++ openings ys
+pub openings-append : (xs ys : List ScriptLine) → openings (xs ++ ys) ≡ openings xs ++ openings ys
 openings-append [] ys = refl
 openings-append (Conn conn words ∷ xs) ys = ap (λ ns. conn ∷ ns) (openings-append xs ys)
 openings-append (Store conn place value ∷ xs) ys = openings-append xs ys
@@ -39,7 +39,7 @@ openings-append (Send conn ∷ xs) ys = openings-append xs ys
 openings-append (Drain conn ∷ xs) ys = openings-append xs ys
 
 -- an operator's line opens none
-pub op-opens-none : (policies : List NamedPolicy) (l : Line) (step : Op) → op_in policies l ≡ Some step → openings (l ∷ []) ≡ []
+pub op-opens-none : (policies : List NamedPolicy) (l : ScriptLine) (step : Op) → op_in policies l ≡ Some step → openings (l ∷ []) ≡ []
 op-opens-none policies (Conn conn words) step is = let none : None ≡ Some step = is in cc
 op-opens-none policies (Store conn place value) step is = refl
 op-opens-none policies (Race conn load place value) step is = refl
@@ -54,7 +54,7 @@ op-opens-none policies (Drain conn) step is = refl
 
 -- ---- a line can open a connection that isn't open
 
-pub lacks-unopened : (lines : List Line) (conn : ℕ) → heap_of lines conn ≡ None → Lacks conn (openings lines)
+pub lacks-unopened : (lines : List ScriptLine) (conn : ℕ) → heap_of lines conn ≡ None → Lacks conn (openings lines)
 lacks-unopened [] conn none = tt
 lacks-unopened (Conn number words ∷ lines) conn none =
     let differs : number ≢ conn = λ same. let opened : Some words ≡ None = ap (λ b. cond b (Some words) (heap_of lines conn)) (sym (eq-eqb number conn same)) ∙ none in cc in
@@ -70,8 +70,8 @@ lacks-unopened (Turn at place ∷ lines) conn none = lacks-unopened lines conn n
 lacks-unopened (Send at ∷ lines) conn none = lacks-unopened lines conn none
 lacks-unopened (Drain at ∷ lines) conn none = lacks-unopened lines conn none
 
-pub unopened : (loads : ℕ) (policies : List NamedPolicy) (before : List Line) (conn words : ℕ) (heap : Option ℕ) → heap_of before conn ≡ heap
-    → Allows loads policies before (Conn conn words) → heap ≡ None
+pub unopened : (loads : ℕ) (policies : List NamedPolicy) (before : List ScriptLine) (conn words : ℕ) (heap : Option ℕ) → heap_of before conn ≡ heap
+    → IsAllowedAfter loads policies before (Conn conn words) → heap ≡ None
 unopened loads policies before conn words None is allows = refl
 unopened loads policies before conn words (Some other) is allows = absurd (allows.free Known (is_open other refl is refl))
 

@@ -6,7 +6,7 @@ use Rattle.std.proofs.lemmas.Bool.{false_from_ne_true}
 use Rattle.std.proofs.lemmas.Slice.Eq.{bytes_eq-Decides}
 use Rattle.mrpc_table.specs.Valid.{AreDistinct}
 use Rattle.engine_core.specs.Chains.{Entry, IsChain, is_named, names_of}
-use Rattle.call_history.specs.Behind.{Behind, chain, policy_of}
+use Rattle.call_history.specs.Trace.{Trace, chain, policy_in_trace}
 
 name-at : (xs : List Entry) (i : ℕ) (x : Entry) → slice_get xs i ≡ Some x → Contains (names_of xs) x.name
 name-at [] i x is = absurd cc
@@ -26,5 +26,5 @@ found (y ∷ xs) (suc i) x is names =
     ∙ found xs i x is names.1
 
 -- the policy of an entry's name is its own
-pub policy-at : (past : Behind) (i : ℕ) (x : Entry) → IsChain (chain past) → slice_get (chain past).entries i ≡ Some x → policy_of x.name past ≡ Some x.policy
+pub policy-at : (past : Trace) (i : ℕ) (x : Entry) → IsChain (chain past) → slice_get (chain past).entries i ≡ Some x → policy_in_trace x.name past ≡ Some x.policy
 policy-at past i x is-chain is = ap (option_map (λ (e : Entry). e.policy)) (found (chain past).entries i x is is-chain.names)

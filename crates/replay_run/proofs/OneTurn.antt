@@ -2,10 +2,10 @@
 use Rattle.std.proofs.Common.{◌≡◌, ◌≢◌, ℕ, min, ◌/◌, refl, sym, ap, ◌∙◌, subst}
 use Rattle.mrpc_table.specs.declared.call.Call.{Call}
 use Rattle.std.specs.Prelude.{None, Some}
-use Rattle.engine_core.specs.Answers.{Answer, Answers, Past, allows, charges, counts, denies, drawn, draws, holds}
+use Rattle.engine_core.specs.Answers.{Answer, IsEntryAnswer, Past, allows, charges, counts, denies, drawn, draws, holds}
 use Rattle.engine_core.specs.Answers.{is_clear, is_over, is_within, note, redacts, refuses, ticket_in, was_charged}
 use Rattle.engine_core.specs.Answers.{was_counted}
-use Rattle.engine_core.specs.Turns.{ComesOut, is_held, is_noted, is_noted_and_refused, is_redacted, is_refused, noted_in, passes, refusal}
+use Rattle.engine_core.specs.Turns.{IsTurnOutcome, is_held, is_noted_and_passes, is_noted_and_refused, is_redacted, is_refused, noted_in, passes, refusal}
 use Rattle.engine_core.specs.declared.outcome.Noted.{Noted}
 use Rattle.engine_core.specs.declared.outcome.Noted.TheVariants as notes
 use Rattle.engine_core.specs.declared.outcome.Outcome.{Outcome}
@@ -26,7 +26,7 @@ pub record IsUndrawn (policy : Policy) (at window : ℕ) (past : Past) : Type 0 
   pub window_is : window ≡ min (at / per) 1023
 
 draws-only : (policy : Policy) (left at : ℕ) (form : Call) (past : Past) (window ticket : ℕ)
-    → Answers policy left at form past (note (notes.Drawn window ticket)) → IsUndrawn policy at window past
+    → IsEntryAnswer policy left at form past (note (notes.Drawn window ticket)) → IsUndrawn policy at window past
 draws-only policy left at form past window ticket (allows p is allowed answer) = cc
 draws-only policy left at form past window ticket (denies p is denied answer) = cc
 draws-only policy left at form past window ticket (was_charged r is some answer) = cc
@@ -47,7 +47,7 @@ record IsDraw (at per : ℕ) (answer : Answer) : Type 0 where
   is : answer ≡ note (notes.Drawn (min (at / per) 1023) ticket)
 
 only-draws : (policy : Policy) (left at tenant per cap : ℕ) (form : Call) (past : Past) (answer : Answer) → policy ≡ Quota tenant per cap → ((t : ℕ) → past ≢ drawn t)
-    → Answers policy left at form past answer → IsDraw at per answer
+    → IsEntryAnswer policy left at form past answer → IsDraw at per answer
 only-draws policy left at tenant per cap form past answer quota undrawn (allows p is allowed was) = cc
 only-draws policy left at tenant per cap form past answer quota undrawn (denies p is denied was) = cc
 only-draws policy left at tenant per cap form past answer quota undrawn (was_charged r is some was) = cc
@@ -64,17 +64,17 @@ only-draws policy left at tenant per cap form past answer quota undrawn (is_clea
 only-draws policy left at tenant per cap form past answer quota undrawn (redacts clears is differs was) = cc
 
 -- a turn that notes a draw had that answer
-turn-draws : (policy : Policy) (left at : ℕ) (form : Call) (past : Past) (outcome : Outcome) (window ticket : ℕ) → ComesOut policy left at form past outcome
+turn-draws : (policy : Policy) (left at : ℕ) (form : Call) (past : Past) (outcome : Outcome) (window ticket : ℕ) → IsTurnOutcome policy left at form past outcome
     → noted_in outcome ≡ notes.Drawn window ticket → IsUndrawn policy at window past
 turn-draws policy left at form past outcome window ticket (passes answers is) draw = let none : notes.Nothing ≡ notes.Drawn window ticket = sym (ap noted_in is) ∙ draw in cc
-turn-draws policy left at form past outcome window ticket (is_noted n answers after is) draw =
+turn-draws policy left at form past outcome window ticket (is_noted_and_passes n answers after is) draw =
     let same : n ≡ notes.Drawn window ticket = sym (ap noted_in is) ∙ draw in
-    draws-only policy left at form past window ticket (subst (λ m. Answers policy left at form past (note m)) same answers)
+    draws-only policy left at form past window ticket (subst (λ m. IsEntryAnswer policy left at form past (note m)) same answers)
 turn-draws policy left at form past outcome window ticket (is_held l cost answers is) draw = let none : notes.Nothing ≡ notes.Drawn window ticket = sym (ap noted_in is) ∙ draw in cc
 turn-draws policy left at form past outcome window ticket (is_refused why answers is) draw = let none : notes.Nothing ≡ notes.Drawn window ticket = sym (ap noted_in is) ∙ draw in cc
 turn-draws policy left at form past outcome window ticket (is_noted_and_refused n why answers after is) draw =
     let same : n ≡ notes.Drawn window ticket = sym (ap noted_in is) ∙ draw in
-    draws-only policy left at form past window ticket (subst (λ m. Answers policy left at form past (note m)) same answers)
+    draws-only policy left at form past window ticket (subst (λ m. IsEntryAnswer policy left at form past (note m)) same answers)
 turn-draws policy left at form past outcome window ticket (is_redacted answers is) draw = let none : notes.Nothing ≡ notes.Drawn window ticket = sym (ap noted_in is) ∙ draw in cc
 
 -- a turn with a call for which nothing was drawn notes a draw
@@ -88,10 +88,10 @@ no-refusal (Short left cost) n is = cc
 no-refusal (Over ticket cap) n is = cc
 
 undrawn-draws : (policy : Policy) (left at tenant per cap : ℕ) (form : Call) (past : Past) (outcome : Outcome) → policy ≡ Quota tenant per cap → ((t : ℕ) → past ≢ drawn t)
-    → ComesOut policy left at form past outcome → NotesDraw at per outcome
+    → IsTurnOutcome policy left at form past outcome → NotesDraw at per outcome
 undrawn-draws policy left at tenant per cap form past outcome quota undrawn (passes answers is) =
     let d = (only-draws policy left at tenant per cap form past _ quota undrawn answers).is in cc
-undrawn-draws policy left at tenant per cap form past outcome quota undrawn (is_noted n answers after is) =
+undrawn-draws policy left at tenant per cap form past outcome quota undrawn (is_noted_and_passes n answers after is) =
     let d = only-draws policy left at tenant per cap form past (note n) quota undrawn answers in
     let same : n ≡ notes.Drawn (min (at / per) 1023) d.ticket = let e = d.is in cc in
     record { ticket = d.ticket; is = ap noted_in is ∙ same }
@@ -113,7 +113,7 @@ IsNoDraw (notes.Drawn window ticket) = ⊥
 IsNoDraw _ = Unit {0}
 
 -- if one notes no draw, the other notes none
-none-draws : (policy : Policy) (left at : ℕ) (form : Call) (past : Past) (a b : Outcome) → ComesOut policy left at form past a → ComesOut policy left at form past b
+none-draws : (policy : Policy) (left at : ℕ) (form : Call) (past : Past) (a b : Outcome) → IsTurnOutcome policy left at form past a → IsTurnOutcome policy left at form past b
     → IsNoDraw (noted_in a) → (m : Noted) → noted_in b ≡ m → ticket_in (note m) ≡ None
 none-draws policy left at form past a b first second free (notes.Drawn window ticket) is =
     let u : IsUndrawn policy at window past = turn-draws policy left at form past b window ticket second is in
@@ -124,7 +124,7 @@ none-draws policy left at form past a b first second free (notes.Charged level) 
 none-draws policy left at form past a b first second free notes.Counted is = refl
 
 -- two turns draw the same ticket, or none, if two draws of one window have one ticket
-pub same-ticket : (policy : Policy) (left at : ℕ) (form : Call) (past : Past) (a b : Outcome) → ComesOut policy left at form past a → ComesOut policy left at form past b
+pub same-ticket : (policy : Policy) (left at : ℕ) (form : Call) (past : Past) (a b : Outcome) → IsTurnOutcome policy left at form past a → IsTurnOutcome policy left at form past b
     → ((tenant per cap window s t : ℕ) → policy ≡ Quota tenant per cap → noted_in a ≡ notes.Drawn window s → noted_in b ≡ notes.Drawn window t → s ≡ t)
     → (n m : Noted) → noted_in a ≡ n → noted_in b ≡ m → ticket_in (note n) ≡ ticket_in (note m)
 same-ticket policy left at form past a b first second one (notes.Drawn window s) m is other =

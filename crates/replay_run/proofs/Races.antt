@@ -5,10 +5,10 @@ use Rattle.std.proofs.lemmas.Bool.{cases_lt, cond-true, cond-false}
 use Rattle.std.proofs.lemmas.Bool.Decides.{nat_tests}
 use Rattle.std.proofs.lemmas.List.{map-append}
 use Rattle.std.proofs.lemmas.List.Elements.{All-nil, All-cons, All-head, All-tail, All-append, All-filter, All-weaker}
-use Rattle.mrpc_base.specs.Heap.{Heap, Race, word_after, stores_of, races_up_to, races_past, races_with, AfterRoom}
-use Rattle.mrpc_base.specs.Heap.{AfterLoad, AfterLoads}
-use Rattle.graph_form.specs.Malformed.{ReadsBy}
-use Rattle.graph_copy.specs.Copies.{OnlyLoads}
+use Rattle.mrpc_base.specs.Heap.{Heap, Race, word_after, stores_of, races_up_to, races_past, races_with, IsRoomChange}
+use Rattle.mrpc_base.specs.Heap.{IsLoad, AreLoads}
+use Rattle.graph_form.specs.Malformed.{AreReadBy}
+use Rattle.graph_copy.specs.Copies.{HasOnlyLoaded}
 use Rattle.replay_run.specs.Follows.{read_at}
 use Rattle.replay_run.specs.Kept.{AreInOrder}
 
@@ -134,7 +134,7 @@ pub record IsBehind (stores : List (ℕ × ℕ)) (races : List Race) (number : �
   pub all : heap.stores ++ stores_of heap.races ≡ stores ++ stores_of races
 
 -- the stores that a load makes, and then further ones
-made : (old new : Heap) (place value : ℕ) (races others : List Race) → AfterLoad old place value new
+made : (old new : Heap) (place value : ℕ) (races others : List Race) → IsLoad old place value new
     → races_up_to (old.begun + 1) old.races ++ others ≡ races
     → new.stores ++ stores_of others ≡ old.stores ++ stores_of races
 made old new place value races others after is =
@@ -143,7 +143,7 @@ made old new place value races others after is =
     ∙ ap (λ xs. old.stores ++ xs) (sym (stores-append (races_up_to (old.begun + 1) old.races) others) ∙ ap stores_of is)
 
 behind-load : (stores : List (ℕ × ℕ)) (races : List Race) (number place value : ℕ) (old new : Heap)
-    → IsBehind stores races number old → AfterLoad old place value new
+    → IsBehind stores races number old → IsLoad old place value new
     → IsBehind stores races (number + 1) new
 behind-load stores races number place value old new behind after =
     let next : old.begun + 1 ≡ number + 1 = ap (λ n. n + 1) behind.begun in
@@ -165,7 +165,7 @@ behind-load stores races number place value old new behind after =
 
 -- the value that a load returns is the one that a submission reads there
 read-load : (stores : List (ℕ × ℕ)) (races : List Race) (number place value : ℕ) (old new : Heap)
-    → IsBehind stores races number old → AfterLoad old place value new
+    → IsBehind stores races number old → IsLoad old place value new
     → value ≡ read_at stores races (number + 1) place
 read-load stores races number place value old new behind after =
     after.word ∙ ap (λ xs. word_after xs place) (after.stores
@@ -175,12 +175,12 @@ read-load stores races number place value old new behind after =
 -- the state of a heap after its loads
 pub record Read (stores : List (ℕ × ℕ)) (races : List Race) (number size : ℕ) (own : List (ℕ × ℕ))
     (new : Heap) : Type 0 where
-  pub read : ReadsBy (read_at stores races) (number + 1) own
+  pub read : AreReadBy (read_at stores races) (number + 1) own
   pub all : new.stores ++ stores_of new.races ≡ stores ++ stores_of races
   pub size_is : new.size ≡ size
 
 pub read-loads : (stores : List (ℕ × ℕ)) (races : List Race) (number : ℕ) (own : List (ℕ × ℕ)) (old new : Heap)
-    → IsBehind stores races number old → AfterLoads AfterLoad old own new
+    → IsBehind stores races number old → AreLoads IsLoad old own new
     → Read stores races number old.size own new
 read-loads stores races number [] old new behind after = record {
   read = tt;
@@ -198,10 +198,10 @@ read-loads stores races number (load ∷ own) old new behind (next, first, rest)
 
 -- the loads of a whole submission
 pub read-submission : (old new : Heap) (own : List (ℕ × ℕ)) → AreInOrder old.races → old.begun ≡ 0
-    → OnlyLoads AfterRoom AfterLoad old own new → Read old.stores old.races 0 old.size own new
+    → HasOnlyLoaded IsRoomChange IsLoad old own new → Read old.stores old.races 0 old.size own new
 read-submission old new own order begun only =
     let roomed : Heap = only.roomed in
-    let room : AfterRoom old roomed = only.room in
+    let room : IsRoomChange old roomed = only.room in
     let behind : IsBehind old.stores old.races 0 roomed = record {
       in_order = subst AreInOrder (sym room.races) order;
       begun = room.begun ∙ begun;

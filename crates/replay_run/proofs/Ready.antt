@@ -8,10 +8,10 @@ use Rattle.engine_core.specs.Policies.{IsPolicy, KnowsTenantOf}
 use Rattle.engine_core.specs.declared.op.Op.{Op}
 use Rattle.engine_core.specs.declared.op.Op.TheVariants.{Attach, Detach, Upgrade}
 use Rattle.engine_core.specs.declared.policy.Policy.{Policy}
-use Rattle.policy_declarations.specs.declared.item.NamedPolicy.{NamedPolicy}
-use Rattle.replay_script.specs.Lines.{op_in, conn_of, chain_behind, chain_of, new_chain, done}
-use Rattle.replay_script.specs.declared.script.Line.{Line}
-use Rattle.replay_script.specs.declared.script.Line.TheVariants as line
+use Rattle.policy_declarations.specs.declared.declaration.NamedPolicy.{NamedPolicy}
+use Rattle.replay_script.specs.Lines.{op_in, conn_of, chain_after, chain_after_lines, new_chain, chain_after_op}
+use Rattle.replay_script.specs.declared.script.ScriptLine.{ScriptLine}
+use Rattle.replay_script.specs.declared.script.ScriptLine.TheVariants as line
 
 -- ---- the chains that lines lead to
 
@@ -90,7 +90,7 @@ upgrade-good : (tenants : ℕ) (name : List ℕ) (p : Option NamedPolicy) → ((
 upgrade-good tenants name None good = tt
 upgrade-good tenants name (Some q) good = good q refl
 
-pub op-good : (tenants : ℕ) (policies : List NamedPolicy) → ArePolicies tenants policies → (l : Line) → IsGoodOption tenants (op_in policies l)
+pub op-good : (tenants : ℕ) (policies : List NamedPolicy) → ArePolicies tenants policies → (l : ScriptLine) → IsGoodOption tenants (op_in policies l)
 op-good tenants policies good (line.Conn conn words) = tt
 op-good tenants policies good (line.Store c place value) = tt
 op-good tenants policies good (line.Race c load place value) = tt
@@ -103,7 +103,7 @@ op-good tenants policies good (line.Turn c at) = tt
 op-good tenants policies good (line.Send c) = tt
 op-good tenants policies good (line.Drain c) = tt
 
-done-modest : (tenants lines : ℕ) (step : Option Op) (c : Chain) → IsGoodOption tenants step → IsModestChain tenants lines c → IsModestChain tenants (lines + 1) (done step c)
+done-modest : (tenants lines : ℕ) (step : Option Op) (c : Chain) → IsGoodOption tenants step → IsModestChain tenants lines c → IsModestChain tenants (lines + 1) (chain_after_op step c)
 done-modest tenants lines None c good modest = record {
   attached = let n : c.attached ≤ lines = modest.attached in omega arith;
   entries = entries-later tenants lines c.entries modest.entries;
@@ -111,23 +111,23 @@ done-modest tenants lines None c good modest = record {
 done-modest tenants lines (Some step) c good modest = step-modest tenants lines step c good modest
 
 with-modest : (tenants lines : ℕ) (b : Bool) (step : Option Op) (c : Chain) → IsGoodOption tenants step
-    → IsModestChain tenants lines c → IsModestChain tenants (lines + 1) (cond b (done step c) c)
+    → IsModestChain tenants lines c → IsModestChain tenants (lines + 1) (cond b (chain_after_op step c) c)
 with-modest tenants lines true step c good modest = done-modest tenants lines step c good modest
 with-modest tenants lines false step c good modest = done-modest tenants lines None c tt modest
 
-behind-modest : (tenants : ℕ) (policies : List NamedPolicy) → ArePolicies tenants policies → (lines : ℕ) (c : Chain) (ls : List Line) (conn : ℕ) → IsModestChain tenants lines c
-    → IsModestChain tenants (lines + length ls) (chain_behind policies c ls conn)
+behind-modest : (tenants : ℕ) (policies : List NamedPolicy) → ArePolicies tenants policies → (lines : ℕ) (c : Chain) (ls : List ScriptLine) (conn : ℕ) → IsModestChain tenants lines c
+    → IsModestChain tenants (lines + length ls) (chain_after policies c ls conn)
 behind-modest tenants policies good lines c [] conn modest = subst (λ n. IsModestChain tenants n c) (let same : lines ≡ lines + 0 = omega arith in same) modest
 behind-modest tenants policies good lines c (l ∷ ls) conn modest =
-    let next : Chain = cond (conn_of l == conn) (done (op_in policies l) c) c in
-    subst (λ n. IsModestChain tenants n (chain_behind policies next ls conn)) (let same : lines + 1 + length ls ≡ lines + length (l ∷ ls) = omega arith in same)
+    let next : Chain = cond (conn_of l == conn) (chain_after_op (op_in policies l) c) c in
+    subst (λ n. IsModestChain tenants n (chain_after policies next ls conn)) (let same : lines + 1 + length ls ≡ lines + length (l ∷ ls) = omega arith in same)
     (behind-modest tenants policies good (lines + 1) next ls conn
     (with-modest tenants lines (conn_of l == conn) (op_in policies l) c (op-good tenants policies good l) modest))
 
 pub chain-modest : (tenants : ℕ) (policies : List NamedPolicy) → ArePolicies tenants policies
-    → (ls : List Line) (conn : ℕ) → IsModestChain tenants (length ls) (chain_of policies ls conn)
+    → (ls : List ScriptLine) (conn : ℕ) → IsModestChain tenants (length ls) (chain_after_lines policies ls conn)
 chain-modest tenants policies good ls conn =
-    subst (λ n. IsModestChain tenants n (chain_of policies ls conn)) (let same : 0 + length ls ≡ length ls = omega arith in same)
+    subst (λ n. IsModestChain tenants n (chain_after_lines policies ls conn)) (let same : 0 + length ls ≡ length ls = omega arith in same)
     (behind-modest tenants policies good 0 new_chain ls conn (record { attached = omega arith; entries = All-nil (IsModest tenants 0) }))
 
 -- ---- the same for engines

@@ -3,15 +3,15 @@ use Rattle.std.proofs.Common.{◌≡◌, ℕ, ◌+◌, ◌<◌, List, [], ◌∷
 use Rattle.std.specs.Prelude.{Err, Option}
 use Rattle.std.proofs.lemmas.List.{take_more}
 use Rattle.mrpc_base.specs.Quota.{Counters}
-use Rattle.replay_script.specs.declared.script.Line.{Line}
+use Rattle.replay_script.specs.declared.script.ScriptLine.{ScriptLine}
 use Rattle.replay_script.specs.declared.script.Script.{Script}
-use Rattle.replay_run.specs.Kept.{After, Before, OnRan}
-use Rattle.replay_run.specs.declared.connection.Connection.{Connection}
-use Rattle.replay_run.specs.declared.stop.Stop.{Stop}
-use Rattle.replay_run.specs.declared.stop.Stop.TheVariants.{Memory, Out, Wire}
+use Rattle.replay_run.specs.Kept.{HasRunSomeLines, IsRunBefore, OnRan}
+use Rattle.replay_run.specs.declared.connection.RunConnection.{RunConnection}
+use Rattle.replay_run.specs.declared.replay_error.ReplayError.{ReplayError}
+use Rattle.replay_run.specs.declared.replay_error.ReplayError.TheVariants.{Memory, Out, Wire}
 
 -- the line at an index, with those before it and those after it
-pub split : (lines : List Line) (index : ℕ) (l : Line) → index < length lines → l ≡ get_or lines index l
+pub split : (lines : List ScriptLine) (index : ℕ) (l : ScriptLine) → index < length lines → l ≡ get_or lines index l
     → lines ≡ take index lines ++ l ∷ drop (index + 1) lines
 split lines index l within is =
     sym (take-append-drop index lines)
@@ -19,9 +19,9 @@ split lines index l within is =
     ∙ ap (λ n. take index lines ++ get_or lines index l ∷ drop n lines) (sym (add-one index))
     ∙ ap (λ k. take index lines ++ k ∷ drop (index + 1) lines) (sym is)
 
-abbrev pub before-line : (s : Script) (items : List Line) (index : ℕ) (l : Line) (cs : List Connection) (quotas : Counters)
+abbrev pub before-line : (s : Script) (items : List ScriptLine) (index : ℕ) (l : ScriptLine) (cs : List RunConnection) (quotas : Counters)
     (out out' wire wire' : Option (List ℕ)) → items ≡ s.lines → index < length items → l ≡ get_or items index l
-    → After s (take index s.lines) cs quotas out out' wire wire' → Before s l cs quotas out' wire'
+    → HasRunSomeLines s (take index s.lines) cs quotas out out' wire wire' → IsRunBefore s l cs quotas out' wire'
 before-line s items index l cs quotas out out' wire wire' are within is after = record {
   lines = take index s.lines;
   others = drop (index + 1) s.lines;
@@ -32,14 +32,14 @@ before-line s items index l cs quotas out out' wire wire' are within is after = 
   ran = after.1;
 }
 
-pub one-more : (s : Script) (items : List Line) (index : ℕ) (l : Line) → items ≡ s.lines → index < length items
+pub one-more : (s : Script) (items : List ScriptLine) (index : ℕ) (l : ScriptLine) → items ≡ s.lines → index < length items
     → l ≡ get_or items index l → take index s.lines ++ l ∷ [] ≡ take (index + 1) s.lines
 one-more s items index l are within is =
     ap (λ k. take index s.lines ++ k ∷ []) (subst (λ ls. l ≡ get_or ls index l) are is)
     ∙ sym (take_more s.lines index l (subst (λ ls. index < length ls) are within))
 
 -- a line that wasn't done ends the run
-pub ends-run : (stop : Stop) (Done Done' Broken Stopped : Type 0) → OnRan {T = Unit {0}} (Err stop) Done Broken Stopped Stopped
+pub ends-run : (stop : ReplayError) (Done Done' Broken Stopped : Type 0) → OnRan {T = Unit {0}} (Err stop) Done Broken Stopped Stopped
     → OnRan {T = Unit {0}} (Err stop) Done' Broken Stopped Stopped
 ends-run Wire Done Done' Broken Stopped ran = ran
 ends-run Memory Done Done' Broken Stopped ran = ran

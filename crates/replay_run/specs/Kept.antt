@@ -9,33 +9,33 @@ use Rattle.mrpc_table.specs.declared.call.Call.{Call}
 use Rattle.mrpc_table.specs.declared.limits.TheConstants.{MIN_HEAP, MAX_HEAP}
 use Rattle.mrpc_table.specs.declared.table.Table.{Table}
 use Rattle.engine_core.specs.Policies.{IsPolicy, KnowsTenantOf}
-use Rattle.engine_core.specs.Chains.{Refusal, Refuses}
+use Rattle.engine_core.specs.Chains.{Refusal, IsRejection}
 use Rattle.engine_core.specs.declared.op.Op.{Op}
-use Rattle.chain_upgrade.specs.Chains.{chain_of}
-use Rattle.graph_copy.specs.Copies.{since}
+use Rattle.chain_upgrade.specs.Chains.{chain_of_state}
+use Rattle.graph_copy.specs.Copies.{loads_since}
 use Rattle.replay_script.specs.Lines.{op_in}
-use Rattle.replay_script.specs.declared.script.Line.{Line}
-use Rattle.replay_script.specs.declared.script.Line.TheVariants as line
+use Rattle.replay_script.specs.declared.script.ScriptLine.{ScriptLine}
+use Rattle.replay_script.specs.declared.script.ScriptLine.TheVariants as line
 use Rattle.replay_script.specs.declared.script.Script.{Script}
-use Rattle.call_history.specs.Behind.{taken}
-use Rattle.call_history.specs.Draining.{BeginsToDrain}
-use Rattle.call_history.specs.Events.{Course, turns_away}
-use Rattle.call_history.specs.Frames.{frames_behind, frame_of}
-use Rattle.call_history.specs.Tickets.{tickets_behind}
+use Rattle.call_history.specs.Trace.{taken}
+use Rattle.call_history.specs.Draining.{HasPartlyDrained}
+use Rattle.call_history.specs.Transitions.{ConnState, turns_away}
+use Rattle.call_history.specs.Frames.{frames_of_trace, frame_of}
+use Rattle.call_history.specs.Tickets.{tickets_of_trace}
 use Rattle.audit_text.specs.Lines.{audit}
-use Rattle.conn_core.specs.Connections.{Connection as Calls, IsConnection, IsSame, behind, course}
-use Rattle.conn_core.specs.Steps.{Accepts, IfPolicy, Reads, Steps}
+use Rattle.conn_core.specs.Connections.{Connection as Calls, IsConnection, IsSameConnection, conn_trace, conn_state}
+use Rattle.conn_core.specs.ConnectionSteps.{IsAcceptance, IfPolicy, IsReadBy, IsStep}
 use Rattle.conn_core.specs.declared.answers.Ask.{Ask}
-use Rattle.mrpc_base.specs.Heap.{AfterRoom, AfterLoad}
-use Rattle.replay_run.specs.Follows.{Does, Fails, Leads, LeadsUntil, Opened, State, new_one, on_connection, start, under}
-use Rattle.replay_run.specs.Running.{joined, sent}
+use Rattle.mrpc_base.specs.Heap.{IsRoomChange, IsLoad}
+use Rattle.replay_run.specs.Follows.{IsLineEffect, IsSendFailure, IsStateAfter, IsRunToFailedSend, OpenConnection, ScriptState, new_connection, event_on, start, script_context}
+use Rattle.replay_run.specs.Running.{joined_frames, sent_frames}
 use Rattle.replay_run.specs.Tickets.{tickets}
-use Rattle.replay_run.specs.declared.connection.Connection.{Connection}
-use Rattle.replay_run.specs.declared.stop.Stop.{Stop}
-use Rattle.replay_run.specs.declared.stop.Stop.TheVariants.{Memory, Out, Wire}
+use Rattle.replay_run.specs.declared.connection.RunConnection.{RunConnection}
+use Rattle.replay_run.specs.declared.replay_error.ReplayError.{ReplayError}
+use Rattle.replay_run.specs.declared.replay_error.ReplayError.TheVariants.{Memory, Out, Wire}
 
 -- properties of a run's result
-abbrev pub OnRan : {T : Type 0} → Result T Stop → (Done Breaks NoMemory Untold : Type 0) → Type 0
+abbrev pub OnRan : {T : Type 0} → Result T ReplayError → (Done Breaks NoMemory Untold : Type 0) → Type 0
 OnRan (Ok value) Done Breaks NoMemory Untold = Done
 OnRan (Err Wire) Done Breaks NoMemory Untold = Breaks
 OnRan (Err Memory) Done Breaks NoMemory Untold = NoMemory
@@ -49,31 +49,31 @@ knows quotas tenant = tenant < quotas.tenants
 abbrev pub drawn_of : Counters → ℕ → ℕ → Option (List ℕ)
 drawn_of quotas tenant window = tickets_of (drawn_in quotas tenant window)
 
-abbrev pub have_same_tenants : Counters → Counters → Type 0
-have_same_tenants old new = new.tenants ≡ old.tenants
+abbrev pub HaveSameTenants : Counters → Counters → Type 0
+HaveSameTenants old new = new.tenants ≡ old.tenants
 
 -- if the tickets of a tenant's window are known, those drawn between two states were drawn, and no others
-abbrev pub DrawnIn : (tenant window : ℕ) → Course → Course → Option (List ℕ) → Option (List ℕ) → Type 0
-DrawnIn tenant window old new drawn drawn' = IfSome drawn' (λ now. IsSomeAnd drawn (λ earlier.
-    (more : List ℕ) × (tickets_behind tenant window new.past ≡ tickets_behind tenant window old.past ++ more)
+abbrev pub IsDrawnIn : (tenant window : ℕ) → ConnState → ConnState → Option (List ℕ) → Option (List ℕ) → Type 0
+IsDrawnIn tenant window old new drawn drawn' = IfSome drawn' (λ now. IsSomeAnd drawn (λ earlier.
+    (more : List ℕ) × (tickets_of_trace tenant window new.past ≡ tickets_of_trace tenant window old.past ++ more)
     × (now ≡ earlier ++ more)))
 
-pub record DrawsOn (old new : Course) (quotas quotas' : Counters) : Type 0 where
+pub record HasDrawn (old new : ConnState) (quotas quotas' : Counters) : Type 0 where
   pub same : quotas'.tenants ≡ quotas.tenants
   pub drawn : (tenant window : ℕ) → tenant < quotas.tenants → window < WINDOWS
-      → DrawnIn tenant window old new (drawn_of quotas tenant window) (drawn_of quotas' tenant window)
+      → IsDrawnIn tenant window old new (drawn_of quotas tenant window) (drawn_of quotas' tenant window)
 
 -- ---- a connection
 
 -- the connection as definitions see it
-abbrev pub opened_of : Connection → Opened
-opened_of c = record {
+abbrev pub open_connection_of : RunConnection → OpenConnection
+open_connection_of c = record {
   conn = c.calls.conn;
   words = c.heap.size;
   stores = c.heap.stores;
   races = c.heap.races;
   loads = c.heap.loads;
-  course = course c.calls;
+  course = conn_state c.calls;
 }
 
 -- no race is of an earlier load than those before it
@@ -82,51 +82,52 @@ AreInOrder [] = Unit {0}
 AreInOrder (race ∷ races) = All (λ other. race.load ≤ other.load) races × AreInOrder races
 
 -- a heap between two submissions
-pub record IsResting (heap : Heap) : Type 0 where
+pub record IsBetweenSubmissions (heap : Heap) : Type 0 where
   pub least : MIN_HEAP ≤ heap.size
   pub greatest : heap.size ≤ MAX_HEAP
   pub begun : heap.begun ≡ 0
   pub in_order : AreInOrder heap.races
 
 -- its calls are judged by the table and the limit of a script
-pub record IsOf (s : Script) (c : Connection) : Type 0 where
+pub record IsOfScript (s : Script) (c : RunConnection) : Type 0 where
   pub table : c.calls.table ≡ s.table
   pub limit : c.calls.limit ≡ s.loads
 
 -- a connection that was just opened
-pub record IsFresh (T : Table) (limit : ℕ) (c : Connection) : Type 0 where
+pub record IsJustOpened (T : Table) (limit : ℕ) (c : RunConnection) : Type 0 where
   pub table : c.calls.table ≡ T
   pub limit_is : c.calls.limit ≡ limit
-  pub rests : IsResting c.heap
+  pub rests : IsBetweenSubmissions c.heap
   pub going : c.calls.ended ≡ false
   pub none_told : c.told ≡ 0
   pub none : c.calls.happenings ≡ []
   pub sound : IsConnection c.calls
 
 -- one more connection, which was just opened
-pub record HasOpened (s : Script) (conn words : ℕ) (old new : List Connection) : Type 0 where
-  pub one : Connection
+pub record HasOpened (s : Script) (conn words : ℕ) (old new : List RunConnection) : Type 0 where
+  pub one : RunConnection
   pub more : new ≡ old ++ one ∷ []
-  pub opened : opened_of one ≡ new_one conn words
-  pub fresh : IsFresh s.table s.loads one
+  pub opened : open_connection_of one ≡ new_connection conn words
+  pub fresh : IsJustOpened s.table s.loads one
 
 -- a connection between two lines
-pub record IsReady (s : Script) (c : Connection) : Type 0 where
-  pub of_script : IsOf s c
-  pub rests : IsResting c.heap
+pub record IsBetweenLines (s : Script) (c : RunConnection) : Type 0 where
+  pub of_script : IsOfScript s c
+  pub rests : IsBetweenSubmissions c.heap
   pub going : c.calls.ended ≡ false
   pub told : c.told ≡ length c.calls.happenings
   pub sound : IsConnection c.calls
 
 -- what a line leaves unchanged
-pub record Keeps (old new : Connection) : Type 0 where
-  pub same : IsSame old.calls new.calls
-  pub rests : IsResting new.heap
+pub record HasKept (old new : RunConnection) : Type 0 where
+  pub same : IsSameConnection old.calls new.calls
+  pub rests : IsBetweenSubmissions new.heap
   pub told : new.told ≡ old.told
 
 -- a line of this kind leads from one to the other
-abbrev pub DoesWhere : (Script → Line → Type 0) → Connection → Connection → Type 0
-DoesWhere Is old new = (s : Script) (l : Line) → IsOf s old → Is s l → Does s l (opened_of old) (opened_of new)
+abbrev pub IsEffectFor : (Script → ScriptLine → Type 0) → RunConnection → RunConnection → Type 0
+IsEffectFor Is old new = (s : Script) (l : ScriptLine) → IsOfScript s old → Is s l
+    → IsLineEffect s l (open_connection_of old) (open_connection_of new)
 
 -- ---- stores and races
 
@@ -137,7 +138,7 @@ pub record IsStored (place value : ℕ) (old new : Heap) : Type 0 where
   pub races : new.races ≡ old.races
   pub begun : new.begun ≡ old.begun
 
-pub record IsListed (load place value : ℕ) (old new : Heap) : Type 0 where
+pub record IsRaceQueued (load place value : ℕ) (old new : Heap) : Type 0 where
   pub size : new.size ≡ old.size
   pub loads : new.loads ≡ old.loads
   pub stores : new.stores ≡ old.stores
@@ -147,12 +148,12 @@ pub record IsListed (load place value : ℕ) (old new : Heap) : Type 0 where
 -- ---- submissions
 
 -- a call was accepted, by loads from a heap, or rejected; the remaining races aren't made yet
-pub data Submits (ask : Ask) (before after : Calls) (old new : Heap) : Type 0 where
-  accepted : (seq : ℕ) → Accepts old.size ask seq (since old.loads new.loads) before after
-      → new.loads ≡ old.loads ++ since old.loads new.loads → new.size ≡ old.size
-      → Reads AfterRoom AfterLoad old (since old.loads new.loads) new → Submits ask before after old new
-  turned_away : Steps before (turns_away ask.method ask.number ask.addr) after → new ≡ old
-      → Submits ask before after old new
+pub data IsSubmission (ask : Ask) (before after : Calls) (old new : Heap) : Type 0 where
+  accepted : (seq : ℕ) → IsAcceptance old.size ask seq (loads_since old.loads new.loads) before after
+      → new.loads ≡ old.loads ++ loads_since old.loads new.loads → new.size ≡ old.size
+      → IsReadBy IsRoomChange IsLoad old (loads_since old.loads new.loads) new → IsSubmission ask before after old new
+  rejected : IsStep before (turns_away ask.method ask.number ask.addr) after → new ≡ old
+      → IsSubmission ask before after old new
 
 -- ---- preconditions of a line
 
@@ -161,24 +162,24 @@ pub record MayOperate (step : Op) (c : Calls) : Type 0 where
   pub ranges : IfPolicy step IsPolicy
   pub attachments : c.chain.attached + 1 < 2 ^ 32
   pub versions : All (λ e. e.entry.version + 1 < 2 ^ 32) c.chain.engines
-  pub free : (refusal : Refusal) → Refuses (chain_of c.chain) step refusal → ⊥
+  pub free : (refusal : Refusal) → IsRejection (chain_of_state c.chain) step refusal → ⊥
 
 -- what a script that was read guarantees of a line when it is reached: its connection can run it
-abbrev pub MayDo : Script → Line → Connection → Type 0
-MayDo s (line.Conn conn words) c = ⊥
-MayDo s (line.Store conn place value) c = (1 ≤ place) × (place < c.heap.size)
-MayDo s (line.Race conn load place value) c = (1 ≤ load) × (1 ≤ place) × (place < c.heap.size)
-MayDo s (line.Submit conn method number addr) c = length (taken (behind c.calls)) + 1 < 2 ^ 32
-MayDo s (line.Attach conn at name policy) c =
+abbrev pub MayRun : Script → ScriptLine → RunConnection → Type 0
+MayRun s (line.Conn conn words) c = ⊥
+MayRun s (line.Store conn place value) c = (1 ≤ place) × (place < c.heap.size)
+MayRun s (line.Race conn load place value) c = (1 ≤ load) × (1 ≤ place) × (place < c.heap.size)
+MayRun s (line.Submit conn method number addr) c = length (taken (conn_trace c.calls)) + 1 < 2 ^ 32
+MayRun s (line.Attach conn at name policy) c =
     (step : Op) × (op_in s.declared.policies (line.Attach conn at name policy) ≡ Some step) × MayOperate step c.calls
-MayDo s (line.Detach conn name) c =
+MayRun s (line.Detach conn name) c =
     (step : Op) × (op_in s.declared.policies (line.Detach conn name) ≡ Some step) × MayOperate step c.calls
-MayDo s (line.Upgrade conn name policy) c =
+MayRun s (line.Upgrade conn name policy) c =
     (step : Op) × (op_in s.declared.policies (line.Upgrade conn name policy) ≡ Some step) × MayOperate step c.calls
-MayDo s (line.Moment conn ms) c = Unit {0}
-MayDo s (line.Turn conn at) c = at < length c.calls.chain.engines
-MayDo s (line.Send conn) c = Unit {0}
-MayDo s (line.Drain conn) c = Unit {0}
+MayRun s (line.Moment conn ms) c = Unit {0}
+MayRun s (line.Turn conn at) c = at < length c.calls.chain.engines
+MayRun s (line.Send conn) c = Unit {0}
+MayRun s (line.Drain conn) c = Unit {0}
 
 -- the tenants of its quotas are known
 abbrev pub KnowsTenants : Counters → Calls → Type 0
@@ -187,101 +188,107 @@ KnowsTenants quotas c = All (λ e. KnowsTenantOf (knows quotas) e.entry.policy) 
 -- ---- the frames of a line
 
 -- the frames of the sends between two states were written
-pub record HandsOn (T : Table) (conn : ℕ) (old new : Course) (wire wire' : Option (List ℕ)) : Type 0 where
+pub record HasSentFrames (T : Table) (conn : ℕ) (old new : ConnState) (wire wire' : Option (List ℕ)) : Type 0 where
   pub more : List (List ℕ)
-  pub frames : frames_behind T conn new.past ≡ frames_behind T conn old.past ++ more
-  pub told : Appends wire wire' (joined more)
+  pub frames : frames_of_trace T conn new.past ≡ frames_of_trace T conn old.past ++ more
+  pub told : Appends wire wire' (joined_frames more)
 
 -- they were written, and then a proper prefix of one more frame
-pub record BreaksOn (T : Table) (conn : ℕ) (tried : Call) (old new : Course) (wire wire' : Option (List ℕ)) : Type 0 where
+pub record HasBrokenFrame (T : Table) (conn : ℕ) (tried : Call) (old new : ConnState) (wire wire' : Option (List ℕ))
+    : Type 0 where
   pub more : List (List ℕ)
-  pub frames : frames_behind T conn new.past ≡ frames_behind T conn old.past ++ more
+  pub frames : frames_of_trace T conn new.past ≡ frames_of_trace T conn old.past ++ more
   pub many : ℕ
   pub few : many < length (frame_of T tried)
-  pub told : Appends wire wire' (joined more ++ take many (frame_of T tried))
+  pub told : Appends wire wire' (joined_frames more ++ take many (frame_of T tried))
 
 -- ---- the effect of a line on its connection
 
 -- the line was run on the connection: the next state is the one that the script defines, with the tickets that the line
 -- drew and the frames that it sent
-pub record DoneOn (s : Script) (l : Line) (old new : Connection) (quotas quotas' : Counters)
+pub record IsDoneOn (s : Script) (l : ScriptLine) (old new : RunConnection) (quotas quotas' : Counters)
     (wire wire' : Option (List ℕ)) : Type 0 where
-  pub does : Does s l (opened_of old) (opened_of new)
-  pub keeps : Keeps old new
-  pub draws : DrawsOn (course old.calls) (course new.calls) quotas quotas'
-  pub hands : HandsOn s.table old.calls.conn (course old.calls) (course new.calls) wire wire'
+  pub does : IsLineEffect s l (open_connection_of old) (open_connection_of new)
+  pub keeps : HasKept old new
+  pub draws : HasDrawn (conn_state old.calls) (conn_state new.calls) quotas quotas'
+  pub frames_sent : HasSentFrames s.table old.calls.conn (conn_state old.calls) (conn_state new.calls) wire wire'
 
 -- the line was started, and the frame of the tried call could not be written in full
-pub record BrokenOn (s : Script) (l : Line) (old new : Connection) (quotas quotas' : Counters)
+pub record IsBrokenOn (s : Script) (l : ScriptLine) (old new : RunConnection) (quotas quotas' : Counters)
     (wire wire' : Option (List ℕ)) : Type 0 where
   pub tried : Call
-  pub fails : Fails s l (opened_of old) tried (opened_of new)
-  pub keeps : Keeps old new
-  pub draws : DrawsOn (course old.calls) (course new.calls) quotas quotas'
-  pub hands : BreaksOn s.table old.calls.conn tried (course old.calls) (course new.calls) wire wire'
+  pub fails : IsSendFailure s l (open_connection_of old) tried (open_connection_of new)
+  pub keeps : HasKept old new
+  pub draws : HasDrawn (conn_state old.calls) (conn_state new.calls) quotas quotas'
+  pub frames_sent : HasBrokenFrame s.table old.calls.conn tried (conn_state old.calls) (conn_state new.calls) wire wire'
 
 -- it did nothing, or some turns and sends of a drain
-pub record StoppedOn (s : Script) (l : Line) (old : Connection) (wire wire' : Option (List ℕ)) : Type 0 where
-  pub end : Course
-  pub begun : (end ≡ course old.calls)
-      ⊎ ((l ≡ line.Drain old.calls.conn) × BeginsToDrain (under s old.calls.conn) (course old.calls) end)
-  pub hands : HandsOn s.table old.calls.conn (course old.calls) end wire wire'
+pub record IsStoppedOn (s : Script) (l : ScriptLine) (old : RunConnection) (wire wire' : Option (List ℕ)) : Type 0 where
+  pub end : ConnState
+  pub begun : (end ≡ conn_state old.calls)
+      ⊎ ((l ≡ line.Drain old.calls.conn)
+      × HasPartlyDrained (script_context s old.calls.conn) (conn_state old.calls) end)
+  pub frames_sent : HasSentFrames s.table old.calls.conn (conn_state old.calls) end wire wire'
 
 -- a line of this kind was run on the connection, in whichever script
-abbrev pub DoneWhere : (ℕ → Line) → Connection → Connection → Counters → Counters → (wire wire' : Option (List ℕ)) → Type 0
-DoneWhere line_on old new quotas quotas' wire wire' =
-    (s : Script) → IsOf s old → DoneOn s (line_on old.calls.conn) old new quotas quotas' wire wire'
+abbrev pub IsDoneFor : (ℕ → ScriptLine) → RunConnection → RunConnection → Counters → Counters
+    → (wire wire' : Option (List ℕ)) → Type 0
+IsDoneFor line_on old new quotas quotas' wire wire' =
+    (s : Script) → IsOfScript s old → IsDoneOn s (line_on old.calls.conn) old new quotas quotas' wire wire'
 
 -- a frame of such a line could not be written
-abbrev pub BrokenWhere : (ℕ → Line) → Connection → Connection → Counters → Counters → (wire wire' : Option (List ℕ))
+abbrev pub IsBrokenFor : (ℕ → ScriptLine) → RunConnection → RunConnection → Counters → Counters
+    → (wire wire' : Option (List ℕ))
     → Type 0
-BrokenWhere line_on old new quotas quotas' wire wire' =
-    (s : Script) → IsOf s old → BrokenOn s (line_on old.calls.conn) old new quotas quotas' wire wire'
+IsBrokenFor line_on old new quotas quotas' wire wire' =
+    (s : Script) → IsOfScript s old → IsBrokenOn s (line_on old.calls.conn) old new quotas quotas' wire wire'
 
 -- such a line was stopped
-abbrev pub StoppedWhere : (ℕ → Line) → Connection → (wire wire' : Option (List ℕ)) → Type 0
-StoppedWhere line_on old wire wire' = (s : Script) → IsOf s old → StoppedOn s (line_on old.calls.conn) old wire wire'
+abbrev pub IsStoppedFor : (ℕ → ScriptLine) → RunConnection → (wire wire' : Option (List ℕ)) → Type 0
+IsStoppedFor line_on old wire wire' = (s : Script) → IsOfScript s old
+    → IsStoppedOn s (line_on old.calls.conn) old wire wire'
 
 -- ---- the audit lines of events
 
 -- all events were written, and nothing else has changed
-pub record IsTold (old new : Connection) : Type 0 where
+pub record AreEventsWritten (old new : RunConnection) : Type 0 where
   pub calls : new.calls ≡ old.calls
   pub heap : new.heap ≡ old.heap
   pub told : new.told ≡ length old.calls.happenings
 
 -- the lines of a connection's events that weren't written yet
-abbrev pub untold : Table → Connection → List ℕ
-untold T c = audit T (map (on_connection c.calls.conn) (drop c.told c.calls.happenings))
+abbrev pub unwritten : Table → RunConnection → List ℕ
+unwritten T c = audit T (map (event_on c.calls.conn) (drop c.told c.calls.happenings))
 
 -- a prefix of some text was written
-abbrev pub TellsSome : Option (List ℕ) → Option (List ℕ) → List ℕ → Type 0
-TellsSome out out' bytes = (many : ℕ) × (many ≤ length bytes) × Appends out out' (take many bytes)
+abbrev pub IsPrefixWritten : Option (List ℕ) → Option (List ℕ) → List ℕ → Type 0
+IsPrefixWritten out out' bytes = (many : ℕ) × (many ≤ length bytes) × Appends out out' (take many bytes)
 
 -- a line was run on its connection, and all events were written
-pub record DoneTold (s : Script) (l : Line) (old new : Connection) (quotas quotas' : Counters)
+pub record IsDoneAndWritten (s : Script) (l : ScriptLine) (old new : RunConnection) (quotas quotas' : Counters)
     (out out' wire wire' : Option (List ℕ)) : Type 0 where
-  pub mid : Connection
-  pub done : DoneOn s l old mid quotas quotas' wire wire'
-  pub told : IsTold mid new
-  pub lines : Appends out out' (untold s.table mid)
+  pub mid : RunConnection
+  pub done : IsDoneOn s l old mid quotas quotas' wire wire'
+  pub told : AreEventsWritten mid new
+  pub lines : Appends out out' (unwritten s.table mid)
   pub sound : IsConnection new.calls
 
 -- a frame could not be written, and all earlier events were
-pub record BrokenTold (s : Script) (l : Line) (old new : Connection) (quotas quotas' : Counters)
+pub record IsBrokenAndWritten (s : Script) (l : ScriptLine) (old new : RunConnection) (quotas quotas' : Counters)
     (out out' wire wire' : Option (List ℕ)) : Type 0 where
-  pub mid : Connection
-  pub broken : BrokenOn s l old mid quotas quotas' wire wire'
-  pub told : IsTold mid new
-  pub lines : Appends out out' (untold s.table mid)
+  pub mid : RunConnection
+  pub broken : IsBrokenOn s l old mid quotas quotas' wire wire'
+  pub told : AreEventsWritten mid new
+  pub lines : Appends out out' (unwritten s.table mid)
 
 -- a run stopped in a line, or while writing its events
-pub data StopsAt (s : Script) (l : Line) (old : Connection) (out out' wire wire' : Option (List ℕ)) : Type 0 where
-  in_line : StoppedOn s l old wire wire' → out' ≡ out → StopsAt s l old out out' wire wire'
-  behind_line : (mid : Connection) (quotas quotas' : Counters) → DoneOn s l old mid quotas quotas' wire wire'
-      → TellsSome out out' (untold s.table mid) → StopsAt s l old out out' wire wire'
-  behind_failure : (mid : Connection) (quotas quotas' : Counters) → BrokenOn s l old mid quotas quotas' wire wire'
-      → TellsSome out out' (untold s.table mid) → StopsAt s l old out out' wire wire'
+pub data IsStoppedAt (s : Script) (l : ScriptLine) (old : RunConnection) (out out' wire wire' : Option (List ℕ))
+    : Type 0 where
+  in_line : IsStoppedOn s l old wire wire' → out' ≡ out → IsStoppedAt s l old out out' wire wire'
+  after_line : (mid : RunConnection) (quotas quotas' : Counters) → IsDoneOn s l old mid quotas quotas' wire wire'
+      → IsPrefixWritten out out' (unwritten s.table mid) → IsStoppedAt s l old out out' wire wire'
+  after_failure : (mid : RunConnection) (quotas quotas' : Counters) → IsBrokenOn s l old mid quotas quotas' wire wire'
+      → IsPrefixWritten out out' (unwritten s.table mid) → IsStoppedAt s l old out out' wire wire'
 
 -- ---- a run
 
@@ -293,48 +300,51 @@ abbrev pub HaveCounted : (tenants : ℕ) → Counters → Type 0
 HaveCounted tenants quotas = (tenant : ℕ) → tenant < tenants → HasCounted quotas tenant
 
 -- a run's connections and quotas are those of a state
-pub record Holds (s : Script) (st : State) (connections : List Connection) (quotas : Counters) : Type 0 where
-  pub opened : map opened_of connections ≡ st.opened
-  pub ready : All (IsReady s) connections
+pub record IsRunState (s : Script) (st : ScriptState) (connections : List RunConnection) (quotas : Counters)
+    : Type 0 where
+  pub opened : map open_connection_of connections ≡ st.opened
+  pub ready : All (IsBetweenLines s) connections
   pub tenants : quotas.tenants ≡ length s.declared.tenants
   pub drawn : (tenant window : ℕ) → tenant < quotas.tenants → window < WINDOWS
       → IfSome (drawn_of quotas tenant window) (λ now. now ≡ tickets tenant window st.history)
 
 -- the first lines of a script were run
-pub record Ran (s : Script) (lines : List Line) (st : State) (connections : List Connection) (quotas : Counters)
+pub record HasRunLines (s : Script) (lines : List ScriptLine) (st : ScriptState) (connections : List RunConnection)
+    (quotas : Counters)
     (out out' wire wire' : Option (List ℕ)) : Type 0 where
-  pub leads : Leads s start lines st
-  pub holds : Holds s st connections quotas
+  pub leads : IsStateAfter s start lines st
+  pub holds : IsRunState s st connections quotas
   pub told : Appends out out' (audit s.table st.history)
-  pub handed : Appends wire wire' (sent s st)
+  pub handed : Appends wire wire' (sent_frames s st)
 
 -- these lines were run, and lead to some state
-abbrev pub After : Script → List Line → List Connection → Counters → (out out' wire wire' : Option (List ℕ)) → Type 0
-After s lines connections quotas out out' wire wire' =
-    (st : State) × Ran s lines st connections quotas out out' wire wire'
+abbrev pub HasRunSomeLines : Script → List ScriptLine → List RunConnection → Counters
+    → (out out' wire wire' : Option (List ℕ)) → Type 0
+HasRunSomeLines s lines connections quotas out out' wire wire' =
+    (st : ScriptState) × HasRunLines s lines st connections quotas out out' wire wire'
 
 -- the lines before a line were run, and it starts in this state
-pub record Before (s : Script) (l : Line) (connections : List Connection) (quotas : Counters)
+pub record IsRunBefore (s : Script) (l : ScriptLine) (connections : List RunConnection) (quotas : Counters)
     (out' wire' : Option (List ℕ)) : Type 0 where
-  pub lines : List Line
-  pub others : List Line
+  pub lines : List ScriptLine
+  pub others : List ScriptLine
   pub order : s.lines ≡ lines ++ l ∷ others
-  pub st : State
+  pub st : ScriptState
   pub out : Option (List ℕ)
   pub wire : Option (List ℕ)
-  pub ran : Ran s lines st connections quotas out out' wire wire'
+  pub ran : HasRunLines s lines st connections quotas out out' wire wire'
 
 -- a send failed
-pub record Broke (s : Script) (connections : List Connection) (quotas : Counters)
+pub record HasBroken (s : Script) (connections : List RunConnection) (quotas : Counters)
     (out out' wire wire' : Option (List ℕ)) : Type 0 where
   pub tried : Call
-  pub end : State
-  pub until : LeadsUntil s tried end
-  pub opened : map opened_of connections ≡ end.opened
+  pub end : ScriptState
+  pub until : IsRunToFailedSend s tried end
+  pub opened : map open_connection_of connections ≡ end.opened
   pub tenants : quotas.tenants ≡ length s.declared.tenants
   pub drawn : (tenant window : ℕ) → tenant < quotas.tenants → window < WINDOWS
       → IfSome (drawn_of quotas tenant window) (λ now. now ≡ tickets tenant window end.history)
   pub told : Appends out out' (audit s.table end.history)
   pub many : ℕ
   pub few : many < length (frame_of s.table tried)
-  pub handed : Appends wire wire' (sent s end ++ take many (frame_of s.table tried))
+  pub handed : Appends wire wire' (sent_frames s end ++ take many (frame_of s.table tried))

@@ -1,6 +1,6 @@
 pub mod Follows
 pub mod Kept
 pub mod Running
-pub mod Sound
-pub mod Stands
+pub mod Consistency
+pub mod PendingLines
 pub mod Tickets

@@ -2,32 +2,32 @@
 
 ghost use Rattle.std.specs.Prelude.{◌≡◌, ◌≢◌, Err, IfErr, OnErr, OnOk};
 ghost use Rattle.std.specs.Io.KnownBytes.{Appends};
-ghost use Rattle.mrpc_base.specs.Faults.{HasCause};
-ghost use Rattle.mrpc_base.specs.Writing.{AppendsFront};
+ghost use Rattle.mrpc_base.specs.Failures.{HasCause};
+ghost use Rattle.mrpc_base.specs.Sinks.{HasAppendedPrefix};
 ghost use Rattle.mrpc_table.specs.Valid.{IsValid};
-ghost use Rattle.replay_run.specs.Kept.{IsTold, TellsSome, untold};
+ghost use Rattle.replay_run.specs.Kept.{AreEventsWritten, IsPrefixWritten, unwritten};
 
-use crate::connection::Connection;
-use crate::stop::Stop;
-use connection_audit::append_happened;
+use crate::connection::RunConnection;
+use crate::replay_error::ReplayError;
+use connection_audit::append_event;
 use mrpc_base::{Sink, write_all};
 use mrpc_table::{Bytes, Memory, Table};
 use std::alloc::Global;
-use wire_encode::Output;
+use wire_encode::BackwardBuffer;
 
 // Reusable buffers for a line and for the encoding of its copy.
 #[derive(Drop)]
-pub(crate) struct LineRoom {
+pub(crate) struct LineBuffers {
     line: Bytes,
-    encoding: Output,
+    encoding: BackwardBuffer,
 }
 
-impl LineRoom {
+impl LineBuffers {
     // Empty buffers, which grow later.
-    pub(crate) fn new(alloc: Global) -> Result<LineRoom, Memory> {
-        Ok(LineRoom {
+    pub(crate) fn new(alloc: Global) -> Result<LineBuffers, Memory> {
+        Ok(LineBuffers {
             line: Bytes::new(alloc),
-            encoding: Output::new(alloc)?,
+            encoding: BackwardBuffer::new(alloc)?,
         })
     }
 }
@@ -35,49 +35,51 @@ impl LineRoom {
 // Writes the lines of a connection's events since its last lines were written, one write per line. Returns early if
 // there are none, as after most lines of a script, which store a word.
 #[inline(always)]
-pub(crate) fn tell<K: Sink>(
-    room: &mut LineRoom,
+pub(crate) fn write_events<K: Sink>(
+    room: &mut LineBuffers,
     table: &Table,
-    connection: &mut Connection<'_>,
+    connection: &mut RunConnection<'_>,
     out: &mut K,
-) -> Result<(), Stop>
+) -> Result<(), ReplayError>
     requires valid { IsValid table.now }
     requires same { connection.old.calls.table ≡ table.now }
-    ensures told { OnOk result (IsTold connection.old connection.new) }
-    ensures lines { OnOk result (Appends (K.written out.old) (K.written out.new) (untold table.now connection.old)) }
-    ensures front { OnErr result (TellsSome (K.written out.old) (K.written out.new) (untold table.now connection.old)) }
-    ensures not_wire { result ≢ Err Stop.Wire }
-    ensures cause { HasCause (result ≡ Err Stop.Out) (K.faults out.old) (K.faults out.new) }
+    ensures told { OnOk result (AreEventsWritten connection.old connection.new) }
+    ensures lines { OnOk result (Appends (K.written out.old) (K.written out.new) (unwritten table.now connection.old)) }
+    ensures front { OnErr result (IsPrefixWritten (K.written out.old) (K.written out.new)
+        (unwritten table.now connection.old)) }
+    ensures not_wire { result ≢ Err ReplayError.Wire }
+    ensures cause { HasCause (result ≡ Err ReplayError.Out) (K.failures out.old) (K.failures out.new) }
 {
     let count = connection.calls.history().len();
     if connection.told >= count {
         connection.told = count;
         return Ok(());
     }
-    tell_some(room, table, connection, out)
+    write_new_events(room, table, connection, out)
 }
 
-// Like `tell`, if there is an event. A write that fails ends the run, so the count of written events is updated once,
+// Like `write_events`, if there is an event. A write that fails ends the run, so the count of written events is updated once,
 // at the end.
 #[inline(never)]
-fn tell_some<K: Sink>(
-    room: &mut LineRoom,
+fn write_new_events<K: Sink>(
+    room: &mut LineBuffers,
     table: &Table,
-    connection: &mut Connection<'_>,
+    connection: &mut RunConnection<'_>,
     out: &mut K,
-) -> Result<(), Stop>
+) -> Result<(), ReplayError>
     requires valid { IsValid table.now }
     requires same { connection.old.calls.table ≡ table.now }
-    ensures told { OnOk result (IsTold connection.old connection.new) }
-    ensures lines { OnOk result (Appends (K.written out.old) (K.written out.new) (untold table.now connection.old)) }
-    ensures front { OnErr result (TellsSome (K.written out.old) (K.written out.new) (untold table.now connection.old)) }
-    ensures not_wire { result ≢ Err Stop.Wire }
-    ensures cause { HasCause (result ≡ Err Stop.Out) (K.faults out.old) (K.faults out.new) }
+    ensures told { OnOk result (AreEventsWritten connection.old connection.new) }
+    ensures lines { OnOk result (Appends (K.written out.old) (K.written out.new) (unwritten table.now connection.old)) }
+    ensures front { OnErr result (IsPrefixWritten (K.written out.old) (K.written out.new)
+        (unwritten table.now connection.old)) }
+    ensures not_wire { result ≢ Err ReplayError.Wire }
+    ensures cause { HasCause (result ≡ Err ReplayError.Out) (K.failures out.old) (K.failures out.new) }
 {
     let count = connection.calls.history().len();
     for place in connection.told..count {
         room.line.clear();
-        append_happened(
+        append_event(
             &mut room.line,
             &mut room.encoding,
             &connection.calls,
@@ -91,15 +93,15 @@ fn tell_some<K: Sink>(
 }
 
 // Writes a line.
-pub(crate) fn write_line<K: Sink>(out: &mut K, line: &[u8]) -> Result<(), Stop>
+pub(crate) fn write_line<K: Sink>(out: &mut K, line: &[u8]) -> Result<(), ReplayError>
     ensures written { OnOk result (Appends (K.written out.old) (K.written out.new) line.now) }
-    ensures front { OnErr result (AppendsFront (K.written out.old) (K.written out.new) line.now) }
-    ensures reason { IfErr result (λ stop. stop ≡ Stop.Out) }
-    ensures cause { HasCause (result ≡ Err Stop.Out) (K.faults out.old) (K.faults out.new) }
+    ensures front { OnErr result (HasAppendedPrefix (K.written out.old) (K.written out.new) line.now) }
+    ensures reason { IfErr result (λ stop. stop ≡ ReplayError.Out) }
+    ensures cause { HasCause (result ≡ Err ReplayError.Out) (K.failures out.old) (K.failures out.new) }
 {
     if write_all(out, line) {
         Ok(())
     } else {
-        Err(Stop::Out)
+        Err(ReplayError::Out)
     }
 }

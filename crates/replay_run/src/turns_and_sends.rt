@@ -2,22 +2,22 @@
 
 ghost use Rattle.std.specs.Prelude.{◌≡◌, ◌<◌, ℕ, Err, List, Option, length};
 ghost use Rattle.mrpc_base.specs.Quota.{Counters};
-ghost use Rattle.mrpc_base.specs.Faults.{HasCause};
-ghost use Rattle.replay_script.specs.declared.script.Line.TheVariants.{Drain, Send, Turn};
-ghost use Rattle.replay_run.specs.Kept.{BrokenWhere, DoneWhere, IsResting, KnowsTenants, OnRan, StoppedWhere};
+ghost use Rattle.mrpc_base.specs.Failures.{HasCause};
+ghost use Rattle.replay_script.specs.declared.script.ScriptLine.TheVariants.{Drain, Send, Turn};
+ghost use Rattle.replay_run.specs.Kept.{IsBrokenFor, IsDoneFor, IsBetweenSubmissions, KnowsTenants, OnRan, IsStoppedFor};
 
-use crate::connection::Connection;
-use crate::stop::Stop;
+use crate::connection::RunConnection;
+use crate::replay_error::ReplayError;
 use conn_core::{Drained, Sending};
 use frame_transport::ByteLink;
 use mrpc_base::{PlainTickets, Sink};
 
 // Gives the engine at a position a turn with the first call there, if there is one.
-pub(crate) fn turn(connection: &mut Connection<'_>, at: u32, tickets: &mut PlainTickets)
+pub(crate) fn turn(connection: &mut RunConnection<'_>, at: u32, tickets: &mut PlainTickets)
     requires at { at < length connection.old.calls.chain.engines }
     requires known { KnowsTenants tickets.old connection.old.calls }
-    requires rests { IsResting connection.old.heap }
-    ensures { (wire : Option (List ℕ)) → DoneWhere (λ conn. Turn conn at) connection.old connection.new tickets.old
+    requires rests { IsBetweenSubmissions connection.old.heap }
+    ensures { (wire : Option (List ℕ)) → IsDoneFor (λ conn. Turn conn at) connection.old connection.new tickets.old
         tickets.new wire wire }
 {
     connection.calls.is_connection();
@@ -25,46 +25,49 @@ pub(crate) fn turn(connection: &mut Connection<'_>, at: u32, tickets: &mut Plain
 }
 
 // Sends the first ready call, if there is one.
-pub(crate) fn send<W: Sink>(connection: &mut Connection<'_>, wire: &mut W) -> Result<(), Stop>
-    requires rests { IsResting connection.old.heap }
+pub(crate) fn send<W: Sink>(
+    connection: &mut RunConnection<'_>,
+    wire: &mut W,
+) -> Result<(), ReplayError>
+    requires rests { IsBetweenSubmissions connection.old.heap }
     ensures ran { (tickets : Counters) → OnRan result
-        (DoneWhere Send connection.old connection.new tickets tickets (W.written wire.old) (W.written wire.new))
-        (BrokenWhere Send connection.old connection.new tickets tickets (W.written wire.old) (W.written wire.new))
-        (StoppedWhere Send connection.old (W.written wire.old) (W.written wire.new))
+        (IsDoneFor Send connection.old connection.new tickets tickets (W.written wire.old) (W.written wire.new))
+        (IsBrokenFor Send connection.old connection.new tickets tickets (W.written wire.old) (W.written wire.new))
+        (IsStoppedFor Send connection.old (W.written wire.old) (W.written wire.new))
         ⊥ }
-    ensures cause { HasCause (result ≡ Err Stop.Wire) (W.faults wire.old) (W.faults wire.new) }
+    ensures cause { HasCause (result ≡ Err ReplayError.Wire) (W.failures wire.old) (W.failures wire.new) }
 {
     connection.calls.is_connection();
     let mut link = ByteLink::new(wire);
     match connection.calls.send_ready(&mut link) {
         Sending::Nothing | Sending::Sent { .. } => Ok(()),
-        Sending::Failed => Err(Stop::Wire),
-        Sending::Memory => Err(Stop::Memory),
+        Sending::Failed => Err(ReplayError::Wire),
+        Sending::Memory => Err(ReplayError::Memory),
     }
 }
 
 // Runs turns and sends until no call advances.
 pub(crate) fn drain<W: Sink>(
-    connection: &mut Connection<'_>,
+    connection: &mut RunConnection<'_>,
     tickets: &mut PlainTickets,
     wire: &mut W,
-) -> Result<(), Stop>
+) -> Result<(), ReplayError>
     requires known { KnowsTenants tickets.old connection.old.calls }
-    requires rests { IsResting connection.old.heap }
+    requires rests { IsBetweenSubmissions connection.old.heap }
     ensures ran { OnRan result
-        (DoneWhere Drain connection.old connection.new tickets.old tickets.new (W.written wire.old)
+        (IsDoneFor Drain connection.old connection.new tickets.old tickets.new (W.written wire.old)
         (W.written wire.new))
-        (BrokenWhere Drain connection.old connection.new tickets.old tickets.new (W.written wire.old)
+        (IsBrokenFor Drain connection.old connection.new tickets.old tickets.new (W.written wire.old)
         (W.written wire.new))
-        (StoppedWhere Drain connection.old (W.written wire.old) (W.written wire.new))
+        (IsStoppedFor Drain connection.old (W.written wire.old) (W.written wire.new))
         ⊥ }
     ensures tenants { tickets.new.tenants ≡ tickets.old.tenants }
-    ensures cause { HasCause (result ≡ Err Stop.Wire) (W.faults wire.old) (W.faults wire.new) }
+    ensures cause { HasCause (result ≡ Err ReplayError.Wire) (W.failures wire.old) (W.failures wire.new) }
 {
     let mut link = ByteLink::new(wire);
     match connection.calls.drain(tickets, &mut link) {
         Drained::Done => Ok(()),
-        Drained::Failed => Err(Stop::Wire),
-        Drained::Memory => Err(Stop::Memory),
+        Drained::Failed => Err(ReplayError::Wire),
+        Drained::Memory => Err(ReplayError::Memory),
     }
 }

@@ -6,33 +6,33 @@ use Rattle.mrpc_table.specs.Lines.{line_count}
 use Rattle.mrpc_table.specs.Text.{table_text}
 use Rattle.mrpc_table.specs.declared.table.Table.{Table}
 use Rattle.policy_declarations.specs.Declarations.{Declared}
-use Rattle.script_grammar.specs.Fronts.{IsFront}
-use Rattle.script_grammar.specs.Fronts as fronts
+use Rattle.script_grammar.specs.Preambles.{IsPreamble}
+use Rattle.script_grammar.specs.Preambles as fronts
 use Rattle.script_grammar.specs.declared.fault.ScriptFault.{ScriptFault}
 use Rattle.script_grammar.specs.declared.fault.ScriptFault.TheVariants as fault
 use Rattle.script_grammar.specs.declared.fault.ScriptReason.{ScriptReason}
-use Rattle.replay_script.specs.Changes.{end_of}
+use Rattle.replay_script.specs.Changes.{final_state}
 use Rattle.replay_script.specs.Stopping.{IsStopped}
-use Rattle.replay_script.specs.Known.{Laws}
-use Rattle.replay_script.specs.Texts.{first_line, Reaches, Spells, IsFault, in_front, in_lines, IsFaultOf}
-use Rattle.replay_script.specs.declared.script.Line.{Line}
+use Rattle.replay_script.specs.WordLaws.{WordLaws}
+use Rattle.replay_script.specs.Texts.{script_header, HasReached, IsScriptText, IsScriptFault, in_preamble, in_lines, IsFaultOfScript}
+use Rattle.replay_script.specs.declared.script.ScriptLine.{ScriptLine}
 use Rattle.replay_script.specs.declared.script.Script.{Script}
 use Rattle.replay_script.proofs.Bounds.{stops_among}
 use Rattle.replay_script.proofs.OneScript.{reaches_behind}
 
 pub only_one : (text : List ℕ) (r : Result Script ScriptFault)
-    → ((t : List ℕ) (s u : Script) → Spells t s → Spells t u → s ≡ u)
-    → ((t : List ℕ) (s : Script) (line : ℕ) (reason : ScriptReason) → Spells t s → IsFault t line reason → ⊥)
-    → MatchResult r (Spells text) (IsFaultOf text) → (s : Script) → Spells text s → MatchResult r (λ t. t ≡ s) (λ e. e ≡ fault.Memory)
+    → ((t : List ℕ) (s u : Script) → IsScriptText t s → IsScriptText t u → s ≡ u)
+    → ((t : List ℕ) (s : Script) (line : ℕ) (reason : ScriptReason) → IsScriptText t s → IsScriptFault t line reason → ⊥)
+    → MatchResult r (IsScriptText text) (IsFaultOfScript text) → (s : Script) → IsScriptText text s → MatchResult r (λ t. t ≡ s) (λ e. e ≡ fault.Memory)
 only_one text (Ok t) one either h s spells = one text t s h spells
 only_one text (Err (fault.At line reason)) one either h s spells = absurd (either text s line reason spells h)
 only_one text (Err fault.Memory) one either h s spells = refl
 
-pub front_fault : (text : List ℕ) (e : ScriptFault) → fronts.IsFaultOf first_line text e → IsFaultOf text e
-front_fault text (fault.At line reason) h = in_front h
+pub front_fault : (text : List ℕ) (e : ScriptFault) → fronts.IsFaultOfPreamble script_header text e → IsFaultOfScript text e
+front_fault text (fault.At line reason) h = in_preamble h
 front_fault text fault.Memory h = tt
 
-front_behind : (text : List ℕ) (loads : ℕ) (T : Table) (behind : List ℕ) → IsFront first_line text loads T behind → (passed : List ℕ) × (text ≡ passed ++ behind)
+front_behind : (text : List ℕ) (loads : ℕ) (T : Table) (behind : List ℕ) → IsPreamble script_header text loads T behind → (passed : List ℕ) × (text ≡ passed ++ behind)
 front_behind text loads T behind f =
     let end : List ℕ = codes "end\n" in (
       f.head ++ (table_text T ++ end),
@@ -40,7 +40,7 @@ front_behind text loads T behind f =
           ∙ sym (append_assoc f.head (table_text T ++ end) behind),
     )
 
-module _ (laws : Laws) (text : List ℕ) (loads : ℕ) (T : Table) (behind : List ℕ) (front : IsFront first_line text loads T behind) where
+module _ (laws : WordLaws) (text : List ℕ) (loads : ℕ) (T : Table) (behind : List ℕ) (front : IsPreamble script_header text loads T behind) where
   -- the text up to the remainder
   pub record IsCutAt (left : ℕ) (rest : List ℕ) : Type 0 where
     pub passed : List ℕ
@@ -66,10 +66,10 @@ module _ (laws : Laws) (text : List ℕ) (loads : ℕ) (T : Table) (behind : Lis
   pub line_within : (left at : ℕ) (r : ScriptReason) → IsStopped loads T behind left at r → at ≤ left + 2
   line_within left at r s = (let most = stops_among loads T s.before s.rest at r s.stops in let is = s.left_is in omega (arith, most, is))
 
-  pub fault_is : (left at : ℕ) (r : ScriptReason) → IsStopped loads T behind left at r → IsFault text (line_count (take (length text - left) text) + at) r
+  pub fault_is : (left at : ℕ) (r : ScriptReason) → IsStopped loads T behind left at r → IsScriptFault text (line_count (take (length text - left) text) + at) r
   fault_is left at r s =
       let cut = cut_at left at r s in
       in_lines loads T behind cut.passed s.rest s.before at front s.reaches s.stops cut.text_is (ap (λ (t : List ℕ). line_count t + at) cut.taken)
 
-  pub spelled : (d : Declared) (lines : List Line) → Reaches loads T behind (end_of d lines) [] → Spells text (record { loads = loads; table = T; declared = d; lines = lines })
+  pub spelled : (d : Declared) (lines : List ScriptLine) → HasReached loads T behind (final_state d lines) [] → IsScriptText text (record { loads = loads; table = T; declared = d; lines = lines })
   spelled d lines reaches = record { behind = behind; front = front; reaches = reaches }

@@ -7,26 +7,26 @@ use Rattle.std.proofs.lemmas.List.{length-append, length-take}
 use Rattle.mrpc_table.specs.Lines.{pieces_of, whole_lines}
 use Rattle.mrpc_table.specs.declared.policy_lines.RuleReason.{RuleReason}
 use Rattle.mrpc_table.specs.declared.table.Table.{Table}
-use Rattle.policy_declarations.specs.Blocks.{end_line, IsBlock, is_kept, line_at, Breaks, in_block, in_open, no_end}
-use Rattle.policy_declarations.specs.Items.{BreaksIn}
-use Rattle.policy_declarations.specs.declared.item_form.ItemForm.{ItemForm}
-use Rattle.policy_declarations.specs.declared.item_form.ItemForm.TheVariants as of
+use Rattle.policy_declarations.specs.Blocks.{end_line, IsBlock, is_kept, line_number, IsFaultOfBlock, in_block, in_open, no_end}
+use Rattle.policy_declarations.specs.DeclarationTexts.{IsFaultAfterHead}
+use Rattle.policy_declarations.specs.declared.declaration_form.DeclarationForm.{DeclarationForm}
+use Rattle.policy_declarations.specs.declared.declaration_form.DeclarationForm.TheVariants as of
 use Rattle.script_grammar.specs.declared.fault.ScriptReason.{ScriptReason}
-use Rattle.replay_script.specs.Offences.{Before}
-use Rattle.replay_script.specs.Texts.{Stops, in_line, in_block as in_lines, no_feed, no_close}
+use Rattle.replay_script.specs.LineReasons.{StateBefore}
+use Rattle.replay_script.specs.Texts.{IsFirstFaultAt, in_line, in_block as in_lines, no_feed, no_close}
 use Rattle.replay_script.proofs.TextLines.{shorter}
 
 pub record IsAmong (most n : ℕ) : Type 0 where
   pub from : 1 ≤ n
   pub to : n ≤ most
 
-at_among : (skips : Bool) (lines : List (List ℕ)) (number : ℕ) → IsAmong (length lines + 1) (line_at skips lines number)
+at_among : (skips : Bool) (lines : List (List ℕ)) (number : ℕ) → IsAmong (length lines + 1) (line_number skips lines number)
 at_among skips [] number = record { from = omega arith; to = omega arith }
 at_among skips (l ∷ lines) number =
-    let more : (n : ℕ) → IsAmong (length (l ∷ lines) + 1) (1 + line_at skips lines n) =
+    let more : (n : ℕ) → IsAmong (length (l ∷ lines) + 1) (1 + line_number skips lines n) =
     λ n. let rest = at_among skips lines n in let from = rest.from in let to = rest.to in record { from = omega arith; to = omega (arith, to) } in
-    cond_both (is_kept skips l) (if number == 1 then 1 else 1 + line_at skips lines (number - 1)) (1 + line_at skips lines number) (IsAmong (length (l ∷ lines) + 1))
-    (λ kept. cond_both (number == 1) 1 (1 + line_at skips lines (number - 1)) (IsAmong (length (l ∷ lines) + 1))
+    cond_both (is_kept skips l) (if number == 1 then 1 else 1 + line_number skips lines (number - 1)) (1 + line_number skips lines number) (IsAmong (length (l ∷ lines) + 1))
+    (λ kept. cond_both (number == 1) 1 (1 + line_number skips lines (number - 1)) (IsAmong (length (l ∷ lines) + 1))
     (λ is. record { from = omega arith; to = omega arith }) (λ isnt. more (number - 1)))
     (λ skipped. more number)
 
@@ -56,7 +56,7 @@ wider : (least most n : ℕ) → least ≤ most → IsAmong least n → IsAmong 
 wider least most n h k = (let to = k.to in record { from = k.from; to = omega (arith, h, to) })
 
 breaks_among : (First : List (List ℕ) → ℕ → RuleReason → Type 0) (skips : Bool) (text : List ℕ) (line : ℕ)
-    (reason : ScriptReason) → Breaks First skips text line reason → IsAmong (length text + 1) line
+    (reason : ScriptReason) → IsFaultOfBlock First skips text line reason → IsAmong (length text + 1) line
 breaks_among First skips text line reason (in_block inner rest number why block first e f) =
     subst (IsAmong (length text + 1)) (sym e) (wider (length inner + 1) (length text + 1) _ (let few = inner_few text inner rest block in omega (arith, few)) (at_among skips inner number))
 breaks_among First skips text line reason (in_open number why shut first within e f) =
@@ -64,7 +64,7 @@ breaks_among First skips text line reason (in_open number why shut first within 
     whole_few text in omega (arith, few)) (at_among skips (whole_lines text) number))
 breaks_among First skips text line reason (no_end shut none e f) = (let few = whole_few text in record { from = omega (arith, e); to = omega (arith, e, few) })
 
-pub breaks_in : (T : Table) (skips : Bool) (f : ItemForm) (text : List ℕ) (line : ℕ) (reason : ScriptReason) → BreaksIn T skips f text line reason → IsAmong (length text + 1) line
+pub breaks_in : (T : Table) (skips : Bool) (f : DeclarationForm) (text : List ℕ) (line : ℕ) (reason : ScriptReason) → IsFaultAfterHead T skips f text line reason → IsAmong (length text + 1) line
 breaks_in T skips of.Access text line reason h = breaks_among _ skips text line reason h
 breaks_in T skips of.Redact text line reason h = breaks_among _ skips text line reason h
 breaks_in T skips of.Tenant text line reason h = absurd h
@@ -72,7 +72,7 @@ breaks_in T skips of.Rate text line reason h = absurd h
 breaks_in T skips of.Quota text line reason h = absurd h
 breaks_in T skips of.Count text line reason h = absurd h
 
-pub stops_among : (loads : ℕ) (T : Table) (b : Before) (text : List ℕ) (at : ℕ) (reason : ScriptReason) → Stops loads T b text at reason → at ≤ length text + 2
+pub stops_among : (loads : ℕ) (T : Table) (b : StateBefore) (text : List ℕ) (at : ℕ) (reason : ScriptReason) → IsFirstFaultAt loads T b text at reason → at ≤ length text + 2
 stops_among loads T b text at reason (in_line line behind before first e) = omega (arith, e)
 stops_among loads T b text at reason (in_lines line behind f m below before still is heads breaks e) =
     (let to = (breaks_in T true f behind below reason breaks).to in let less = shorter text line behind before in omega (arith, e, to, less))

@@ -4,35 +4,35 @@ use Rattle.std.proofs.Common.{Option, Some, None, refl, ap, sym, subst, ◌∙�
 use Rattle.std.specs.Prelude.{nat_lt, nat_le}
 use Rattle.std.proofs.lemmas.Bool.{cond_both, ltb-true, ltb-false, leb-true, leb-false, and_parts, and_cases, false≢true, cases_lt}
 use Rattle.std.proofs.lemmas.Option.{same_Some}
-use Rattle.engine_core.specs.Chains.{Chain, Refusal, no_such, taken, no_place, full, other_kind, Refuses}
+use Rattle.engine_core.specs.Chains.{Chain, Refusal, no_such, taken, no_place, full, other_kind, IsRejection}
 use Rattle.engine_core.specs.Chains as chains
 use Rattle.engine_core.specs.declared.op.Op.{Op}
-use Rattle.policy_declarations.specs.declared.item.NamedPolicy.{NamedPolicy}
-use Rattle.script_grammar.specs.Reasons.{order_of, IsFirst}
+use Rattle.policy_declarations.specs.declared.declaration.NamedPolicy.{NamedPolicy}
+use Rattle.script_grammar.specs.Reasons.{script_reason_rank, IsFirstReason}
 use Rattle.script_grammar.specs.declared.fault.ScriptReason.{ScriptReason}
 use Rattle.script_grammar.specs.declared.fault.ScriptReason.TheVariants as reason
-use Rattle.replay_script.specs.Deciding.{is_place, against_op, against_some_op, against_open, against_known, against}
-use Rattle.replay_script.specs.Lines.{conn_of, is_conn, is_submit, place_in, op_in, heap_of, chain_of, submissions}
-use Rattle.replay_script.specs.Lines.{IsPlace, reason_of, IsAgainst, is_open, not_open, no_place_there, no_load}
+use Rattle.replay_script.specs.Deciding.{is_place, op_reason, some_op_reason, open_line_reason, known_line_reason, reason_after}
+use Rattle.replay_script.specs.Lines.{conn_of, is_conn, is_submit, store_place, op_in, heap_of, chain_after_lines, submissions}
+use Rattle.replay_script.specs.Lines.{IsHeapPlace, reason_of_refusal, HasReasonAfter, is_open, not_open, no_place_there, no_load}
 use Rattle.replay_script.specs.Lines.{no_engine, is_refused, too_much}
-use Rattle.replay_script.specs.declared.script.Line.{Line}
-use Rattle.replay_script.specs.declared.script.Line.TheVariants as line
+use Rattle.replay_script.specs.declared.script.ScriptLine.{ScriptLine}
+use Rattle.replay_script.specs.declared.script.ScriptLine.TheVariants as line
 use Rattle.replay_script.proofs.Refusals.{OpVerdict, op_verdict}
 
 -- ---- the possible reasons of a line of each form
 
-abbrev pub IsMisplaced : (words : ℕ) → Line → Type 0
-IsMisplaced words (line.Store conn place value) = IsPlace words place → ⊥
-IsMisplaced words (line.Race conn load place value) = (load ≡ 0) ⊎ (IsPlace words place → ⊥)
+abbrev pub IsMisplaced : (words : ℕ) → ScriptLine → Type 0
+IsMisplaced words (line.Store conn place value) = IsHeapPlace words place → ⊥
+IsMisplaced words (line.Race conn load place value) = (load ≡ 0) ⊎ (IsHeapPlace words place → ⊥)
 IsMisplaced words _ = ⊥
 
-abbrev pub IsPastEngines : (engines : ℕ) → Line → Type 0
+abbrev pub IsPastEngines : (engines : ℕ) → ScriptLine → Type 0
 IsPastEngines engines (line.Turn conn at) = engines ≤ at
 IsPastEngines engines _ = ⊥
 
-misplaced_by : (words place : ℕ) (l : Line) → place_in l ≡ Some place → (IsPlace words place → ⊥) → IsMisplaced words l
-misplaced_by words place (line.Store conn p value) e none = (let same : p ≡ place = same_Some p place e in subst (λ (x : ℕ). IsPlace words x → ⊥) (sym same) none)
-misplaced_by words place (line.Race conn load p value) e none = (let same : p ≡ place = same_Some p place e in inr (subst (λ (x : ℕ). IsPlace words x → ⊥) (sym same) none))
+misplaced_by : (words place : ℕ) (l : ScriptLine) → store_place l ≡ Some place → (IsHeapPlace words place → ⊥) → IsMisplaced words l
+misplaced_by words place (line.Store conn p value) e none = (let same : p ≡ place = same_Some p place e in subst (λ (x : ℕ). IsHeapPlace words x → ⊥) (sym same) none)
+misplaced_by words place (line.Race conn load p value) e none = (let same : p ≡ place = same_Some p place e in inr (subst (λ (x : ℕ). IsHeapPlace words x → ⊥) (sym same) none))
 misplaced_by words place (line.Conn conn w) e none = absurd cc
 misplaced_by words place (line.Submit conn method number addr) e none = absurd cc
 misplaced_by words place (line.Attach conn at name policy) e none = absurd cc
@@ -43,46 +43,46 @@ misplaced_by words place (line.Turn conn at) e none = absurd cc
 misplaced_by words place (line.Send conn) e none = absurd cc
 misplaced_by words place (line.Drain conn) e none = absurd cc
 
-module _ (loads : ℕ) (policies : List NamedPolicy) (before : List Line) where
-  abbrev heap : Line → Option ℕ
+module _ (loads : ℕ) (policies : List NamedPolicy) (before : List ScriptLine) where
+  abbrev heap : ScriptLine → Option ℕ
   heap l = heap_of before (conn_of l)
 
-  abbrev chain : Line → Chain
-  chain l = chain_of policies before (conn_of l)
+  abbrev chain : ScriptLine → Chain
+  chain l = chain_after_lines policies before (conn_of l)
 
   -- the reason of a line that uses an open connection
-  pub data Stands (words : ℕ) (l : Line) (q : ScriptReason) : Type 0 where
+  pub data Stands (words : ℕ) (l : ScriptLine) (q : ScriptReason) : Type 0 where
     misplaced : IsMisplaced words l → q ≡ reason.Place → Stands words l q
     past : IsPastEngines (length (chain l).entries) l → q ≡ reason.At → Stands words l q
-    refused : (o : Op) (refusal : Refusal) → op_in policies l ≡ Some o → Refuses (chain l) o refusal → q ≡ reason_of refusal → Stands words l q
+    refused : (o : Op) (refusal : Refusal) → op_in policies l ≡ Some o → IsRejection (chain l) o refusal → q ≡ reason_of_refusal refusal → Stands words l q
     surplus : is_submit l ≡ true → 16777216 < (submissions before + 1) * loads → q ≡ reason.Work → Stands words l q
 
-  pub stands : (words : ℕ) (l : Line) (q : ScriptReason) → is_conn l ≡ false → heap l ≡ Some words → IsAgainst loads policies before l q → Stands words l q
+  pub stands : (words : ℕ) (l : ScriptLine) (q : ScriptReason) → is_conn l ≡ false → heap l ≡ Some words → HasReasonAfter loads policies before l q → Stands words l q
   stands words l q used there (is_open other opens is e) = absurd (false≢true (sym used ∙ opens))
   stands words l q used there (not_open uses none e) = absurd (let clash : None ≡ Some words = sym none ∙ there in cc)
   stands words l q used there (no_place_there place other at is none e) =
       let same : other ≡ words = same_Some other words (sym is ∙ there) in
-      misplaced (misplaced_by words place l at (subst (λ (w : ℕ). IsPlace w place → ⊥) same none)) e
+      misplaced (misplaced_by words place l at (subst (λ (w : ℕ). IsHeapPlace w place → ⊥) same none)) e
   stands words l q used there (no_load conn place value is e) = misplaced (subst (IsMisplaced words) (sym is) (inl refl)) e
   stands words l q used there (no_engine conn at is few e) =
-      past (subst (λ (k : Line). IsPastEngines (length (chain_of policies before (conn_of k)).entries) k) (sym is) few) e
+      past (subst (λ (k : ScriptLine). IsPastEngines (length (chain_after_lines policies before (conn_of k)).entries) k) (sym is) few) e
   stands words l q used there (is_refused o refusal is refuses e) = refused o refusal is refuses e
   stands words l q used there (too_much submits much e) = surplus submits much e
 
   -- ---- the verdict
 
-  abbrev pub Verdict : Line → Option ScriptReason → Type 0
-  Verdict l None = (q : ScriptReason) → IsAgainst loads policies before l q → ⊥
-  Verdict l (Some r) = IsFirst (IsAgainst loads policies before l) r
+  abbrev pub Verdict : ScriptLine → Option ScriptReason → Type 0
+  Verdict l None = (q : ScriptReason) → HasReasonAfter loads policies before l q → ⊥
+  Verdict l (Some r) = IsFirstReason (HasReasonAfter loads policies before l) r
 
   -- the conditions for each reason of a line
-  pub record Parts (words : ℕ) (l : Line) (Places Pasts Works : Type 0) (Ops : Refusal → Type 0) : Type 0 where
+  pub record Parts (words : ℕ) (l : ScriptLine) (Places Pasts Works : Type 0) (Ops : Refusal → Type 0) : Type 0 where
     pub place : IsMisplaced words l → Places
     pub past : IsPastEngines (length (chain l).entries) l → Pasts
-    pub op : (o : Op) (refusal : Refusal) → op_in policies l ≡ Some o → Refuses (chain l) o refusal → Ops refusal
+    pub op : (o : Op) (refusal : Refusal) → op_in policies l ≡ Some o → IsRejection (chain l) o refusal → Ops refusal
     pub work : is_submit l ≡ true → 16777216 < (submissions before + 1) * loads → Works
 
-  free : (words : ℕ) (l : Line) → is_conn l ≡ false → heap l ≡ Some words → Parts words l ⊥ ⊥ ⊥ (λ r. ⊥) → Verdict l None
+  free : (words : ℕ) (l : ScriptLine) → is_conn l ≡ false → heap l ≡ Some words → Parts words l ⊥ ⊥ ⊥ (λ r. ⊥) → Verdict l None
   free words l used there none q h = elim (stands words l q used there h) [
     | misplaced m e ↦ none.place m
     | past m e ↦ none.past m
@@ -90,17 +90,17 @@ module _ (loads : ℕ) (policies : List NamedPolicy) (before : List Line) where
     | surplus m much e ↦ none.work m much
   ]
 
-  order_same : (q r : ScriptReason) → q ≡ r → order_of r ≤ order_of q
-  order_same q r e = (let same = ap order_of e in omega (arith, same))
+  order_same : (q r : ScriptReason) → q ≡ r → script_reason_rank r ≤ script_reason_rank q
+  order_same q r e = (let same = ap script_reason_rank e in omega (arith, same))
 
-  first_of : (words : ℕ) (l : Line) (r : ScriptReason) → is_conn l ≡ false → heap l ≡ Some words → IsAgainst loads policies before l r
-      → Parts words l (r ≡ reason.Place) (r ≡ reason.At) (r ≡ reason.Work) (λ x. order_of r ≤ order_of (reason_of x)) → Verdict l (Some r)
-  first_of words l r used there against only = record {
-    stands = against;
+  first_of : (words : ℕ) (l : ScriptLine) (r : ScriptReason) → is_conn l ≡ false → heap l ≡ Some words → HasReasonAfter loads policies before l r
+      → Parts words l (r ≡ reason.Place) (r ≡ reason.At) (r ≡ reason.Work) (λ x. script_reason_rank r ≤ script_reason_rank (reason_of_refusal x)) → Verdict l (Some r)
+  first_of words l r used there reason_after only = record {
+    stands = reason_after;
     first = λ q h. elim (stands words l q used there h) [
       | misplaced m e ↦ order_same q r (e ∙ sym (only.place m))
       | past m e ↦ order_same q r (e ∙ sym (only.past m))
-      | refused o refusal is s e ↦ (let from = only.op o refusal is s in let same = ap order_of e in omega (arith, from, same))
+      | refused o refusal is s e ↦ (let from = only.op o refusal is s in let same = ap script_reason_rank e in omega (arith, from, same))
       | surplus m much e ↦ order_same q r (e ∙ sym (only.work m much))
     ];
   }
@@ -108,21 +108,21 @@ module _ (loads : ℕ) (policies : List NamedPolicy) (before : List Line) where
   no_op : (o : Op) (X : Type 0) → ◌≡◌ {A = Option Op} None (Some o) → X
   no_op o X e = absurd cc
 
-  is_place-true : (words place : ℕ) → is_place words place ≡ true → IsPlace words place
+  is_place-true : (words place : ℕ) → is_place words place ≡ true → IsHeapPlace words place
   is_place-true words place e = let parts = and_parts (nat_le 1 place) (nat_lt place words) e in (leb-true 1 place parts.0, ltb-true place words parts.1)
 
-  is_place-false : (words place : ℕ) → is_place words place ≡ false → IsPlace words place → ⊥
+  is_place-false : (words place : ℕ) → is_place words place ≡ false → IsHeapPlace words place → ⊥
   is_place-false words place e is = elim (and_cases (nat_le 1 place) (nat_lt place words) e) [
     | inl f ↦ (let less = leb-false 1 place f in let from = is.0 in omega (arith, less, from))
     | inr f ↦ (let less = ltb-false place words f in let to = is.1 in omega (arith, less, to))
   ]
 
-  abbrev Against : ℕ → Line → Option ScriptReason
-  Against words l = against_open loads policies words (chain l).entries (submissions before) l
+  abbrev Against : ℕ → ScriptLine → Option ScriptReason
+  Against words l = open_line_reason loads policies words (chain l).entries (submissions before) l
 
   store_verdict : (words conn place value : ℕ) → heap (line.Store conn place value) ≡ Some words → Verdict (line.Store conn place value) (Against words (line.Store conn place value))
   store_verdict words conn place value there =
-      let l : Line = line.Store conn place value in
+      let l : ScriptLine = line.Store conn place value in
       cond_both (is_place words place) None (Some reason.Place) (Verdict l)
       (λ is. free words l refl there (record {
         place = λ none. none (is_place-true words place is);
@@ -135,19 +135,19 @@ module _ (loads : ℕ) (policies : List NamedPolicy) (before : List Line) where
 
   race_against : (words conn load place value : ℕ) → heap (line.Race conn load place value) ≡ Some words
       → (nat_le 1 load ≡ false) ⊎ (is_place words place ≡ false)
-      → IsAgainst loads policies before (line.Race conn load place value) reason.Place
+      → HasReasonAfter loads policies before (line.Race conn load place value) reason.Place
   race_against words conn load place value there (inl none) =
       no_load conn place value (let less = leb-false 1 load none in let zero_is : load ≡ 0 = omega (arith, less) in ap (λ (n : ℕ). line.Race conn n place value) zero_is) refl
   race_against words conn load place value there (inr isnt) = no_place_there place words refl there (is_place-false words place isnt) refl
 
-  race_right : (words load place : ℕ) → nat_le 1 load ≡ true → is_place words place ≡ true → (load ≡ 0) ⊎ (IsPlace words place → ⊥) → ⊥
+  race_right : (words load place : ℕ) → nat_le 1 load ≡ true → is_place words place ≡ true → (load ≡ 0) ⊎ (IsHeapPlace words place → ⊥) → ⊥
   race_right words load place some is (inl none) = (let from = leb-true 1 load some in omega (arith, from, none))
   race_right words load place some is (inr isnt) = isnt (is_place-true words place is)
 
   race_verdict : (words conn load place value : ℕ) → heap (line.Race conn load place value) ≡ Some words
       → Verdict (line.Race conn load place value) (Against words (line.Race conn load place value))
   race_verdict words conn load place value there =
-      let l : Line = line.Race conn load place value in
+      let l : ScriptLine = line.Race conn load place value in
       cond_both (nat_le 1 load && is_place words place) None (Some reason.Place) (Verdict l)
       (λ is. (let parts = and_parts (nat_le 1 load) (is_place words place) is in
       free words l refl there (record {
@@ -162,7 +162,7 @@ module _ (loads : ℕ) (policies : List NamedPolicy) (before : List Line) where
   submit_verdict : (words conn method number addr : ℕ) → heap (line.Submit conn method number addr) ≡ Some words
       → Verdict (line.Submit conn method number addr) (Against words (line.Submit conn method number addr))
   submit_verdict words conn method number addr there =
-      let l : Line = line.Submit conn method number addr in
+      let l : ScriptLine = line.Submit conn method number addr in
       let total : ℕ = (submissions before + 1) * loads in
       cond_both (nat_le total 16777216) None (Some reason.Work) (Verdict l)
       (λ is. free words l refl there (record {
@@ -177,7 +177,7 @@ module _ (loads : ℕ) (policies : List NamedPolicy) (before : List Line) where
 
   turn_verdict : (words conn at : ℕ) → heap (line.Turn conn at) ≡ Some words → Verdict (line.Turn conn at) (Against words (line.Turn conn at))
   turn_verdict words conn at there =
-      let l : Line = line.Turn conn at in
+      let l : ScriptLine = line.Turn conn at in
       let count : ℕ = length (chain l).entries in
       cond_both (nat_lt at count) None (Some reason.At) (Verdict l)
       (λ is. free words l refl there (record {
@@ -191,30 +191,30 @@ module _ (loads : ℕ) (policies : List NamedPolicy) (before : List Line) where
 
   -- ---- operations
 
-  reason_order : (x y : Refusal) → chains.order_of x ≤ chains.order_of y → order_of (reason_of x) ≤ order_of (reason_of y)
+  reason_order : (x y : Refusal) → chains.refusal_rank x ≤ chains.refusal_rank y → script_reason_rank (reason_of_refusal x) ≤ script_reason_rank (reason_of_refusal y)
   reason_order x y h = (let one = by_order x in let other = by_order y in omega (arith, one, other, h)) where
-    by_order : (z : Refusal) → order_of (reason_of z) ≡ 13 + chains.order_of z
+    by_order : (z : Refusal) → script_reason_rank (reason_of_refusal z) ≡ 13 + chains.refusal_rank z
     by_order (no_such name) = refl
     by_order (taken name) = refl
     by_order (no_place at) = refl
     by_order (full entries) = refl
     by_order (other_kind name) = refl
 
-  refused_first : (c : Chain) (o p : Op) (x y : Refusal) → o ≡ p → Refuses c o x → Refuses c p y → chains.order_of x ≤ chains.order_of y
-  refused_first c o p x y same h k = elim (cases_lt (chains.order_of y) (chains.order_of x)) [
-    | inl less ↦ absurd (h.first y less (subst (λ (q : Op). chains.IsAgainst c.entries q y) (sym same) k.against))
+  refused_first : (c : Chain) (o p : Op) (x y : Refusal) → o ≡ p → IsRejection c o x → IsRejection c p y → chains.refusal_rank x ≤ chains.refusal_rank y
+  refused_first c o p x y same h k = elim (cases_lt (chains.refusal_rank y) (chains.refusal_rank x)) [
+    | inl less ↦ absurd (h.first y less (subst (λ (q : Op). chains.IsReasonToReject c.entries q y) (sym same) k.against))
     | inr from ↦ from
   ]
 
   -- a line of which only the operation is checked
-  pub record IsPlain (l : Line) : Type 0 where
+  pub record IsPlain (l : ScriptLine) : Type 0 where
     pub used : is_conn l ≡ false
     pub place : (words : ℕ) → IsMisplaced words l → ⊥
     pub past : (engines : ℕ) → IsPastEngines engines l → ⊥
     pub work : is_submit l ≡ true → ⊥
 
-  op_line_verdict : (words : ℕ) (l : Line) (found : Option Op) → op_in policies l ≡ found → IsPlain l
-      → heap l ≡ Some words → Verdict l (against_some_op found (chain l).entries)
+  op_line_verdict : (words : ℕ) (l : ScriptLine) (found : Option Op) → op_in policies l ≡ found → IsPlain l
+      → heap l ≡ Some words → Verdict l (some_op_reason found (chain l).entries)
   op_line_verdict words l None is plain there =
       free words l plain.used there (record {
         place = λ m. plain.place words m;
@@ -222,13 +222,13 @@ module _ (loads : ℕ) (policies : List NamedPolicy) (before : List Line) where
         op = λ o refusal some r. no_op o ⊥ (sym is ∙ some);
         work = λ m much. plain.work m;
       })
-  op_line_verdict words l (Some o) is plain there = by (against_op o (chain l).entries) (op_verdict (chain l) o) where
+  op_line_verdict words l (Some o) is plain there = by (op_reason o (chain l).entries) (op_verdict (chain l) o) where
     by : (x : Option ScriptReason) → OpVerdict (chain l) o x → Verdict l x
     by None none =
         free words l plain.used there (record {
           place = λ m. plain.place words m;
           past = λ m. plain.past _ m;
-          op = λ p refusal some r. none refusal (subst (λ (q : Op). chains.IsAgainst (chain l).entries q refusal) (same_Some p o (sym some ∙ is)) r.against);
+          op = λ p refusal some r. none refusal (subst (λ (q : Op). chains.IsReasonToReject (chain l).entries q refusal) (same_Some p o (sym some ∙ is)) r.against);
           work = λ m much. plain.work m;
         })
     by (Some r) (refusal, refuses, e) =
@@ -238,7 +238,7 @@ module _ (loads : ℕ) (policies : List NamedPolicy) (before : List Line) where
           op = λ p other some s.
               (let first = reason_order refusal other
               (refused_first (chain l) o p refusal other (same_Some o p (sym is ∙ some)) refuses s) in
-              let same = ap order_of e in omega (arith, first, same));
+              let same = ap script_reason_rank e in omega (arith, first, same));
           work = λ m much. absurd (plain.work m);
         })
 
@@ -247,7 +247,7 @@ module _ (loads : ℕ) (policies : List NamedPolicy) (before : List Line) where
 
   -- ---- all lines
 
-  used_verdict : (words : ℕ) (l : Line) → is_conn l ≡ false → heap l ≡ Some words → Verdict l (Against words l)
+  used_verdict : (words : ℕ) (l : ScriptLine) → is_conn l ≡ false → heap l ≡ Some words → Verdict l (Against words l)
   used_verdict words (line.Conn conn w) used there = absurd (false≢true (sym used))
   used_verdict words (line.Store conn place value) used there = store_verdict words conn place value there
   used_verdict words (line.Race conn load place value) used there = race_verdict words conn load place value there
@@ -284,29 +284,29 @@ module _ (loads : ℕ) (policies : List NamedPolicy) (before : List Line) where
         work = λ m. no_submit m;
       }) there
 
-  reason_late : (x : Refusal) → 14 ≤ order_of (reason_of x)
+  reason_late : (x : Refusal) → 14 ≤ script_reason_rank (reason_of_refusal x)
   reason_late (no_such name) = omega arith
   reason_late (taken name) = omega arith
   reason_late (no_place at) = omega arith
   reason_late (full entries) = omega arith
   reason_late (other_kind name) = omega arith
 
-  unknown_verdict : (l : Line) → is_conn l ≡ false → heap l ≡ None → Verdict l (Some reason.Unknown)
+  unknown_verdict : (l : ScriptLine) → is_conn l ≡ false → heap l ≡ None → Verdict l (Some reason.Unknown)
   unknown_verdict l used none = record {
     stands = not_open used none refl;
     first = λ q h. elim h [
       | is_open words opens is e ↦ absurd (false≢true (sym used ∙ opens))
       | not_open u n e ↦ order_same q reason.Unknown e
-      | no_place_there place words at is n e ↦ (let same = ap order_of e in omega (arith, same))
-      | no_load conn place value is e ↦ (let same = ap order_of e in omega (arith, same))
-      | no_engine conn at is few e ↦ (let same = ap order_of e in omega (arith, same))
-      | is_refused o refusal is refuses e ↦ (let same = ap order_of e in let late = reason_late refusal in omega (arith, same, late))
-      | too_much submits much e ↦ (let same = ap order_of e in omega (arith, same))
+      | no_place_there place words at is n e ↦ (let same = ap script_reason_rank e in omega (arith, same))
+      | no_load conn place value is e ↦ (let same = ap script_reason_rank e in omega (arith, same))
+      | no_engine conn at is few e ↦ (let same = ap script_reason_rank e in omega (arith, same))
+      | is_refused o refusal is refuses e ↦ (let same = ap script_reason_rank e in let late = reason_late refusal in omega (arith, same, late))
+      | too_much submits much e ↦ (let same = ap script_reason_rank e in omega (arith, same))
     ];
   }
 
   opens_verdict : (conn words : ℕ) (found : Option ℕ) → heap (line.Conn conn words) ≡ found
-      → Verdict (line.Conn conn words) (against_known loads policies found (chain (line.Conn conn words)).entries
+      → Verdict (line.Conn conn words) (known_line_reason loads policies found (chain (line.Conn conn words)).entries
       (submissions before) (line.Conn conn words))
   opens_verdict conn words None none = λ q h. elim h [
     | is_open other opens is e ↦ (let clash : None ≡ Some other = sym none ∙ is in absurd cc)
@@ -330,7 +330,7 @@ module _ (loads : ℕ) (policies : List NamedPolicy) (before : List Line) where
     ];
   }
 
-  known_or : (l : Line) (found : Option ℕ) → heap l ≡ found → is_conn l ≡ false → Verdict l (against_known loads policies found (chain l).entries (submissions before) l)
+  known_or : (l : ScriptLine) (found : Option ℕ) → heap l ≡ found → is_conn l ≡ false → Verdict l (known_line_reason loads policies found (chain l).entries (submissions before) l)
   known_or (line.Conn conn words) found is used = absurd (false≢true (sym used))
   known_or (line.Store conn place value) None is used = unknown_verdict (line.Store conn place value) used is
   known_or (line.Store conn place value) (Some words) is used = used_verdict words (line.Store conn place value) used is
@@ -353,7 +353,7 @@ module _ (loads : ℕ) (policies : List NamedPolicy) (before : List Line) where
   known_or (line.Drain conn) None is used = unknown_verdict (line.Drain conn) used is
   known_or (line.Drain conn) (Some words) is used = used_verdict words (line.Drain conn) used is
 
-  pub line_verdict : (l : Line) → Verdict l (against loads policies before l)
+  pub line_verdict : (l : ScriptLine) → Verdict l (reason_after loads policies before l)
   line_verdict (line.Conn conn words) = opens_verdict conn words (heap (line.Conn conn words)) refl
   line_verdict (line.Store conn place value) = known_or (line.Store conn place value) (heap (line.Store conn place value)) refl refl
   line_verdict (line.Race conn load place value) = known_or (line.Race conn load place value) (heap (line.Race conn load place value)) refl refl

@@ -13,20 +13,20 @@ use Rattle.std.proofs.lemmas.Int.Digits.{digits_value-lt}
 use Rattle.std.proofs.lemmas.Option.{same_Some}
 use Rattle.mrpc_table.specs.Lines.{words_of, IsIn}
 use Rattle.mrpc_table.specs.Names.{IsName}
-use Rattle.policy_declarations.specs.Declarations.{Declared, policy_place}
-use Rattle.policy_declarations.specs.Items.{item_form}
-use Rattle.script_grammar.specs.Forms.{sorts_of}
-use Rattle.script_grammar.specs.Lines.{AreSaid}
-use Rattle.script_grammar.specs.Sorts.{Meaning, word, number, unbounded, name, Says, number_at, name_at}
-use Rattle.script_grammar.specs.Values.{Value, plain, negative, hexadecimal, IsValue, Fits, word_of, is_hexadecimal, are_hexadecimal}
-use Rattle.script_grammar.specs.declared.form.Form.{Form}
-use Rattle.script_grammar.specs.declared.form.Form.TheVariants as form
-use Rattle.script_grammar.specs.declared.sort.Sort.{Sort}
-use Rattle.script_grammar.specs.declared.sort.Sort.TheVariants as sort
-use Rattle.replay_script.specs.Lines.{conn_of, IsLine}
-use Rattle.replay_script.specs.Words.{IsSaid, line_in}
-use Rattle.replay_script.specs.declared.script.Line.{Line}
-use Rattle.replay_script.specs.declared.script.Line.TheVariants as line
+use Rattle.policy_declarations.specs.Declarations.{Declared, policy_index}
+use Rattle.policy_declarations.specs.DeclarationTexts.{declaration_form}
+use Rattle.script_grammar.specs.Forms.{word_kinds_of}
+use Rattle.script_grammar.specs.Lines.{HaveMeanings}
+use Rattle.script_grammar.specs.WordKinds.{Meaning, word, number, unbounded, name, HasMeaning, number_at, name_at}
+use Rattle.script_grammar.specs.Values.{WrittenValue, plain, negative, hexadecimal, IsValue, IsInRange, stored_word, is_hexadecimal, are_hexadecimal}
+use Rattle.script_grammar.specs.declared.form.LineForm.{LineForm}
+use Rattle.script_grammar.specs.declared.form.LineForm.TheVariants as form
+use Rattle.script_grammar.specs.declared.word_kind.WordKind.{WordKind}
+use Rattle.script_grammar.specs.declared.word_kind.WordKind.TheVariants as sort
+use Rattle.replay_script.specs.Lines.{conn_of, IsValidLine}
+use Rattle.replay_script.specs.Words.{IsParsedAs, line_in}
+use Rattle.replay_script.specs.declared.script.ScriptLine.{ScriptLine}
+use Rattle.replay_script.specs.declared.script.ScriptLine.TheVariants as line
 
 -- ---- the value of a word
 
@@ -47,44 +47,44 @@ sixteen_digits ds e =
     let is : 16 ^ 16 ≡ 2 ^ 64 = refl in
     omega (arith, value, power, is)
 
-value_small : (w : List ℕ) (v : Value) → IsValue w v → Fits v → word_of v < 2 ^ 64
+value_small : (w : List ℕ) (v : WrittenValue) → IsValue w v → IsInRange v → stored_word v < 2 ^ 64
 value_small w (plain n) is fits = fits
 value_small w (negative n) is fits = omega arith
 value_small w (hexadecimal digits) is fits = sixteen_digits digits is.1
 
 -- ---- the values of words
 
-pub number_said : (sorts : List Sort) (ws : List (List ℕ)) (ms : List Meaning) (k least most : ℕ)
-    → slice_get sorts k ≡ Some (sort.Number least most) → AreSaid sorts ws ms → IsIn least most (number_at ms k)
+pub number_said : (sorts : List WordKind) (ws : List (List ℕ)) (ms : List Meaning) (k least most : ℕ)
+    → slice_get sorts k ≡ Some (sort.Number least most) → HaveMeanings sorts ws ms → IsIn least most (number_at ms k)
 number_said [] ws ms k least most at said = absurd cc
 number_said (s ∷ ss) [] ms k least most at said = absurd said
 number_said (s ∷ ss) (w ∷ ws) [] k least most at said = absurd said
-number_said (s ∷ ss) (w ∷ ws) (m ∷ ms) zero least most at said = of m (subst (λ (x : Sort). Says x w m) (same_Some s (sort.Number least most) at) said.0) where
-  of : (m : Meaning) → Says (sort.Number least most) w m → IsIn least most (number_at (m ∷ ms) 0)
+number_said (s ∷ ss) (w ∷ ws) (m ∷ ms) zero least most at said = of m (subst (λ (x : WordKind). HasMeaning x w m) (same_Some s (sort.Number least most) at) said.0) where
+  of : (m : Meaning) → HasMeaning (sort.Number least most) w m → IsIn least most (number_at (m ∷ ms) 0)
   of (number n) h = h.1
   of (word k) h = absurd h
   of (unbounded d) h = absurd h
   of (name x) h = absurd h
 number_said (s ∷ ss) (w ∷ ws) (m ∷ ms) (suc k) least most at said = number_said ss ws ms k least most at said.1
 
-pub name_said : (sorts : List Sort) (ws : List (List ℕ)) (ms : List Meaning) (k : ℕ) → slice_get sorts k ≡ Some sort.Name → AreSaid sorts ws ms → IsName (name_at ms k)
+pub name_said : (sorts : List WordKind) (ws : List (List ℕ)) (ms : List Meaning) (k : ℕ) → slice_get sorts k ≡ Some sort.Name → HaveMeanings sorts ws ms → IsName (name_at ms k)
 name_said [] ws ms k at said = absurd cc
 name_said (s ∷ ss) [] ms k at said = absurd said
 name_said (s ∷ ss) (w ∷ ws) [] k at said = absurd said
-name_said (s ∷ ss) (w ∷ ws) (m ∷ ms) zero at said = of m (subst (λ (x : Sort). Says x w m) (same_Some s sort.Name at) said.0) where
-  of : (m : Meaning) → Says sort.Name w m → IsName (name_at (m ∷ ms) 0)
+name_said (s ∷ ss) (w ∷ ws) (m ∷ ms) zero at said = of m (subst (λ (x : WordKind). HasMeaning x w m) (same_Some s sort.Name at) said.0) where
+  of : (m : Meaning) → HasMeaning sort.Name w m → IsName (name_at (m ∷ ms) 0)
   of (name x) h = subst IsName (sym h.0) h.1
   of (word k) h = absurd h
   of (unbounded d) h = absurd h
   of (number n) h = absurd h
 name_said (s ∷ ss) (w ∷ ws) (m ∷ ms) (suc k) at said = name_said ss ws ms k at said.1
 
-pub value_said : (sorts : List Sort) (ws : List (List ℕ)) (ms : List Meaning) (k : ℕ) → slice_get sorts k ≡ Some sort.Value → AreSaid sorts ws ms → number_at ms k < 2 ^ 64
+pub value_said : (sorts : List WordKind) (ws : List (List ℕ)) (ms : List Meaning) (k : ℕ) → slice_get sorts k ≡ Some sort.Value → HaveMeanings sorts ws ms → number_at ms k < 2 ^ 64
 value_said [] ws ms k at said = absurd cc
 value_said (s ∷ ss) [] ms k at said = absurd said
 value_said (s ∷ ss) (w ∷ ws) [] k at said = absurd said
-value_said (s ∷ ss) (w ∷ ws) (m ∷ ms) zero at said = of m (subst (λ (x : Sort). Says x w m) (same_Some s sort.Value at) said.0) where
-  of : (m : Meaning) → Says sort.Value w m → number_at (m ∷ ms) 0 < 2 ^ 64
+value_said (s ∷ ss) (w ∷ ws) (m ∷ ms) zero at said = of m (subst (λ (x : WordKind). HasMeaning x w m) (same_Some s sort.Value at) said.0) where
+  of : (m : Meaning) → HasMeaning sort.Value w m → number_at (m ∷ ms) 0 < 2 ^ 64
   of (number n) (v, is, fits, e) = subst (λ (x : ℕ). x < 2 ^ 64) (sym e) (value_small w v is fits)
   of (word k) h = absurd h
   of (unbounded d) h = absurd h
@@ -97,7 +97,7 @@ some_by : (b : Bool) (n i : ℕ) → cond b (Some n) None ≡ Some i → (b ≡ 
 some_by true n i e = (refl, same_Some n i e)
 some_by false n i e = absurd cc
 
-pub place_within : (d : Declared) (called : List ℕ) (place : ℕ) → policy_place d called ≡ Some place → place < length d.policies
+pub place_within : (d : Declared) (called : List ℕ) (place : ℕ) → policy_index d called ≡ Some place → place < length d.policies
 place_within d called place e =
     let first : ℕ = position_or_len (λ p. bytes_eq p.name called) d.policies in
     let parts = some_by (nat_lt first (length d.policies)) first place e in
@@ -111,28 +111,28 @@ mapped f (Some x) y e = (x, refl, same_Some (f x) y e)
 
 -- ---- lines
 
-pub record IsRanged (policies : ℕ) (l : Line) : Type 0 where
+pub record IsRanged (policies : ℕ) (l : ScriptLine) : Type 0 where
   pub conn_from : 1 ≤ conn_of l
   pub conn_to : conn_of l ≤ 16
-  pub ranges : IsLine policies l
+  pub ranges : IsValidLine policies l
 
-ranged_is : (policies : ℕ) (k l : Line) → k ≡ l → IsRanged policies k → IsRanged policies l
+ranged_is : (policies : ℕ) (k l : ScriptLine) → k ≡ l → IsRanged policies k → IsRanged policies l
 ranged_is policies k l e h = subst (IsRanged policies) e h
 
-pub conn_said : (f : Form) (text : List ℕ) (m : List Meaning) → IsSaid f text m → slice_get (sorts_of f) 1 ≡ Some (sort.Number 1 16) → IsIn 1 16 (number_at m 1)
-conn_said f text m said at = number_said (sorts_of f) (words_of text) m 1 1 16 at said.said
+pub conn_said : (f : LineForm) (text : List ℕ) (m : List Meaning) → IsParsedAs f text m → slice_get (word_kinds_of f) 1 ≡ Some (sort.Number 1 16) → IsIn 1 16 (number_at m 1)
+conn_said f text m said at = number_said (word_kinds_of f) (words_of text) m 1 1 16 at said.said
 
-pub number_of : (f : Form) (text : List ℕ) (m : List Meaning) (k least most : ℕ) → IsSaid f text m
-    → slice_get (sorts_of f) k ≡ Some (sort.Number least most) → IsIn least most (number_at m k)
-number_of f text m k least most said at = number_said (sorts_of f) (words_of text) m k least most at said.said
+pub number_of : (f : LineForm) (text : List ℕ) (m : List Meaning) (k least most : ℕ) → IsParsedAs f text m
+    → slice_get (word_kinds_of f) k ≡ Some (sort.Number least most) → IsIn least most (number_at m k)
+number_of f text m k least most said at = number_said (word_kinds_of f) (words_of text) m k least most at said.said
 
-name_of : (f : Form) (text : List ℕ) (m : List Meaning) (k : ℕ) → IsSaid f text m → slice_get (sorts_of f) k ≡ Some sort.Name → IsName (name_at m k)
-name_of f text m k said at = name_said (sorts_of f) (words_of text) m k at said.said
+name_of : (f : LineForm) (text : List ℕ) (m : List Meaning) (k : ℕ) → IsParsedAs f text m → slice_get (word_kinds_of f) k ≡ Some sort.Name → IsName (name_at m k)
+name_of f text m k said at = name_said (word_kinds_of f) (words_of text) m k at said.said
 
-value_of : (f : Form) (text : List ℕ) (m : List Meaning) (k : ℕ) → IsSaid f text m → slice_get (sorts_of f) k ≡ Some sort.Value → number_at m k < 2 ^ 64
-value_of f text m k said at = value_said (sorts_of f) (words_of text) m k at said.said
+value_of : (f : LineForm) (text : List ℕ) (m : List Meaning) (k : ℕ) → IsParsedAs f text m → slice_get (word_kinds_of f) k ≡ Some sort.Value → number_at m k < 2 ^ 64
+value_of f text m k said at = value_said (word_kinds_of f) (words_of text) m k at said.said
 
-pub line_ranges : (d : Declared) (text : List ℕ) (f : Form) (m : List Meaning) (l : Line) → IsSaid f text m → line_in d f m ≡ Some l → IsRanged (length d.policies) l
+pub line_ranges : (d : Declared) (text : List ℕ) (f : LineForm) (m : List Meaning) (l : ScriptLine) → IsParsedAs f text m → line_in d f m ≡ Some l → IsRanged (length d.policies) l
 line_ranges d text form.Conn m l said e =
     let conn = conn_said form.Conn text m said refl in
     let words = number_of form.Conn text m 2 4 65536 said refl in
@@ -173,7 +173,7 @@ line_ranges d text form.Reply m l said e =
     })
 line_ranges d text form.Attach m l said e =
     let conn = conn_said form.Attach text m said refl in
-    let place = mapped (line.Attach (number_at m 1) _ (name_at m 3)) (policy_place d (name_at m 4)) l e in
+    let place = mapped (line.Attach (number_at m 1) _ (name_at m 3)) (policy_index d (name_at m 4)) l e in
     ranged_is _ (line.Attach (number_at m 1) _ (name_at m 3) place.0) l place.2
     (record { conn_from = conn.0; conn_to = conn.1; ranges = (name_of form.Attach text m 3 said refl, place_within d (name_at m 4) place.0 place.1) })
 line_ranges d text form.Detach m l said e =
@@ -181,7 +181,7 @@ line_ranges d text form.Detach m l said e =
     ranged_is _ (line.Detach (number_at m 1) (name_at m 2)) l (same_Some _ l e) (record { conn_from = conn.0; conn_to = conn.1; ranges = name_of form.Detach text m 2 said refl })
 line_ranges d text form.Upgrade m l said e =
     let conn = conn_said form.Upgrade text m said refl in
-    let place = mapped (line.Upgrade (number_at m 1) (name_at m 2)) (policy_place d (name_at m 3)) l e in
+    let place = mapped (line.Upgrade (number_at m 1) (name_at m 2)) (policy_index d (name_at m 3)) l e in
     ranged_is _ (line.Upgrade (number_at m 1) (name_at m 2) place.0) l place.2
     (record { conn_from = conn.0; conn_to = conn.1; ranges = (name_of form.Upgrade text m 2 said refl, place_within d (name_at m 3) place.0 place.1) })
 line_ranges d text form.Moment m l said e =
@@ -205,7 +205,7 @@ line_ranges d text form.Count m l said e = absurd cc
 line_ranges d text form.Redact m l said e = absurd cc
 line_ranges d text form.Close m l said e = absurd cc
 
-conn_sort : (f : Form) → item_form f ≡ None → f ≢ form.Close → slice_get (sorts_of f) 1 ≡ Some (sort.Number 1 16)
+conn_sort : (f : LineForm) → declaration_form f ≡ None → f ≢ form.Close → slice_get (word_kinds_of f) 1 ≡ Some (sort.Number 1 16)
 conn_sort form.Store item open_still = refl
 conn_sort form.Submit item open_still = refl
 conn_sort form.Reply item open_still = refl
@@ -226,5 +226,5 @@ conn_sort form.Count item open_still = absurd cc
 conn_sort form.Redact item open_still = absurd cc
 conn_sort form.Close item open_still = absurd (open_still refl)
 
-pub conn_inside : (f : Form) (text : List ℕ) (m : List Meaning) → IsSaid f text m → item_form f ≡ None → f ≢ form.Close → IsIn 1 16 (number_at m 1)
+pub conn_inside : (f : LineForm) (text : List ℕ) (m : List Meaning) → IsParsedAs f text m → declaration_form f ≡ None → f ≢ form.Close → IsIn 1 16 (number_at m 1)
 conn_inside f text m said item open_still = conn_said f text m said (conn_sort f item open_still)

@@ -5,35 +5,35 @@ use Rattle.std.specs.Prelude.{nat_lt, nat_le, if◌then◌else◌}
 use Rattle.std.proofs.lemmas.Bool.{cases_Bool, cond_both, ltb-true, ltb-false, leb-true, leb-false, and_parts, and_from, or_left, or_right, false≢true, not-true, not_from_false, not-false}
 use Rattle.std.proofs.lemmas.Slice.Eq.{bytes_eq-Decides}
 use Rattle.engine_core.specs.Policies.{is_same_kind}
-use Rattle.engine_core.specs.Chains.{Entry, Chain, Refusal, no_such, taken, no_place, full, other_kind, order_of}
-use Rattle.engine_core.specs.Chains.{IsAgainst, detaches_none, upgrades_none, is_taken, is_past, is_full, is_other}
-use Rattle.engine_core.specs.Chains.{Refuses, names_of, is_named}
+use Rattle.engine_core.specs.Chains.{Entry, Chain, Refusal, no_such, taken, no_place, full, other_kind, refusal_rank}
+use Rattle.engine_core.specs.Chains.{IsReasonToReject, detaches_none, upgrades_none, is_taken, is_past, is_full, is_other}
+use Rattle.engine_core.specs.Chains.{IsRejection, names_of, is_named}
 use Rattle.engine_core.specs.declared.policy.Policy.{Policy}
 use Rattle.engine_core.specs.declared.op.Op.{Op}
 use Rattle.engine_core.specs.declared.op.Op.TheVariants.{Attach, Detach, Upgrade}
 use Rattle.script_grammar.specs.declared.fault.ScriptReason.{ScriptReason}
 use Rattle.script_grammar.specs.declared.fault.ScriptReason.TheVariants as reason
-use Rattle.replay_script.specs.Deciding.{has_name, is_other as is_other_entry, has_other, against_op, unless}
-use Rattle.replay_script.specs.Lines.{reason_of}
+use Rattle.replay_script.specs.Deciding.{has_name, is_other as is_other_entry, has_other, op_reason, unless}
+use Rattle.replay_script.specs.Lines.{reason_of_refusal}
 
 -- ---- an attachment
 
 -- the reasons of one, in their order
-pub attach-order : (es : List Entry) (at : ℕ) (name label : List ℕ) (policy : Policy) (r : Refusal) → IsAgainst es (Attach at name label policy) r
-    → ((order_of r ≡ 2) × Contains (names_of es) name) ⊎ (((order_of r ≡ 3) × (length es < at)) ⊎ ((order_of r ≡ 4) × (8 ≤ length es)))
+pub attach-order : (es : List Entry) (at : ℕ) (name label : List ℕ) (policy : Policy) (r : Refusal) → IsReasonToReject es (Attach at name label policy) r
+    → ((refusal_rank r ≡ 2) × Contains (names_of es) name) ⊎ (((refusal_rank r ≡ 3) × (length es < at)) ⊎ ((refusal_rank r ≡ 4) × (8 ≤ length es)))
 attach-order es at name label policy r (detaches_none name' is none s) = absurd cc
 attach-order es at name label policy r (upgrades_none name' label' policy' is none s) = absurd cc
 attach-order es at name label policy r (is_taken at' name' label' policy' is has s) =
     let same : name ≡ name' = cc in
-    inl (ap order_of s, rw same has)
+    inl (ap refusal_rank s, rw same has)
 attach-order es at name label policy r (is_past at' name' label' policy' is past s) =
     let same : at ≡ at' = cc in
-    inr (inl (ap order_of s, omega arith))
-attach-order es at name label policy r (is_full at' name' label' policy' is many s) = inr (inr (ap order_of s, many))
+    inr (inl (ap refusal_rank s, omega arith))
+attach-order es at name label policy r (is_full at' name' label' policy' is many s) = inr (inr (ap refusal_rank s, many))
 attach-order es at name label policy r (is_other name' label' policy' e is there named other s) = absurd cc
 
 pub refuses-taken : (c : Chain) (at : ℕ) (name label : List ℕ) (policy : Policy) → Contains (names_of c.entries) name
-    → Refuses c (Attach at name label policy) (taken name)
+    → IsRejection c (Attach at name label policy) (taken name)
 refuses-taken c at name label policy has = record {
   against = is_taken at name label policy refl has refl;
   first = λ other less against. elim (attach-order c.entries at name label policy other against) [
@@ -43,7 +43,7 @@ refuses-taken c at name label policy has = record {
 }
 
 pub refuses-place : (c : Chain) (at : ℕ) (name label : List ℕ) (policy : Policy) → (Contains (names_of c.entries) name → ⊥) → length c.entries < at
-    → Refuses c (Attach at name label policy) (no_place at)
+    → IsRejection c (Attach at name label policy) (no_place at)
 refuses-place c at name label policy none past = record {
   against = is_past at name label policy refl past refl;
   first = λ other less against. elim (attach-order c.entries at name label policy other against) [
@@ -53,7 +53,7 @@ refuses-place c at name label policy none past = record {
 }
 
 pub refuses-full : (c : Chain) (at : ℕ) (name label : List ℕ) (policy : Policy) → (Contains (names_of c.entries) name → ⊥) → at ≤ length c.entries
-    → 8 ≤ length c.entries → Refuses c (Attach at name label policy) (full (length c.entries))
+    → 8 ≤ length c.entries → IsRejection c (Attach at name label policy) (full (length c.entries))
 refuses-full c at name label policy none within many = record {
   against = is_full at name label policy refl many refl;
   first = λ other less against. elim (attach-order c.entries at name label policy other against) [
@@ -63,7 +63,7 @@ refuses-full c at name label policy none within many = record {
 }
 
 pub free-attach : (es : List Entry) (at : ℕ) (name label : List ℕ) (policy : Policy) (r : Refusal) → (Contains (names_of es) name → ⊥) → at ≤ length es
-    → length es < 8 → IsAgainst es (Attach at name label policy) r → ⊥
+    → length es < 8 → IsReasonToReject es (Attach at name label policy) r → ⊥
 free-attach es at name label policy r none within few against = elim (attach-order es at name label policy r against) [
   | inl is ↦ none is.1
   | inr rest ↦ elim rest [ inl is ↦ omega (arith, is.1) | inr is ↦ omega (arith, is.1) ]
@@ -71,20 +71,20 @@ free-attach es at name label policy r none within few against = elim (attach-ord
 
 -- ---- an operation on the entry of a name
 
-order-least : (r : Refusal) → 1 ≤ order_of r
+order-least : (r : Refusal) → 1 ≤ refusal_rank r
 order-least (no_such name) = omega arith
 order-least (taken name) = omega arith
 order-least (no_place at) = omega arith
 order-least (full entries) = omega arith
 order-least (other_kind name) = omega arith
 
-pub refuses-detach : (c : Chain) (name : List ℕ) → (Contains (names_of c.entries) name → ⊥) → Refuses c (Detach name) (no_such name)
+pub refuses-detach : (c : Chain) (name : List ℕ) → (Contains (names_of c.entries) name → ⊥) → IsRejection c (Detach name) (no_such name)
 refuses-detach c name none = record {
   against = detaches_none name refl none refl;
   first = λ other less against. omega (arith, order-least other);
 }
 
-pub free-detach : (es : List Entry) (name : List ℕ) (r : Refusal) → Contains (names_of es) name → IsAgainst es (Detach name) r → ⊥
+pub free-detach : (es : List Entry) (name : List ℕ) (r : Refusal) → Contains (names_of es) name → IsReasonToReject es (Detach name) r → ⊥
 free-detach es name r has (detaches_none name' is none s) = let same : name ≡ name' = cc in none (rw same at has)
 free-detach es name r has (upgrades_none name' label' policy' is none s) = absurd cc
 free-detach es name r has (is_taken at' name' label' policy' is has' s) = absurd cc
@@ -93,7 +93,7 @@ free-detach es name r has (is_full at' name' label' policy' is many s) = absurd 
 free-detach es name r has (is_other name' label' policy' e is there named other s) = absurd cc
 
 pub refuses-upgrade : (c : Chain) (name label : List ℕ) (policy : Policy) → (Contains (names_of c.entries) name → ⊥)
-    → Refuses c (Upgrade name label policy) (no_such name)
+    → IsRejection c (Upgrade name label policy) (no_such name)
 refuses-upgrade c name label policy none = record {
   against = upgrades_none name label policy refl none refl;
   first = λ other less against. omega (arith, order-least other);
@@ -101,8 +101,8 @@ refuses-upgrade c name label policy none = record {
 
 -- the reason of an upgrade whose name exists: an entry with the name is of another kind
 upgrade-other : (es : List Entry) (name label : List ℕ) (policy : Policy) (r : Refusal) → Contains (names_of es) name
-    → IsAgainst es (Upgrade name label policy) r
-    → (order_of r ≡ 5) × ((e : Entry) × Contains es e × (e.name ≡ name) × (is_same_kind e.policy policy ≡ false))
+    → IsReasonToReject es (Upgrade name label policy) r
+    → (refusal_rank r ≡ 5) × ((e : Entry) × Contains es e × (e.name ≡ name) × (is_same_kind e.policy policy ≡ false))
 upgrade-other es name label policy r has (detaches_none name' is none s) = absurd cc
 upgrade-other es name label policy r has (upgrades_none name' label' policy' is none s) = let same : name ≡ name' = cc in absurd (none (rw same at has))
 upgrade-other es name label policy r has (is_taken at' name' label' policy' is has' s) = absurd cc
@@ -111,10 +111,10 @@ upgrade-other es name label policy r has (is_full at' name' label' policy' is ma
 upgrade-other es name label policy r has (is_other name' label' policy' e is there named other s) =
     let same : name ≡ name' = cc in
     let kind : policy ≡ policy' = cc in
-    (ap order_of s, (e, there, named ∙ sym same, rw kind other))
+    (ap refusal_rank s, (e, there, named ∙ sym same, rw kind other))
 
 pub refuses-kind : (c : Chain) (name label : List ℕ) (policy : Policy) (e : Entry) → Contains (names_of c.entries) name → Contains c.entries e → e.name ≡ name
-    → is_same_kind e.policy policy ≡ false → Refuses c (Upgrade name label policy) (other_kind name)
+    → is_same_kind e.policy policy ≡ false → IsRejection c (Upgrade name label policy) (other_kind name)
 refuses-kind c name label policy e has there named other = record {
   against = is_other name label policy e refl there named other refl;
   first = λ r less against. omega (arith, (upgrade-other c.entries name label policy r has against).0);
@@ -163,7 +163,7 @@ other-has name policy (y ∷ ys) e (suc k, within, same) is kind =
     (other-has name policy ys e (k, omega (arith, within), same) is kind)
 
 pub free-upgrade : (es : List Entry) (name label : List ℕ) (policy : Policy) (r : Refusal)
-    → Contains (names_of es) name → has_other name policy es ≡ false → IsAgainst es (Upgrade name label policy) r → ⊥
+    → Contains (names_of es) name → has_other name policy es ≡ false → IsReasonToReject es (Upgrade name label policy) r → ⊥
 free-upgrade es name label policy r has none against =
     let found = (upgrade-other es name label policy r has against).1 in
     false≢true (sym none ∙ other-has name policy es found.0 found.1 found.2 found.3)
@@ -171,10 +171,10 @@ free-upgrade es name label policy r has none against =
 -- ---- the verdict of the tests
 
 abbrev pub OpVerdict : Chain → Op → Option ScriptReason → Type 0
-OpVerdict c o None = (refusal : Refusal) → IsAgainst c.entries o refusal → ⊥
-OpVerdict c o (Some r) = (refusal : Refusal) × Refuses c o refusal × (r ≡ reason_of refusal)
+OpVerdict c o None = (refusal : Refusal) → IsReasonToReject c.entries o refusal → ⊥
+OpVerdict c o (Some r) = (refusal : Refusal) × IsRejection c o refusal × (r ≡ reason_of_refusal refusal)
 
-pub op_verdict : (c : Chain) (o : Op) → OpVerdict c o (against_op o c.entries)
+pub op_verdict : (c : Chain) (o : Op) → OpVerdict c o (op_reason o c.entries)
 op_verdict c (Attach at name label policy) =
     let es = c.entries in
     let o : Op = Attach at name label policy in

@@ -6,18 +6,18 @@ use Rattle.engine_core.specs.Chains.{Entry}
 use Rattle.engine_core.specs.declared.policy.Policy.{Policy}
 use Rattle.engine_core.specs.declared.policy.Policy.TheVariants as policy
 use Rattle.policy_declarations.specs.Declarations.{Declared}
-use Rattle.policy_declarations.specs.declared.item.NamedPolicy.{NamedPolicy}
+use Rattle.policy_declarations.specs.declared.declaration.NamedPolicy.{NamedPolicy}
 use Rattle.script_grammar.specs.Forms.{form_in}
-use Rattle.script_grammar.specs.Sorts.{word, number, unbounded, name}
-use Rattle.script_grammar.specs.declared.form.Form.TheVariants as form
+use Rattle.script_grammar.specs.WordKinds.{word, number, unbounded, name}
+use Rattle.script_grammar.specs.declared.form.LineForm.TheVariants as form
 use Rattle.script_grammar.specs.declared.keyword.Keyword.TheVariants as key
 use Rattle.script_grammar.specs.declared.fault.ScriptReason.{ScriptReason}
 use Rattle.script_grammar.specs.declared.fault.ScriptReason.TheVariants.{Known, Unknown, Place, NoSuch, Taken, At, ChainFull, OtherKind, Work}
-use Rattle.replay_script.specs.Deciding.{against}
-use Rattle.replay_script.specs.Lines.{heap_of, chain_of, submissions}
+use Rattle.replay_script.specs.Deciding.{reason_after}
+use Rattle.replay_script.specs.Lines.{heap_of, chain_after_lines, submissions}
 use Rattle.replay_script.specs.Words.{line_in}
-use Rattle.replay_script.specs.declared.script.Line.{Line}
-use Rattle.replay_script.specs.declared.script.Line.TheVariants as line
+use Rattle.replay_script.specs.declared.script.ScriptLine.{ScriptLine}
+use Rattle.replay_script.specs.declared.script.ScriptLine.TheVariants as line
 
 -- two counts, three quotas of three tenants, and a count
 abbrev acl : Policy
@@ -38,7 +38,7 @@ abbrev declared : Declared
 declared = record { tenants = []; policies = policies }
 
 -- the same call is submitted twice after two attachments, and the first is upgraded
-abbrev upgrading : List Line
+abbrev upgrading : List ScriptLine
 upgrading =
     line.Conn 1 16 ∷ line.Attach 1 0 (codes "acl") 0 ∷ line.Attach 1 1 (codes "rl") 2 ∷ line.Store 1 2 150 ∷ line.Submit 1 0 0 2
     ∷ line.Store 1 2 7 ∷ line.Submit 1 0 0 2 ∷ line.Turn 1 0 ∷ line.Turn 1 0 ∷ line.Turn 1 1 ∷ line.Turn 1 1 ∷ line.Upgrade 1 (codes "acl") 1
@@ -47,10 +47,10 @@ upgrading =
 abbrev entry : List ℕ → ℕ → ℕ → Policy → Entry
 entry n a v p = record { name = n; attach = a; version = v; policy = p }
 
-two_entries : (chain_of policies upgrading 1).entries ≡ entry (codes "acl") 1 2 acl ∷ entry (codes "rl") 2 1 rl ∷ []
+two_entries : (chain_after_lines policies upgrading 1).entries ≡ entry (codes "acl") 1 2 acl ∷ entry (codes "rl") 2 1 rl ∷ []
 two_entries = refl
 
-other_chain : chain_of policies upgrading 2 ≡ record { entries = []; attached = 0 }
+other_chain : chain_after_lines policies upgrading 2 ≡ record { entries = []; attached = 0 }
 other_chain = refl
 
 two_calls : submissions upgrading ≡ 2
@@ -62,7 +62,7 @@ heap_there = refl
 no_heap : heap_of upgrading 2 ≡ None
 no_heap = refl
 
-detached : (chain_of policies (upgrading ++ line.Detach 1 (codes "acl") ∷ []) 1).entries ≡ entry (codes "rl") 2 1 rl ∷ []
+detached : (chain_after_lines policies (upgrading ++ line.Detach 1 (codes "acl") ∷ []) 1).entries ≡ entry (codes "rl") 2 1 rl ∷ []
 detached = refl
 
 -- ---- the meaning of words
@@ -84,8 +84,8 @@ attach_form = refl
 
 -- ---- one faulty line for each reason, after the lines above; loads 1024
 
-abbrev first : Line → Option ScriptReason
-first l = against 1024 policies upgrading l
+abbrev first : ScriptLine → Option ScriptReason
+first l = reason_after 1024 policies upgrading l
 
 known : first (line.Conn 1 16) ≡ Some Known
 known = refl
@@ -138,23 +138,23 @@ other_kind = refl
 same_kind : first (line.Upgrade 1 (codes "acl") 0) ≡ None
 same_kind = refl
 
-abbrev eight : List Line
+abbrev eight : List ScriptLine
 eight =
     line.Conn 1 16 ∷ line.Attach 1 0 (codes "a") 0 ∷ line.Attach 1 0 (codes "b") 1 ∷ line.Attach 1 0 (codes "d") 2 ∷ line.Attach 1 0 (codes "e") 3
     ∷ line.Attach 1 0 (codes "f") 4 ∷ line.Attach 1 0 (codes "g") 5 ∷ line.Attach 1 0 (codes "h") 5 ∷ line.Attach 1 0 (codes "i") 5 ∷ []
 
-full : against 1024 policies eight (line.Attach 1 8 (codes "j") 0) ≡ Some ChainFull
+full : reason_after 1024 policies eight (line.Attach 1 8 (codes "j") 0) ≡ Some ChainFull
 full = refl
 
-full_and_past : against 1024 policies eight (line.Attach 1 9 (codes "j") 0) ≡ Some At
+full_and_past : reason_after 1024 policies eight (line.Attach 1 9 (codes "j") 0) ≡ Some At
 full_and_past = refl
 
-other_tenant : against 1024 policies eight (line.Upgrade 1 (codes "e") 4) ≡ Some OtherKind
+other_tenant : reason_after 1024 policies eight (line.Upgrade 1 (codes "e") 4) ≡ Some OtherKind
 other_tenant = refl
 
 -- two calls of 16384 words are fewer than 16777216, three of 8388608 aren't
-work : against 8388608 policies upgrading (line.Submit 1 0 0 2) ≡ Some Work
+work : reason_after 8388608 policies upgrading (line.Submit 1 0 0 2) ≡ Some Work
 work = refl
 
-much : against 5592405 policies upgrading (line.Submit 1 0 0 2) ≡ None
+much : reason_after 5592405 policies upgrading (line.Submit 1 0 0 2) ≡ None
 much = refl

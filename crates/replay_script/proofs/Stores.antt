@@ -14,15 +14,15 @@ use Rattle.std.proofs.lemmas.List.Folds.{list_all_more}
 use Rattle.std.proofs.lemmas.List.Splits.{slice_split_at, slice_split_none}
 use Rattle.mrpc_table.specs.Lines.{words_of, in_64_bits, is_decimal, number_of}
 use Rattle.mrpc_table.specs.declared.words.Decimal.TheVariants.{Small}
-use Rattle.script_grammar.specs.Forms.{form_in, sorts_of}
-use Rattle.script_grammar.specs.Lines.{AreSaid}
+use Rattle.script_grammar.specs.Forms.{form_in, word_kinds_of}
+use Rattle.script_grammar.specs.Lines.{HaveMeanings}
 use Rattle.script_grammar.specs.Values.{plain}
-use Rattle.script_grammar.specs.declared.form.Form.TheVariants as form
-use Rattle.replay_script.specs.Stores.{drain_words, store_words, submit_words, turn_words, IsNumberBefore, SaysInFront}
-use Rattle.replay_script.specs.Words.{IsSaid}
-use Rattle.replay_script.specs.declared.short.Submit.{Submit}
-use Rattle.replay_script.specs.declared.short.Turn.{Turn}
-use Rattle.replay_script.specs.declared.store.Store.{Store}
+use Rattle.script_grammar.specs.declared.form.LineForm.TheVariants as form
+use Rattle.replay_script.specs.Stores.{drain_words, store_words, submit_words, turn_words, IsNumberBefore, IsFirstLineOf}
+use Rattle.replay_script.specs.Words.{IsParsedAs}
+use Rattle.replay_script.specs.declared.short_lines.SubmitLine.{SubmitLine}
+use Rattle.replay_script.specs.declared.short_lines.TurnLine.{TurnLine}
+use Rattle.replay_script.specs.declared.store_line.StoreLine.{StoreLine}
 use Rattle.replay_script.proofs.TextLines.{one_line}
 
 -- ---- digits
@@ -108,25 +108,25 @@ small_is n small = rw (lt-ltb n (2 ^ 64) small) refl
 is_store : (line first second third : List ℕ) (conn place value : ℕ)
     → line ≡ 115 ∷ 116 ∷ 111 ∷ 114 ∷ 101 ∷ 32 ∷ first → IsNumberBefore first conn (32 ∷ second)
     → IsNumberBefore second place (32 ∷ third) → IsNumberBefore third value [] → 1 ≤ conn → conn ≤ 16
-    → IsSaid form.Store line (store_words (record { conn = conn; place = Small place; value = value }))
+    → IsParsedAs form.Store line (store_words (record { conn = conn; place = Small place; value = value }))
 is_store line first second third conn place value begins c p v low high =
-    let s : Store = record { conn = conn; place = Small place; value = value } in
+    let s : StoreLine = record { conn = conn; place = Small place; value = value } in
     let store : List ℕ = 115 ∷ 116 ∷ 111 ∷ 114 ∷ 101 ∷ [] in
     let words : words_of line ≡ store ∷ c.digits ∷ p.digits ∷ v.digits ∷ [] =
     ap words_of begins ∙ ap (λ (ws : List (List ℕ)). store ∷ ws) (word_before c
     ∙ ap (λ (ws : List (List ℕ)). c.digits ∷ ws) (word_before p ∙ ap (λ (ws : List (List ℕ)). p.digits ∷ ws) (last_word v))) in
     record {
       has_form = subst (λ (ws : List (List ℕ)). form_in ws ≡ Some form.Store) (sym words) refl;
-      said = subst (λ (ws : List (List ℕ)). AreSaid (sorts_of form.Store) ws (store_words s)) (sym words)
+      said = subst (λ (ws : List (List ℕ)). HaveMeanings (word_kinds_of form.Store) ws (store_words s)) (sym words)
           ((refl, refl), ((c.spells, (low, high)), ((place, p.spells, small_is place p.small), ((plain value, v.spells, v.small, refl), tt))));
     }
 
 is_submit : (line first second third : List ℕ) (conn method addr : ℕ)
     → line ≡ 115 ∷ 117 ∷ 98 ∷ 109 ∷ 105 ∷ 116 ∷ 32 ∷ first → IsNumberBefore first conn (32 ∷ second)
     → IsNumberBefore second method (32 ∷ third) → IsNumberBefore third addr [] → 1 ≤ conn → conn ≤ 16 → method ≤ 65535
-    → IsSaid form.Submit line (submit_words (record { conn = conn; method = method; addr = addr }))
+    → IsParsedAs form.Submit line (submit_words (record { conn = conn; method = method; addr = addr }))
 is_submit line first second third conn method addr begins c m a low high few =
-    let s : Submit = record { conn = conn; method = method; addr = addr } in
+    let s : SubmitLine = record { conn = conn; method = method; addr = addr } in
     let submit : List ℕ = 115 ∷ 117 ∷ 98 ∷ 109 ∷ 105 ∷ 116 ∷ [] in
     let words : words_of line ≡ submit ∷ c.digits ∷ m.digits ∷ a.digits ∷ [] =
     ap words_of begins ∙ ap (λ (ws : List (List ℕ)). submit ∷ ws) (word_before c
@@ -136,36 +136,36 @@ is_submit line first second third conn method addr begins c m a low high few =
     let most : addr ≤ 2 ^ 64 - 1 = omega (arith, a.small) in
     record {
       has_form = subst (λ (ws : List (List ℕ)). form_in ws ≡ Some form.Submit) (sym words) refl;
-      said = subst (λ (ws : List (List ℕ)). AreSaid (sorts_of form.Submit) ws (submit_words s)) (sym words)
+      said = subst (λ (ws : List (List ℕ)). HaveMeanings (word_kinds_of form.Submit) ws (submit_words s)) (sym words)
           ((refl, refl), ((c.spells, (low, high)), ((m.spells, (none, few)), ((a.spells, (least, most)), tt))));
     }
 
 is_turn : (line first second : List ℕ) (conn at : ℕ)
     → line ≡ 116 ∷ 117 ∷ 114 ∷ 110 ∷ 32 ∷ first → IsNumberBefore first conn (32 ∷ second)
     → IsNumberBefore second at [] → 1 ≤ conn → conn ≤ 16
-    → IsSaid form.Turn line (turn_words (record { conn = conn; at = Small at }))
+    → IsParsedAs form.Turn line (turn_words (record { conn = conn; at = Small at }))
 is_turn line first second conn at begins c a low high =
-    let t : Turn = record { conn = conn; at = Small at } in
+    let t : TurnLine = record { conn = conn; at = Small at } in
     let turn : List ℕ = 116 ∷ 117 ∷ 114 ∷ 110 ∷ [] in
     let words : words_of line ≡ turn ∷ c.digits ∷ a.digits ∷ [] =
     ap words_of begins ∙ ap (λ (ws : List (List ℕ)). turn ∷ ws) (word_before c
     ∙ ap (λ (ws : List (List ℕ)). c.digits ∷ ws) (last_word a)) in
     record {
       has_form = subst (λ (ws : List (List ℕ)). form_in ws ≡ Some form.Turn) (sym words) refl;
-      said = subst (λ (ws : List (List ℕ)). AreSaid (sorts_of form.Turn) ws (turn_words t)) (sym words)
+      said = subst (λ (ws : List (List ℕ)). HaveMeanings (word_kinds_of form.Turn) ws (turn_words t)) (sym words)
           ((refl, refl), ((c.spells, (low, high)), ((at, a.spells, small_is at a.small), tt)));
     }
 
 is_drain : (line first : List ℕ) (conn : ℕ)
     → line ≡ 100 ∷ 114 ∷ 97 ∷ 105 ∷ 110 ∷ 32 ∷ first → IsNumberBefore first conn [] → 1 ≤ conn → conn ≤ 16
-    → IsSaid form.Drain line (drain_words conn)
+    → IsParsedAs form.Drain line (drain_words conn)
 is_drain line first conn begins c low high =
     let drain : List ℕ = 100 ∷ 114 ∷ 97 ∷ 105 ∷ 110 ∷ [] in
     let words : words_of line ≡ drain ∷ c.digits ∷ [] =
     ap words_of begins ∙ ap (λ (ws : List (List ℕ)). drain ∷ ws) (last_word c) in
     record {
       has_form = subst (λ (ws : List (List ℕ)). form_in ws ≡ Some form.Drain) (sym words) refl;
-      said = subst (λ (ws : List (List ℕ)). AreSaid (sorts_of form.Drain) ws (drain_words conn)) (sym words)
+      said = subst (λ (ws : List (List ℕ)). HaveMeanings (word_kinds_of form.Drain) ws (drain_words conn)) (sym words)
           ((refl, refl), ((c.spells, (low, high)), tt));
     }
 
@@ -214,7 +214,7 @@ with_rest w line = record { digits = w.digits; parts = refl; are_digits = w.are_
 pub store_in_front : (text first second third rest : List ℕ) (conn place value : ℕ)
     → text ≡ 115 ∷ 116 ∷ 111 ∷ 114 ∷ 101 ∷ 32 ∷ first → IsNumberBefore first conn (32 ∷ second)
     → IsNumberBefore second place (32 ∷ third) → IsNumberBefore third value (10 ∷ rest) → 1 ≤ conn → conn ≤ 16
-    → SaysInFront form.Store text (store_words (record { conn = conn; place = Small place; value = value })) rest
+    → IsFirstLineOf form.Store text (store_words (record { conn = conn; place = Small place; value = value })) rest
 unfolding fed_more fed_end
 store_in_front text first second third rest conn place value begins c p v low high =
     let end = fed_end v in
@@ -234,7 +234,7 @@ store_in_front text first second third rest conn place value begins c p v low hi
 pub submit_in_front : (text first second third rest : List ℕ) (conn method addr : ℕ)
     → text ≡ 115 ∷ 117 ∷ 98 ∷ 109 ∷ 105 ∷ 116 ∷ 32 ∷ first → IsNumberBefore first conn (32 ∷ second)
     → IsNumberBefore second method (32 ∷ third) → IsNumberBefore third addr (10 ∷ rest) → 1 ≤ conn → conn ≤ 16 → method ≤ 65535
-    → SaysInFront form.Submit text (submit_words (record { conn = conn; method = method; addr = addr })) rest
+    → IsFirstLineOf form.Submit text (submit_words (record { conn = conn; method = method; addr = addr })) rest
 unfolding fed_more fed_end
 submit_in_front text first second third rest conn method addr begins c m a low high few =
     let end = fed_end a in
@@ -254,7 +254,7 @@ submit_in_front text first second third rest conn method addr begins c m a low h
 pub turn_in_front : (text first second rest : List ℕ) (conn at : ℕ)
     → text ≡ 116 ∷ 117 ∷ 114 ∷ 110 ∷ 32 ∷ first → IsNumberBefore first conn (32 ∷ second)
     → IsNumberBefore second at (10 ∷ rest) → 1 ≤ conn → conn ≤ 16
-    → SaysInFront form.Turn text (turn_words (record { conn = conn; at = Small at })) rest
+    → IsFirstLineOf form.Turn text (turn_words (record { conn = conn; at = Small at })) rest
 unfolding fed_more fed_end
 turn_in_front text first second rest conn at begins c a low high =
     let end = fed_end a in
@@ -272,7 +272,7 @@ turn_in_front text first second rest conn at begins c a low high =
 
 pub drain_in_front : (text first rest : List ℕ) (conn : ℕ)
     → text ≡ 100 ∷ 114 ∷ 97 ∷ 105 ∷ 110 ∷ 32 ∷ first → IsNumberBefore first conn (10 ∷ rest) → 1 ≤ conn → conn ≤ 16
-    → SaysInFront form.Drain text (drain_words conn) rest
+    → IsFirstLineOf form.Drain text (drain_words conn) rest
 unfolding fed_end
 drain_in_front text first rest conn begins c low high =
     let end = fed_end c in

@@ -7,16 +7,16 @@ use Rattle.engine_core.specs.declared.op.Op.{Op}
 use Rattle.engine_core.specs.declared.op.Op.TheVariants as op
 use Rattle.engine_core.specs.declared.policy.Policy.{Policy}
 use Rattle.policy_declarations.specs.Declarations.{Declared}
-use Rattle.policy_declarations.specs.declared.item.NamedPolicy.{NamedPolicy}
-use Rattle.script_grammar.specs.Sorts.{Meaning}
-use Rattle.script_grammar.specs.declared.form.Form.{Form}
+use Rattle.policy_declarations.specs.declared.declaration.NamedPolicy.{NamedPolicy}
+use Rattle.script_grammar.specs.WordKinds.{Meaning}
+use Rattle.script_grammar.specs.declared.form.LineForm.{LineForm}
 use Rattle.script_grammar.specs.declared.fault.ScriptReason.{ScriptReason}
 use Rattle.script_grammar.specs.declared.fault.ScriptReason.TheVariants.{Known, Unknown, Place, NoSuch, Taken, At, ChainFull, OtherKind, Work}
-use Rattle.replay_script.specs.Lines.{conn_of, op_in, heap_of, chain_of, submissions}
+use Rattle.replay_script.specs.Lines.{conn_of, op_in, heap_of, chain_after_lines, submissions}
 use Rattle.replay_script.specs.Words.{line_in}
 use Rattle.replay_script.specs.declared.limits.TheConstants.{MAX_WORK}
-use Rattle.replay_script.specs.declared.script.Line.{Line}
-use Rattle.replay_script.specs.declared.script.Line.TheVariants.{Conn, Store, Race, Submit, Turn}
+use Rattle.replay_script.specs.declared.script.ScriptLine.{ScriptLine}
+use Rattle.replay_script.specs.declared.script.ScriptLine.TheVariants.{Conn, Store, Race, Submit, Turn}
 
 abbrev pub unless : Bool → ScriptReason → Option ScriptReason
 unless right reason = if right then None else Some reason
@@ -34,50 +34,54 @@ abbrev pub has_other : List ℕ → Policy → List Entry → Bool
 has_other name policy entries = list_any (is_other name policy) entries
 
 -- the reason of an operation
-abbrev pub against_op : Op → List Entry → Option ScriptReason
-against_op (op.Attach at name label policy) entries =
+abbrev pub op_reason : Op → List Entry → Option ScriptReason
+op_reason (op.Attach at name label policy) entries =
     if has_name name entries then Some Taken else if nat_lt (length entries) at then Some At
     else if nat_le 8 (length entries) then Some ChainFull else None
-against_op (op.Detach name) entries = unless (has_name name entries) NoSuch
-against_op (op.Upgrade name label policy) entries =
+op_reason (op.Detach name) entries = unless (has_name name entries) NoSuch
+op_reason (op.Upgrade name label policy) entries =
     if has_name name entries then unless (not (has_other name policy entries)) OtherKind else Some NoSuch
 
-abbrev pub against_some_op : Option Op → List Entry → Option ScriptReason
-against_some_op None entries = None
-against_some_op (Some o) entries = against_op o entries
+abbrev pub some_op_reason : Option Op → List Entry → Option ScriptReason
+some_op_reason None entries = None
+some_op_reason (Some o) entries = op_reason o entries
 
 -- the reason of a line of an open connection with a heap of this many words
-abbrev pub against_open : (loads : ℕ) → List NamedPolicy → (words : ℕ) → List Entry → (submitted : ℕ) → Line
+abbrev pub open_line_reason : (loads : ℕ) → List NamedPolicy → (words : ℕ) → List Entry → (submitted : ℕ) → ScriptLine
     → Option ScriptReason
-against_open loads policies words entries submitted (Store conn place value) = unless (is_place words place) Place
-against_open loads policies words entries submitted (Race conn load place value) =
+open_line_reason loads policies words entries submitted (Store conn place value) = unless (is_place words place) Place
+open_line_reason loads policies words entries submitted (Race conn load place value) =
     unless (nat_le 1 load && is_place words place) Place
-against_open loads policies words entries submitted (Submit conn method number addr) =
+open_line_reason loads policies words entries submitted (Submit conn method number addr) =
     unless (nat_le ((submitted + 1) * loads) MAX_WORK) Work
-against_open loads policies words entries submitted (Turn conn at) = unless (nat_lt at (length entries)) At
-against_open loads policies words entries submitted l = against_some_op (op_in policies l) entries
+open_line_reason loads policies words entries submitted (Turn conn at) = unless (nat_lt at (length entries)) At
+open_line_reason loads policies words entries submitted l = some_op_reason (op_in policies l) entries
 
-abbrev pub against_known : (loads : ℕ) → List NamedPolicy → (heap : Option ℕ) → List Entry → (submitted : ℕ) → Line
+abbrev pub known_line_reason : (loads : ℕ) → List NamedPolicy → (heap : Option ℕ) → List Entry → (submitted : ℕ)
+    → ScriptLine
     → Option ScriptReason
-against_known loads policies None entries submitted (Conn conn words) = None
-against_known loads policies (Some other) entries submitted (Conn conn words) = Some Known
-against_known loads policies None entries submitted l = Some Unknown
-against_known loads policies (Some words) entries submitted l = against_open loads policies words entries submitted l
+known_line_reason loads policies None entries submitted (Conn conn words) = None
+known_line_reason loads policies (Some other) entries submitted (Conn conn words) = Some Known
+known_line_reason loads policies None entries submitted l = Some Unknown
+known_line_reason loads policies (Some words) entries submitted l = open_line_reason loads policies words entries
+    submitted l
 
 -- the reason of a line after these
-abbrev pub against : (loads : ℕ) → List NamedPolicy → List Line → Line → Option ScriptReason
-against loads policies before l =
-    against_known loads policies (heap_of before (conn_of l)) (chain_of policies before (conn_of l)).entries
+abbrev pub reason_after : (loads : ℕ) → List NamedPolicy → List ScriptLine → ScriptLine → Option ScriptReason
+reason_after loads policies before l =
+    known_line_reason loads policies (heap_of before (conn_of l))
+    (chain_after_lines policies before (conn_of l)).entries
     (submissions before) l
 
-abbrev pub decided_by : Line → Option ScriptReason → Result Line ScriptReason
+abbrev pub decided_by : ScriptLine → Option ScriptReason → Result ScriptLine ScriptReason
 decided_by l None = Ok l
 decided_by l (Some reason) = Err reason
 
-abbrev pub decided : (loads : ℕ) → List NamedPolicy → List Line → Option Line → Result Line ScriptReason
+abbrev pub decided : (loads : ℕ) → List NamedPolicy → List ScriptLine → Option ScriptLine
+    → Result ScriptLine ScriptReason
 decided loads policies before None = Err Unknown
-decided loads policies before (Some l) = decided_by l (against loads policies before l)
+decided loads policies before (Some l) = decided_by l (reason_after loads policies before l)
 
 -- the line that words mean after these lines, or its first reason
-abbrev pub decide : (loads : ℕ) → Declared → List Line → Form → List Meaning → Result Line ScriptReason
+abbrev pub decide : (loads : ℕ) → Declared → List ScriptLine → LineForm → List Meaning → Result ScriptLine ScriptReason
 decide loads d before f m = decided loads d.policies before (line_in d f m)

@@ -1,12 +1,12 @@
 pub mod Changes
 pub mod Deciding
 pub mod Keeping
-pub mod Kinds
-pub mod Known
+pub mod EntryKinds
+pub mod WordLaws
 pub mod Lines
 pub mod Words
-pub mod Offences
+pub mod LineReasons
 pub mod Stopping
 pub mod Stores
 pub mod Texts
-pub mod Usual
+pub mod Frequent

@@ -2,24 +2,24 @@
 use Rattle.std.specs.Prelude.{◌≡◌, ℕ, ◌^◌, ◌<◌, true, List, [], ◌∷◌, ◌++◌}
 use Rattle.std.specs.Char.{is_ascii_digit}
 use Rattle.std.specs.List.{list_all}
-use Rattle.script_grammar.specs.Sorts.{Meaning, word, number, unbounded}
+use Rattle.script_grammar.specs.WordKinds.{Meaning, word, number, unbounded}
 use Rattle.script_grammar.specs.Values.{IsNumber}
 use Rattle.script_grammar.specs.declared.keyword.Keyword.TheVariants as keyword
-use Rattle.script_grammar.specs.declared.form.Form.{Form}
+use Rattle.script_grammar.specs.declared.form.LineForm.{LineForm}
 use Rattle.replay_script.specs.Texts.{IsLineBefore}
-use Rattle.replay_script.specs.Words.{IsSaid}
-use Rattle.replay_script.specs.declared.short.Submit.{Submit}
-use Rattle.replay_script.specs.declared.short.Turn.{Turn}
-use Rattle.replay_script.specs.declared.store.Store.{Store}
+use Rattle.replay_script.specs.Words.{IsParsedAs}
+use Rattle.replay_script.specs.declared.short_lines.SubmitLine.{SubmitLine}
+use Rattle.replay_script.specs.declared.short_lines.TurnLine.{TurnLine}
+use Rattle.replay_script.specs.declared.store_line.StoreLine.{StoreLine}
 
-abbrev pub store_words : Store → List Meaning
+abbrev pub store_words : StoreLine → List Meaning
 store_words s = word keyword.Store ∷ number s.conn ∷ unbounded s.place ∷ number s.value ∷ []
 
 -- the values of a request's line
-abbrev pub submit_words : Submit → List Meaning
+abbrev pub submit_words : SubmitLine → List Meaning
 submit_words s = word keyword.Submit ∷ number s.conn ∷ number s.method ∷ number s.addr ∷ []
 
-abbrev pub turn_words : Turn → List Meaning
+abbrev pub turn_words : TurnLine → List Meaning
 turn_words t = word keyword.Turn ∷ number t.conn ∷ unbounded t.at ∷ []
 
 abbrev pub drain_words : (conn : ℕ) → List Meaning
@@ -34,7 +34,7 @@ pub record IsNumberBefore (text : List ℕ) (n : ℕ) (rest : List ℕ) : Type 0
   pub small : n < 2 ^ 64
 
 -- the first line of a text has these values, and this is the remainder
-pub record SaysInFront (f : Form) (text : List ℕ) (meanings : List Meaning) (rest : List ℕ) : Type 0 where
+pub record IsFirstLineOf (f : LineForm) (text : List ℕ) (meanings : List Meaning) (rest : List ℕ) : Type 0 where
   pub line : List ℕ
   pub before : IsLineBefore text line rest
-  pub said : IsSaid f line meanings
+  pub said : IsParsedAs f line meanings

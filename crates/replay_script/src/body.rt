@@ -4,27 +4,27 @@ ghost use Rattle.std.specs.Prelude.{◌≡◌, ◌+◌, ◌*◌, ◌<◌, ◌≤
 ghost use Rattle.mrpc_table.specs.Lines.{IsIn};
 ghost use Rattle.mrpc_table.specs.declared.limits.TheConstants.{MAX_HEAP, MAX_LOADS};
 ghost use Rattle.script_grammar.specs.Meanings.{meanings_of};
-ghost use Rattle.script_grammar.specs.Sorts.{number_at};
+ghost use Rattle.script_grammar.specs.WordKinds.{number_at};
 ghost use Rattle.replay_script.specs.Stores.{drain_words, store_words, submit_words, turn_words};
-ghost use Rattle.replay_script.specs.Words.{IsSaid};
-ghost use Rattle.replay_script.specs.Keeping.{words_kept, heap_kept, place_kept, load_kept, work_kept, policy_kept, kind_at, conn_said, store_said, race_said, submit_said, attaching, attach_said, detaching, detach_said, upgrading, upgrade_said, turn_said, moment_said, send_said, drain_said, line_said, IsMade, IsFreshBody, CanAdd, connections_after, submissions_after};
+ghost use Rattle.replay_script.specs.Words.{IsParsedAs};
+ghost use Rattle.replay_script.specs.Keeping.{words_kept, heap_kept, place_kept, load_kept, work_kept, policy_kept, entry_kind_at, line_of_conn, line_of_store, line_of_race, line_of_submit, attaching, line_of_attach, detaching, line_of_detach, upgrading, line_of_upgrade, line_of_turn, line_of_moment, line_of_send, line_of_drain, line_of_form, IsMade, IsEmptyBody, CanAdd, connections_after, submissions_after};
 
-use crate::chain::{Kind, Link};
-use crate::connections::Connections;
+use crate::chain::{EntryKind, EntryOutline};
+use crate::connections::ConnectionStates;
 use crate::limits::MAX_WORK;
-use crate::script::{Line, Lines};
-use crate::short::{Submit, Turn};
-use crate::store::Store;
+use crate::script::{ScriptLine, ScriptLines};
+use crate::short_lines::{SubmitLine, TurnLine};
+use crate::store_line::StoreLine;
 use mrpc_table::{Decimal, Memory, Name};
 use policy_declarations::Declarations;
-use script_grammar::{Form, Said, ScriptReason, name_at, number_at, unbounded_at};
+use script_grammar::{LineForm, ScriptReason, WordValue, name_at, number_at, unbounded_at};
 use std::alloc::Global;
 
 // The action lines so far, and the state after them.
 #[derive(Drop)]
 pub(crate) struct Body {
-    pub lines: Lines,
-    pub connections: Connections,
+    pub lines: ScriptLines,
+    pub connections: ConnectionStates,
     // The number of submissions.
     pub submissions: u64,
     pub closed: bool,
@@ -32,30 +32,30 @@ pub(crate) struct Body {
 
 // Why words make no line.
 #[derive(Clone, Copy)]
-pub(crate) enum Flaw {
+pub(crate) enum LineError {
     // They have this reason.
     Reason(ScriptReason),
     // Out of memory.
     Memory,
 }
 
-impl From<Memory> for Flaw {
-    ghost use Rattle.replay_script.specs.declared.body.Flaw.TheVariants as flaw;
+impl From<Memory> for LineError {
+    ghost use Rattle.replay_script.specs.declared.body.LineError.TheVariants as flaw;
 
     ghost from_gives = { λ _ e. e ≡ flaw.Memory };
 
-    fn from(_: Memory) -> Flaw {
-        Flaw::Memory
+    fn from(_: Memory) -> LineError {
+        LineError::Memory
     }
 }
 
-impl From<ScriptReason> for Flaw {
-    ghost use Rattle.replay_script.specs.declared.body.Flaw.TheVariants as flaw;
+impl From<ScriptReason> for LineError {
+    ghost use Rattle.replay_script.specs.declared.body.LineError.TheVariants as flaw;
 
     ghost from_gives = { λ reason e. e ≡ flaw.Reason reason };
 
-    fn from(reason: ScriptReason) -> Flaw {
-        Flaw::Reason(reason)
+    fn from(reason: ScriptReason) -> LineError {
+        LineError::Reason(reason)
     }
 }
 
@@ -91,22 +91,22 @@ fn policy_in(declared: &Declarations, name: &[u8]) -> Result<usize, ScriptReason
 }
 
 // Makes a flaw of a reason.
-fn made(said: Result<Line, ScriptReason>) -> Result<Line, Flaw>
+fn made(said: Result<ScriptLine, ScriptReason>) -> Result<ScriptLine, LineError>
     ensures { IsMade said result }
 {
     match said {
         Ok(line) => Ok(line),
-        Err(reason) => Err(Flaw::Reason(reason)),
+        Err(reason) => Err(LineError::Reason(reason)),
     }
 }
 
 // The kind of the declared policy at an index.
-fn kind_at(declared: &Declarations, place: usize) -> Kind
-    ensures { result ≡ kind_at declared.now place }
+fn kind_at(declared: &Declarations, place: usize) -> EntryKind
+    ensures { result ≡ entry_kind_at declared.now place }
 {
     match declared.policies().get(place) {
-        Some(named) => Kind::of(&named.policy),
-        None => Kind::Count,
+        Some(named) => EntryKind::of(&named.policy),
+        None => EntryKind::Count,
     }
 }
 
@@ -123,15 +123,15 @@ impl Body {
         }
     }
 
-    fn conn(&self, words: &[Said<'_>]) -> Result<Line, ScriptReason>
+    fn conn(&self, words: &[WordValue<'_>]) -> Result<ScriptLine, ScriptReason>
         requires conn { IsIn 1 16 (number_at (meanings_of words.now) 1) }
         requires words { number_at (meanings_of words.now) 2 ≤ MAX_HEAP }
-        ensures { result ≡ conn_said self.now (meanings_of words.now) }
+        ensures { result ≡ line_of_conn self.now (meanings_of words.now) }
     {
         let conn = number_at(words, 1);
         match self.connections.at(conn).words {
             Some(_) => Err(ScriptReason::Known),
-            None => Ok(Line::Conn {
+            None => Ok(ScriptLine::Conn {
                 conn: conn as u32,
                 words: number_at(words, 2) as u32,
             }),
@@ -140,42 +140,42 @@ impl Body {
 
     // Makes the line that stores a word, if the connection is open and its heap has the place.
     #[inline(always)]
-    #[tactic(auto, unfolding(crate::specs::Keeping::store_said))]
-    pub(crate) fn stored(&self, store: Store) -> Result<Line, ScriptReason>
+    #[tactic(auto, unfolding(crate::specs::Keeping::line_of_store))]
+    pub(crate) fn stored(&self, store: StoreLine) -> Result<ScriptLine, ScriptReason>
         requires { IsIn 1 16 store.conn }
-        ensures { result ≡ store_said self.now (store_words store) }
+        ensures { result ≡ line_of_store self.now (store_words store) }
     {
         let heap = self.heap(store.conn)?;
         let place = place_in(heap, store.place)?;
-        Ok(Line::Store {
+        Ok(ScriptLine::Store {
             conn: store.conn as u32,
             place,
             value: store.value,
         })
     }
 
-    #[tactic(auto, unfolding(crate::specs::Keeping::store_said))]
-    fn store(&self, words: &[Said<'_>]) -> Result<Line, ScriptReason>
+    #[tactic(auto, unfolding(crate::specs::Keeping::line_of_store))]
+    fn store(&self, words: &[WordValue<'_>]) -> Result<ScriptLine, ScriptReason>
         requires { IsIn 1 16 (number_at (meanings_of words.now) 1) }
-        ensures { result ≡ store_said self.now (meanings_of words.now) }
+        ensures { result ≡ line_of_store self.now (meanings_of words.now) }
     {
-        self.stored(Store {
+        self.stored(StoreLine {
             conn: number_at(words, 1),
             place: unbounded_at(words, 2),
             value: number_at(words, 3),
         })
     }
 
-    #[tactic(auto, unfolding(crate::specs::Keeping::race_said))]
-    fn race(&self, words: &[Said<'_>]) -> Result<Line, ScriptReason>
+    #[tactic(auto, unfolding(crate::specs::Keeping::line_of_race))]
+    fn race(&self, words: &[WordValue<'_>]) -> Result<ScriptLine, ScriptReason>
         requires { IsIn 1 16 (number_at (meanings_of words.now) 1) }
-        ensures { result ≡ race_said self.now (meanings_of words.now) }
+        ensures { result ≡ line_of_race self.now (meanings_of words.now) }
     {
         let conn = number_at(words, 1);
         let heap = self.heap(conn)?;
         let load = load_of(number_at(words, 2))?;
         let place = place_in(heap, unbounded_at(words, 3))?;
-        Ok(Line::Race {
+        Ok(ScriptLine::Race {
             conn: conn as u32,
             load,
             place,
@@ -198,23 +198,23 @@ impl Body {
 
     // Makes the line that submits a call, a request if `number` is 0. The connection has to be open, and the calls may
     // not exceed their limit of loads.
-    #[tactic(auto, unfolding(crate::specs::Keeping::submit_said))]
+    #[tactic(auto, unfolding(crate::specs::Keeping::line_of_submit))]
     pub(crate) fn submitted(
         &self,
         loads: u64,
-        submit: Submit,
+        submit: SubmitLine,
         number: u64,
-    ) -> Result<Line, ScriptReason>
+    ) -> Result<ScriptLine, ScriptReason>
         requires conn { IsIn 1 16 submit.conn }
         requires method { submit.method ≤ 65535 }
         requires number { number < 2 ^ 32 }
         requires small { loads ≤ MAX_LOADS }
         requires few { self.now.submissions ≤ MAX_WORK }
-        ensures { result ≡ submit_said loads self.now (submit_words submit) number }
+        ensures { result ≡ line_of_submit loads self.now (submit_words submit) number }
     {
         self.heap(submit.conn)?;
         self.has_room(loads)?;
-        Ok(Line::Submit {
+        Ok(ScriptLine::Submit {
             conn: submit.conn as u32,
             method: submit.method as u16,
             number: number as u32,
@@ -222,16 +222,21 @@ impl Body {
         })
     }
 
-    #[tactic(auto, unfolding(crate::specs::Keeping::submit_said))]
-    fn submit(&self, loads: u64, words: &[Said<'_>], number: u64) -> Result<Line, ScriptReason>
+    #[tactic(auto, unfolding(crate::specs::Keeping::line_of_submit))]
+    fn submit(
+        &self,
+        loads: u64,
+        words: &[WordValue<'_>],
+        number: u64,
+    ) -> Result<ScriptLine, ScriptReason>
         requires conn { IsIn 1 16 (number_at (meanings_of words.now) 1) }
         requires method { number_at (meanings_of words.now) 2 ≤ 65535 }
         requires number { number < 2 ^ 32 }
         requires small { loads ≤ MAX_LOADS }
         requires few { self.now.submissions ≤ MAX_WORK }
-        ensures { result ≡ submit_said loads self.now (meanings_of words.now) number }
+        ensures { result ≡ line_of_submit loads self.now (meanings_of words.now) number }
     {
-        let submit = Submit {
+        let submit = SubmitLine {
             conn: number_at(words, 1),
             method: number_at(words, 2),
             addr: number_at(words, 3),
@@ -244,7 +249,7 @@ impl Body {
     fn attaching(
         &self,
         declared: &Declarations,
-        words: &[Said<'_>],
+        words: &[WordValue<'_>],
     ) -> Result<(u32, usize), ScriptReason>
         requires { IsIn 1 16 (number_at (meanings_of words.now) 1) }
         ensures { result ≡ attaching declared.now self.now (meanings_of words.now) }
@@ -253,7 +258,7 @@ impl Body {
         self.heap(conn)?;
         let policy = policy_in(declared, name_at(words, 4))?;
         let links = &self.connections.at(conn).links;
-        let at = links.attach_against(unbounded_at(words, 2), name_at(words, 3))?;
+        let at = links.attach_position(unbounded_at(words, 2), name_at(words, 3))?;
         Ok((at, policy))
     }
 
@@ -261,13 +266,13 @@ impl Body {
         &self,
         alloc: Global,
         declared: &Declarations,
-        words: &[Said<'_>],
-    ) -> Result<Line, Flaw>
+        words: &[WordValue<'_>],
+    ) -> Result<ScriptLine, LineError>
         requires { IsIn 1 16 (number_at (meanings_of words.now) 1) }
-        ensures { IsMade (attach_said declared.now self.now (meanings_of words.now)) result }
+        ensures { IsMade (line_of_attach declared.now self.now (meanings_of words.now)) result }
     {
         let (at, policy) = self.attaching(declared, words)?;
-        Ok(Line::Attach {
+        Ok(ScriptLine::Attach {
             conn: number_at(words, 1) as u32,
             at,
             name: Name::from_slice(alloc, name_at(words, 3))?,
@@ -276,7 +281,7 @@ impl Body {
     }
 
     #[tactic(auto, unfolding(crate::specs::Keeping::detaching))]
-    fn detaching(&self, words: &[Said<'_>]) -> Result<(), ScriptReason>
+    fn detaching(&self, words: &[WordValue<'_>]) -> Result<(), ScriptReason>
         requires { IsIn 1 16 (number_at (meanings_of words.now) 1) }
         ensures { result ≡ detaching self.now (meanings_of words.now) }
     {
@@ -285,15 +290,15 @@ impl Body {
         self.connections
             .at(conn)
             .links
-            .detach_against(name_at(words, 2))
+            .check_detach(name_at(words, 2))
     }
 
-    fn detach(&self, alloc: Global, words: &[Said<'_>]) -> Result<Line, Flaw>
+    fn detach(&self, alloc: Global, words: &[WordValue<'_>]) -> Result<ScriptLine, LineError>
         requires { IsIn 1 16 (number_at (meanings_of words.now) 1) }
-        ensures { IsMade (detach_said self.now (meanings_of words.now)) result }
+        ensures { IsMade (line_of_detach self.now (meanings_of words.now)) result }
     {
         self.detaching(words)?;
-        Ok(Line::Detach {
+        Ok(ScriptLine::Detach {
             conn: number_at(words, 1) as u32,
             name: Name::from_slice(alloc, name_at(words, 2))?,
         })
@@ -301,7 +306,11 @@ impl Body {
 
     // The index of the declared policy that an entry gets.
     #[tactic(auto, unfolding(crate::specs::Keeping::upgrading))]
-    fn upgrading(&self, declared: &Declarations, words: &[Said<'_>]) -> Result<usize, ScriptReason>
+    fn upgrading(
+        &self,
+        declared: &Declarations,
+        words: &[WordValue<'_>],
+    ) -> Result<usize, ScriptReason>
         requires { IsIn 1 16 (number_at (meanings_of words.now) 1) }
         ensures { result ≡ upgrading declared.now self.now (meanings_of words.now) }
     {
@@ -310,7 +319,7 @@ impl Body {
         let policy = policy_in(declared, name_at(words, 3))?;
         let kind = kind_at(declared, policy);
         let links = &self.connections.at(conn).links;
-        links.upgrade_against(name_at(words, 2), kind)?;
+        links.check_upgrade(name_at(words, 2), kind)?;
         Ok(policy)
     }
 
@@ -318,13 +327,13 @@ impl Body {
         &self,
         alloc: Global,
         declared: &Declarations,
-        words: &[Said<'_>],
-    ) -> Result<Line, Flaw>
+        words: &[WordValue<'_>],
+    ) -> Result<ScriptLine, LineError>
         requires { IsIn 1 16 (number_at (meanings_of words.now) 1) }
-        ensures { IsMade (upgrade_said declared.now self.now (meanings_of words.now)) result }
+        ensures { IsMade (line_of_upgrade declared.now self.now (meanings_of words.now)) result }
     {
         let policy = self.upgrading(declared, words)?;
-        Ok(Line::Upgrade {
+        Ok(ScriptLine::Upgrade {
             conn: number_at(words, 1) as u32,
             name: Name::from_slice(alloc, name_at(words, 2))?,
             policy,
@@ -332,67 +341,67 @@ impl Body {
     }
 
     // Makes the line of a turn, if the connection is open and has an engine at the position.
-    #[tactic(auto, unfolding(crate::specs::Keeping::turn_said))]
-    pub(crate) fn turned(&self, turn: Turn) -> Result<Line, ScriptReason>
+    #[tactic(auto, unfolding(crate::specs::Keeping::line_of_turn))]
+    pub(crate) fn turned(&self, turn: TurnLine) -> Result<ScriptLine, ScriptReason>
         requires { IsIn 1 16 turn.conn }
-        ensures { result ≡ turn_said self.now (turn_words turn) }
+        ensures { result ≡ line_of_turn self.now (turn_words turn) }
     {
         self.heap(turn.conn)?;
         let at = self.connections.at(turn.conn).links.engine(turn.at)?;
-        Ok(Line::Turn {
+        Ok(ScriptLine::Turn {
             conn: turn.conn as u32,
             at,
         })
     }
 
-    #[tactic(auto, unfolding(crate::specs::Keeping::turn_said))]
-    fn turn(&self, words: &[Said<'_>]) -> Result<Line, ScriptReason>
+    #[tactic(auto, unfolding(crate::specs::Keeping::line_of_turn))]
+    fn turn(&self, words: &[WordValue<'_>]) -> Result<ScriptLine, ScriptReason>
         requires { IsIn 1 16 (number_at (meanings_of words.now) 1) }
-        ensures { result ≡ turn_said self.now (meanings_of words.now) }
+        ensures { result ≡ line_of_turn self.now (meanings_of words.now) }
     {
-        self.turned(Turn {
+        self.turned(TurnLine {
             conn: number_at(words, 1),
             at: unbounded_at(words, 2),
         })
     }
 
-    #[tactic(auto, unfolding(crate::specs::Keeping::used_said))]
-    fn moment(&self, words: &[Said<'_>]) -> Result<Line, ScriptReason>
+    #[tactic(auto, unfolding(crate::specs::Keeping::line_of_open))]
+    fn moment(&self, words: &[WordValue<'_>]) -> Result<ScriptLine, ScriptReason>
         requires { IsIn 1 16 (number_at (meanings_of words.now) 1) }
-        ensures { result ≡ moment_said self.now (meanings_of words.now) }
+        ensures { result ≡ line_of_moment self.now (meanings_of words.now) }
     {
         let conn = number_at(words, 1);
         self.heap(conn)?;
-        Ok(Line::Moment {
+        Ok(ScriptLine::Moment {
             conn: conn as u32,
             ms: number_at(words, 2),
         })
     }
 
-    #[tactic(auto, unfolding(crate::specs::Keeping::used_said))]
-    fn send(&self, words: &[Said<'_>]) -> Result<Line, ScriptReason>
+    #[tactic(auto, unfolding(crate::specs::Keeping::line_of_open))]
+    fn send(&self, words: &[WordValue<'_>]) -> Result<ScriptLine, ScriptReason>
         requires { IsIn 1 16 (number_at (meanings_of words.now) 1) }
-        ensures { result ≡ send_said self.now (meanings_of words.now) }
+        ensures { result ≡ line_of_send self.now (meanings_of words.now) }
     {
         let conn = number_at(words, 1);
         self.heap(conn)?;
-        Ok(Line::Send { conn: conn as u32 })
+        Ok(ScriptLine::Send { conn: conn as u32 })
     }
 
     // Makes the line that drains a connection, if it is open.
-    #[tactic(auto, unfolding(crate::specs::Keeping::used_said))]
-    pub(crate) fn drained(&self, conn: u64) -> Result<Line, ScriptReason>
+    #[tactic(auto, unfolding(crate::specs::Keeping::line_of_open))]
+    pub(crate) fn drained(&self, conn: u64) -> Result<ScriptLine, ScriptReason>
         requires { IsIn 1 16 conn }
-        ensures { result ≡ drain_said self.now (drain_words conn) }
+        ensures { result ≡ line_of_drain self.now (drain_words conn) }
     {
         self.heap(conn)?;
-        Ok(Line::Drain { conn: conn as u32 })
+        Ok(ScriptLine::Drain { conn: conn as u32 })
     }
 
-    #[tactic(auto, unfolding(crate::specs::Keeping::used_said))]
-    fn drain(&self, words: &[Said<'_>]) -> Result<Line, ScriptReason>
+    #[tactic(auto, unfolding(crate::specs::Keeping::line_of_open))]
+    fn drain(&self, words: &[WordValue<'_>]) -> Result<ScriptLine, ScriptReason>
         requires { IsIn 1 16 (number_at (meanings_of words.now) 1) }
-        ensures { result ≡ drain_said self.now (meanings_of words.now) }
+        ensures { result ≡ line_of_drain self.now (meanings_of words.now) }
     {
         self.drained(number_at(words, 1))
     }
@@ -403,44 +412,44 @@ impl Body {
         alloc: Global,
         loads: u64,
         declared: &Declarations,
-        form: Form,
-        words: &[Said<'_>],
-    ) -> Result<Line, Flaw>
+        form: LineForm,
+        words: &[WordValue<'_>],
+    ) -> Result<ScriptLine, LineError>
         requires small { loads ≤ MAX_LOADS }
         requires few { self.now.submissions ≤ MAX_WORK }
-        requires words { (line : List ℕ) × IsSaid form line (meanings_of words.now) }
-        ensures { IsMade (line_said loads declared.now self.now form (meanings_of words.now)) result }
+        requires words { (line : List ℕ) × IsParsedAs form line (meanings_of words.now) }
+        ensures { IsMade (line_of_form loads declared.now self.now form (meanings_of words.now)) result }
     {
         match form {
-            Form::Conn => made(self.conn(words)),
-            Form::Store => made(self.store(words)),
-            Form::Race => made(self.race(words)),
-            Form::Submit => made(self.submit(loads, words, 0)),
-            Form::Reply => made(self.submit(loads, words, number_at(words, 4))),
-            Form::Attach => self.attach(alloc, declared, words),
-            Form::Detach => self.detach(alloc, words),
-            Form::Upgrade => self.upgrade(alloc, declared, words),
-            Form::Moment => made(self.moment(words)),
-            Form::Turn => made(self.turn(words)),
-            Form::Send => made(self.send(words)),
-            Form::Drain => made(self.drain(words)),
-            Form::Tenant
-            | Form::Access
-            | Form::Rate
-            | Form::Quota
-            | Form::Count
-            | Form::Redact
-            | Form::Close => Err(Flaw::Reason(ScriptReason::Unknown)),
+            LineForm::Conn => made(self.conn(words)),
+            LineForm::Store => made(self.store(words)),
+            LineForm::Race => made(self.race(words)),
+            LineForm::Submit => made(self.submit(loads, words, 0)),
+            LineForm::Reply => made(self.submit(loads, words, number_at(words, 4))),
+            LineForm::Attach => self.attach(alloc, declared, words),
+            LineForm::Detach => self.detach(alloc, words),
+            LineForm::Upgrade => self.upgrade(alloc, declared, words),
+            LineForm::Moment => made(self.moment(words)),
+            LineForm::Turn => made(self.turn(words)),
+            LineForm::Send => made(self.send(words)),
+            LineForm::Drain => made(self.drain(words)),
+            LineForm::Tenant
+            | LineForm::Access
+            | LineForm::Rate
+            | LineForm::Quota
+            | LineForm::Count
+            | LineForm::Redact
+            | LineForm::Close => Err(LineError::Reason(ScriptReason::Unknown)),
         }
     }
 
     // No lines, with room for this many.
     pub(crate) fn with_room(alloc: Global, room: usize) -> Result<Body, Memory>
-        ensures { IfOk result IsFreshBody }
+        ensures { IfOk result IsEmptyBody }
     {
         Ok(Body {
-            lines: Lines::with_room(alloc, room)?,
-            connections: Connections::new(alloc)?,
+            lines: ScriptLines::with_room(alloc, room)?,
+            connections: ConnectionStates::new(alloc)?,
             submissions: 0,
             closed: false,
         })
@@ -453,7 +462,7 @@ impl Body {
         &mut self,
         alloc: Global,
         declared: &Declarations,
-        line: Line,
+        line: ScriptLine,
     ) -> Result<(), Memory>
         requires { CanAdd self.old line }
         ensures lines { OnOk result (self.new.lines ≡ self.old.lines ++ line ∷ []) }
@@ -463,8 +472,8 @@ impl Body {
         ensures closed { self.new.closed ≡ self.old.closed }
     {
         match &line {
-            Line::Store { .. } | Line::Turn { .. } => {}
-            Line::Submit { .. } => self.submissions += 1,
+            ScriptLine::Store { .. } | ScriptLine::Turn { .. } => {}
+            ScriptLine::Submit { .. } => self.submissions += 1,
             _ => self.keep(alloc, declared, &line)?,
         }
         self.lines.push(line)?;
@@ -473,7 +482,12 @@ impl Body {
 
     // Updates the state of connections and the number of submissions by a line.
     #[inline(never)]
-    fn keep(&mut self, alloc: Global, declared: &Declarations, line: &Line) -> Result<(), Memory>
+    fn keep(
+        &mut self,
+        alloc: Global,
+        declared: &Declarations,
+        line: &ScriptLine,
+    ) -> Result<(), Memory>
         requires { CanAdd self.old line.now }
         ensures lines { self.new.lines ≡ self.old.lines }
         ensures connections { OnOk result (self.new.connections
@@ -483,28 +497,28 @@ impl Body {
         ensures closed { self.new.closed ≡ self.old.closed }
     {
         match line {
-            Line::Conn { conn, words } => self.connections.open(*conn, *words),
-            Line::Submit { .. } => self.submissions += 1,
-            Line::Attach {
+            ScriptLine::Conn { conn, words } => self.connections.open(*conn, *words),
+            ScriptLine::Submit { .. } => self.submissions += 1,
+            ScriptLine::Attach {
                 conn,
                 at,
                 name,
                 policy,
             } => {
-                let link = Link {
+                let link = EntryOutline {
                     name: name.copied(alloc)?,
                     kind: kind_at(declared, *policy),
                 };
                 self.connections.attach(*conn, *at, link)?;
             }
-            Line::Detach { conn, name } => self.connections.detach(*conn, name.as_slice()),
-            Line::Store { .. }
-            | Line::Race { .. }
-            | Line::Upgrade { .. }
-            | Line::Moment { .. }
-            | Line::Turn { .. }
-            | Line::Send { .. }
-            | Line::Drain { .. } => {}
+            ScriptLine::Detach { conn, name } => self.connections.detach(*conn, name.as_slice()),
+            ScriptLine::Store { .. }
+            | ScriptLine::Race { .. }
+            | ScriptLine::Upgrade { .. }
+            | ScriptLine::Moment { .. }
+            | ScriptLine::Turn { .. }
+            | ScriptLine::Send { .. }
+            | ScriptLine::Drain { .. } => {}
         }
         Ok(())
     }

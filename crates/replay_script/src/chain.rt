@@ -1,7 +1,7 @@
 //! The outline of a chain: the names of its entries, and the kinds of their policies.
 
 ghost use Rattle.std.specs.Prelude.{◌≡◌, ◌<◌, ◌≤◌, [], length, insert, IfOk, OnOk};
-ghost use Rattle.replay_script.specs.Kinds.{kind_of, is_kind, has_entry, has_other_entry, without, attach_against, detach_against, upgrade_against, engine_in};
+ghost use Rattle.replay_script.specs.EntryKinds.{entry_kind_of, is_kind, has_entry, has_other_entry, without, attach_position, check_detach, check_upgrade, engine_in};
 
 use engine_core::{MAX_ENGINES, Policy};
 use mrpc_table::{Decimal, Memory, Name};
@@ -11,7 +11,7 @@ use std::marker::Model;
 
 // The kind of a policy. For quotas the tenant is part of it.
 #[derive(Clone, Copy)]
-pub(crate) enum Kind {
+pub(crate) enum EntryKind {
     Access,
     Rate,
     Quota { tenant: u32 },
@@ -21,63 +21,63 @@ pub(crate) enum Kind {
 
 // An entry of a chain.
 #[derive(Drop)]
-pub(crate) struct Link {
+pub(crate) struct EntryOutline {
     pub name: Name,
-    pub kind: Kind,
+    pub kind: EntryKind,
 }
 
 // The entries of a chain, in order, at most 8.
 #[derive(Drop)]
-pub(crate) struct Links {
-    links: Vec<Link>,
+pub(crate) struct EntryOutlines {
+    links: Vec<EntryOutline>,
 }
 
-impl Model for Links {
+impl Model for EntryOutlines {
     ghost use Rattle.std.specs.Prelude.{◌≤◌, List, length};
-    ghost use Rattle.replay_script.specs.declared.chain.Link.{Link};
+    ghost use Rattle.replay_script.specs.declared.chain.EntryOutline.{EntryOutline};
 
-    ghost Value = { List Link };
+    ghost Value = { List EntryOutline };
 
     ghost view = { λ l. l.links.items };
 
     ghost invariant = { λ l. length l.links.items ≤ 8 };
 }
 
-impl Kind {
+impl EntryKind {
     // The kind of a policy.
-    pub(crate) fn of(policy: &Policy) -> Kind
-        ensures { result ≡ kind_of policy.now }
+    pub(crate) fn of(policy: &Policy) -> EntryKind
+        ensures { result ≡ entry_kind_of policy.now }
     {
         match policy {
-            Policy::Access(_) => Kind::Access,
-            Policy::Rate(_) => Kind::Rate,
-            Policy::Quota { tenant, .. } => Kind::Quota { tenant: *tenant },
-            Policy::Count => Kind::Count,
-            Policy::Redact(_) => Kind::Redact,
+            Policy::Access(_) => EntryKind::Access,
+            Policy::Rate(_) => EntryKind::Rate,
+            Policy::Quota { tenant, .. } => EntryKind::Quota { tenant: *tenant },
+            Policy::Count => EntryKind::Count,
+            Policy::Redact(_) => EntryKind::Redact,
         }
     }
 
-    fn is(self, other: Kind) -> bool
+    fn is(self, other: EntryKind) -> bool
         ensures { result ≡ is_kind self other }
     {
         match self {
-            Kind::Access => matches!(other, Kind::Access),
-            Kind::Rate => matches!(other, Kind::Rate),
-            Kind::Quota { tenant: ours } => {
-                matches!(other, Kind::Quota { tenant: theirs } if ours == theirs)
+            EntryKind::Access => matches!(other, EntryKind::Access),
+            EntryKind::Rate => matches!(other, EntryKind::Rate),
+            EntryKind::Quota { tenant: ours } => {
+                matches!(other, EntryKind::Quota { tenant: theirs } if ours == theirs)
             }
-            Kind::Count => matches!(other, Kind::Count),
-            Kind::Redact => matches!(other, Kind::Redact),
+            EntryKind::Count => matches!(other, EntryKind::Count),
+            EntryKind::Redact => matches!(other, EntryKind::Redact),
         }
     }
 }
 
-impl Links {
+impl EntryOutlines {
     // A chain without entries.
-    pub(crate) fn new(alloc: Global) -> Links
+    pub(crate) fn new(alloc: Global) -> EntryOutlines
         ensures { result ≡ [] }
     {
-        Links {
+        EntryOutlines {
             links: Vec::new(alloc),
         }
     }
@@ -90,7 +90,7 @@ impl Links {
     }
 
     // Returns true if an entry has the name, and a policy of another kind.
-    fn has_other(&self, name: &[u8], kind: Kind) -> bool
+    fn has_other(&self, name: &[u8], kind: EntryKind) -> bool
         ensures { result ≡ has_other_entry name.now kind self.now }
     {
         self.links
@@ -99,8 +99,8 @@ impl Links {
     }
 
     // Returns the position at which a policy is attached, or the reason why it can't be.
-    pub(crate) fn attach_against(&self, at: Decimal, name: &[u8]) -> Result<u32, ScriptReason>
-        ensures { result ≡ attach_against self.now at name.now }
+    pub(crate) fn attach_position(&self, at: Decimal, name: &[u8]) -> Result<u32, ScriptReason>
+        ensures { result ≡ attach_position self.now at name.now }
     {
         if self.has(name) {
             return Err(ScriptReason::Taken);
@@ -119,8 +119,8 @@ impl Links {
     }
 
     // Fails with a reason if the entry of a name can't be detached.
-    pub(crate) fn detach_against(&self, name: &[u8]) -> Result<(), ScriptReason>
-        ensures { result ≡ detach_against self.now name.now }
+    pub(crate) fn check_detach(&self, name: &[u8]) -> Result<(), ScriptReason>
+        ensures { result ≡ check_detach self.now name.now }
     {
         if self.has(name) {
             Ok(())
@@ -130,8 +130,8 @@ impl Links {
     }
 
     // Fails with a reason if the entry of a name can't get a policy of a kind.
-    pub(crate) fn upgrade_against(&self, name: &[u8], kind: Kind) -> Result<(), ScriptReason>
-        ensures { result ≡ upgrade_against self.now name.now kind }
+    pub(crate) fn check_upgrade(&self, name: &[u8], kind: EntryKind) -> Result<(), ScriptReason>
+        ensures { result ≡ check_upgrade self.now name.now kind }
     {
         if !self.has(name) {
             Err(ScriptReason::NoSuch)
@@ -153,7 +153,7 @@ impl Links {
     }
 
     // Inserts an entry at a position.
-    pub(crate) fn attach(&mut self, at: usize, link: Link) -> Result<(), Memory>
+    pub(crate) fn attach(&mut self, at: usize, link: EntryOutline) -> Result<(), Memory>
         requires place { at ≤ length self.old }
         requires room { length self.old < 8 }
         ensures { OnOk result (self.new ≡ insert self.old at link) }

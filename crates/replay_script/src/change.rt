@@ -5,25 +5,27 @@ ghost use Rattle.mrpc_table.specs.Lines.{pieces_of, words_of};
 ghost use Rattle.mrpc_table.specs.Valid.{IsValid};
 ghost use Rattle.mrpc_table.specs.declared.limits.TheConstants.{MAX_LOADS};
 ghost use Rattle.mrpc_table.specs.declared.table.Table.{Table as TheTable};
-ghost use Rattle.policy_declarations.specs.Items.{item_form, Declares};
+ghost use Rattle.policy_declarations.specs.DeclarationTexts.{declaration_form, HasDeclaration};
 ghost use Rattle.script_grammar.specs.Meanings.{meanings_of};
 ghost use Rattle.script_grammar.specs.Forms.{form_in};
-ghost use Rattle.script_grammar.specs.declared.form.Form.TheVariants.{Drain as DrainForm, Store as StoreForm, Submit as SubmitForm, Turn as TurnForm};
-ghost use Rattle.replay_script.specs.Changes.{seen, IsKept, IsSaidBy, IsFlawOf, IsChange, IsSaidChange, IsLineFault, IsItemFault, IsStopOf};
+ghost use Rattle.script_grammar.specs.declared.form.LineForm.TheVariants.{Drain as DrainForm, Store as StoreForm, Submit as SubmitForm, Turn as TurnForm};
+ghost use Rattle.replay_script.specs.Changes.{state_of_body, IsValidBody, IsChangeOfWords, IsFlawOf, IsReadChange, IsChangeOfLine, IsLineFault, IsDeclarationFault, IsFirstFaultOf};
 ghost use Rattle.replay_script.specs.Stores.{drain_words, store_words, submit_words, turn_words};
-ghost use Rattle.replay_script.specs.Usual.{IsUsual};
-ghost use Rattle.replay_script.specs.Words.{IsSaid};
+ghost use Rattle.replay_script.specs.Frequent.{IsFrequent};
+ghost use Rattle.replay_script.specs.Words.{IsParsedAs};
 ghost use Rattle.replay_script.specs.declared.limits.TheConstants.{MAX_WORK};
 
-use crate::body::{Body, Flaw};
-use crate::laws::one_laws;
-use crate::script::Line;
-use crate::short::{Submit, Turn, front_drain, front_submit, front_turn};
-use crate::store::{Store, front_store};
+use crate::body::{Body, LineError};
+use crate::laws::word_laws;
+use crate::script::ScriptLine;
+use crate::short_lines::{SubmitLine, TurnLine, prefix_drain, prefix_submit, prefix_turn};
+use crate::store_line::{StoreLine, prefix_store};
 use memchr::memchr;
 use mrpc_table::Table;
-use policy_declarations::{Declarations, Item, ItemForm, ItemLines, is_skipped, read_item};
-use script_grammar::{Form, Said, ScriptFault, ScriptReason, form_of, judge};
+use policy_declarations::{
+    Declaration, DeclarationForm, DeclarationLines, Declarations, is_skipped, read_declaration,
+};
+use script_grammar::{LineForm, ScriptFault, ScriptReason, WordValue, check_words, form_of};
 use std::alloc::Global;
 
 // What a line means.
@@ -32,9 +34,9 @@ pub(crate) enum Change {
     // Nothing: the line is empty or a comment.
     Nothing,
     // A declaration of a tenant or a policy, with the lines of its block.
-    Item(Item),
+    Item(Declaration),
     // An action.
-    Line(Line),
+    Line(ScriptLine),
     // The end of the script.
     Close,
 }
@@ -63,19 +65,19 @@ fn change_of(
     loads: u64,
     declared: &Declarations,
     body: &Body,
-    form: Form,
-    words: &[Said<'_>],
-) -> Result<Change, Flaw>
+    form: LineForm,
+    words: &[WordValue<'_>],
+) -> Result<Change, LineError>
     requires small { loads ≤ MAX_LOADS }
-    requires kept { IsKept loads declared.now body.now }
+    requires kept { IsValidBody loads declared.now body.now }
     requires few { body.now.submissions ≤ MAX_WORK }
-    requires words { (line : List ℕ) × IsSaid form line (meanings_of words.now) }
-    requires item { item_form form ≡ None }
-    ensures { MatchResult result (IsSaidBy loads declared.now body.now form (meanings_of words.now))
+    requires words { (line : List ℕ) × IsParsedAs form line (meanings_of words.now) }
+    requires item { declaration_form form ≡ None }
+    ensures { MatchResult result (IsChangeOfWords loads declared.now body.now form (meanings_of words.now))
         (IsFlawOf loads declared.now body.now form (meanings_of words.now)) }
 {
     match form {
-        Form::Close => Ok(Change::Close),
+        LineForm::Close => Ok(Change::Close),
         _ => match body.line_of(alloc, loads, declared, form, words) {
             Ok(line) => Ok(Change::Line(line)),
             Err(flaw) => Err(flaw),
@@ -84,24 +86,24 @@ fn change_of(
 }
 
 // What a line with these values of its words means, or its reason. The form is no declaration's.
-fn worded(
+fn change_of_words(
     alloc: Global,
     loads: u64,
     declared: &Declarations,
     body: &Body,
-    form: Form,
+    form: LineForm,
     line: &[u8],
-    words: &[Said<'_>],
+    words: &[WordValue<'_>],
 ) -> Result<Change, ScriptFault>
     requires small { loads ≤ MAX_LOADS }
-    requires kept { IsKept loads declared.now body.now }
+    requires kept { IsValidBody loads declared.now body.now }
     requires few { body.now.submissions ≤ MAX_WORK }
-    requires said { IsSaid form line.now (meanings_of words.now) }
-    requires item { item_form form ≡ None }
-    ensures { MatchResult result (IsSaidChange loads (seen declared.now body.now) line.now)
-        (IsLineFault loads (seen declared.now body.now) line.now) }
+    requires said { IsParsedAs form line.now (meanings_of words.now) }
+    requires item { declaration_form form ≡ None }
+    ensures { MatchResult result (IsChangeOfLine loads (state_of_body declared.now body.now) line.now)
+        (IsLineFault loads (state_of_body declared.now body.now) line.now) }
 {
-    one_laws();
+    word_laws();
     match change_of(alloc, loads, declared, body, form, words) {
         Ok(change) => {
             if body.closed {
@@ -109,49 +111,49 @@ fn worded(
             }
             Ok(change)
         }
-        Err(Flaw::Reason(reason)) => Err(fault(reason)),
-        Err(Flaw::Memory) => Err(ScriptFault::Memory),
+        Err(LineError::Reason(reason)) => Err(fault(reason)),
+        Err(LineError::Memory) => Err(ScriptFault::Memory),
     }
 }
 
 // What a line of a form means, or its reason. The form is no declaration's.
-fn said(
+fn change_of_line(
     alloc: Global,
     loads: u64,
     declared: &Declarations,
     body: &Body,
-    form: Form,
+    form: LineForm,
     line: &[u8],
 ) -> Result<Change, ScriptFault>
     requires small { loads ≤ MAX_LOADS }
-    requires kept { IsKept loads declared.now body.now }
+    requires kept { IsValidBody loads declared.now body.now }
     requires few { body.now.submissions ≤ MAX_WORK }
     requires form { form_in (words_of line.now) ≡ Some form }
-    requires item { item_form form ≡ None }
-    ensures { MatchResult result (IsSaidChange loads (seen declared.now body.now) line.now)
-        (IsLineFault loads (seen declared.now body.now) line.now) }
+    requires item { declaration_form form ≡ None }
+    ensures { MatchResult result (IsChangeOfLine loads (state_of_body declared.now body.now) line.now)
+        (IsLineFault loads (state_of_body declared.now body.now) line.now) }
 {
-    one_laws();
-    match judge(form.sorts(), line) {
-        Ok(words) => worded(alloc, loads, declared, body, form, line, words.as_slice()),
+    word_laws();
+    match check_words(form.word_kinds(), line) {
+        Ok(words) => change_of_words(alloc, loads, declared, body, form, line, words.as_slice()),
         Err(reason) => Err(fault(reason)),
     }
 }
 
 // The frequent form of lines that start with this byte. The line may have another form.
-fn usual_form(first: u8) -> Option<Form>
-    ensures { IfSome result IsUsual }
+fn frequent_form(first: u8) -> Option<LineForm>
+    ensures { IfSome result IsFrequent }
 {
     match first {
-        b'u' => Some(Form::Upgrade),
-        b'd' => Some(Form::Drain),
+        b'u' => Some(LineForm::Upgrade),
+        b'd' => Some(LineForm::Drain),
         _ => None,
     }
 }
 
 // What a line of a frequent form means, or its reason. Returns `None` for each other line and if a word isn't as it has
 // to be; the form of such a line is looked up.
-fn usual_said(
+fn frequent_line(
     alloc: Global,
     loads: u64,
     declared: &Declarations,
@@ -159,27 +161,36 @@ fn usual_said(
     line: &[u8],
 ) -> Option<Result<Change, ScriptFault>>
     requires small { loads ≤ MAX_LOADS }
-    requires kept { IsKept loads declared.now body.now }
+    requires kept { IsValidBody loads declared.now body.now }
     requires few { body.now.submissions ≤ MAX_WORK }
-    ensures { IfSome result (λ said. MatchResult said (IsSaidChange loads (seen declared.now body.now) line.now)
-        (IsLineFault loads (seen declared.now body.now) line.now)) }
+    ensures { IfSome result (λ said. MatchResult said
+        (IsChangeOfLine loads (state_of_body declared.now body.now) line.now)
+        (IsLineFault loads (state_of_body declared.now body.now) line.now)) }
 {
-    let form = usual_form(*line.first()?)?;
-    match judge(form.sorts(), line) {
-        Ok(words) => Some(worded(alloc, loads, declared, body, form, line, words.as_slice())),
+    let form = frequent_form(*line.first()?)?;
+    match check_words(form.word_kinds(), line) {
+        Ok(words) => Some(change_of_words(
+            alloc,
+            loads,
+            declared,
+            body,
+            form,
+            line,
+            words.as_slice(),
+        )),
         Err(_) => None,
     }
 }
 
 // Makes the line of a store, unless it has a fault.
 #[inline(always)]
-fn stored(loads: u64, declared: &Declarations, body: &Body, store: Store) -> Option<Line>
-    requires kept { IsKept loads declared.now body.now }
-    requires said { (line : List ℕ) × IsSaid StoreForm line (store_words store) }
-    ensures { (line : List ℕ) → IsSaid StoreForm line (store_words store)
-        → IfSome result (λ made. IsSaidChange loads (seen declared.now body.now) line (Change.Line made)) }
+fn stored(loads: u64, declared: &Declarations, body: &Body, store: StoreLine) -> Option<ScriptLine>
+    requires kept { IsValidBody loads declared.now body.now }
+    requires said { (line : List ℕ) × IsParsedAs StoreForm line (store_words store) }
+    ensures { (line : List ℕ) → IsParsedAs StoreForm line (store_words store)
+        → IfSome result (λ made. IsChangeOfLine loads (state_of_body declared.now body.now) line (Change.Line made)) }
 {
-    one_laws();
+    word_laws();
     if body.closed {
         return None;
     }
@@ -190,15 +201,20 @@ fn stored(loads: u64, declared: &Declarations, body: &Body, store: Store) -> Opt
 }
 
 // Makes the line of a submission, unless it has a fault.
-fn submitted(loads: u64, declared: &Declarations, body: &Body, submit: Submit) -> Option<Line>
+fn submitted(
+    loads: u64,
+    declared: &Declarations,
+    body: &Body,
+    submit: SubmitLine,
+) -> Option<ScriptLine>
     requires small { loads ≤ MAX_LOADS }
-    requires kept { IsKept loads declared.now body.now }
+    requires kept { IsValidBody loads declared.now body.now }
     requires few { body.now.submissions ≤ MAX_WORK }
-    requires said { (line : List ℕ) × IsSaid SubmitForm line (submit_words submit) }
-    ensures { (line : List ℕ) → IsSaid SubmitForm line (submit_words submit)
-        → IfSome result (λ made. IsSaidChange loads (seen declared.now body.now) line (Change.Line made)) }
+    requires said { (line : List ℕ) × IsParsedAs SubmitForm line (submit_words submit) }
+    ensures { (line : List ℕ) → IsParsedAs SubmitForm line (submit_words submit)
+        → IfSome result (λ made. IsChangeOfLine loads (state_of_body declared.now body.now) line (Change.Line made)) }
 {
-    one_laws();
+    word_laws();
     if body.closed {
         return None;
     }
@@ -209,13 +225,13 @@ fn submitted(loads: u64, declared: &Declarations, body: &Body, submit: Submit) -
 }
 
 // Makes the line of a turn, unless it has a fault.
-fn turned(loads: u64, declared: &Declarations, body: &Body, turn: Turn) -> Option<Line>
-    requires kept { IsKept loads declared.now body.now }
-    requires said { (line : List ℕ) × IsSaid TurnForm line (turn_words turn) }
-    ensures { (line : List ℕ) → IsSaid TurnForm line (turn_words turn)
-        → IfSome result (λ made. IsSaidChange loads (seen declared.now body.now) line (Change.Line made)) }
+fn turned(loads: u64, declared: &Declarations, body: &Body, turn: TurnLine) -> Option<ScriptLine>
+    requires kept { IsValidBody loads declared.now body.now }
+    requires said { (line : List ℕ) × IsParsedAs TurnForm line (turn_words turn) }
+    ensures { (line : List ℕ) → IsParsedAs TurnForm line (turn_words turn)
+        → IfSome result (λ made. IsChangeOfLine loads (state_of_body declared.now body.now) line (Change.Line made)) }
 {
-    one_laws();
+    word_laws();
     if body.closed {
         return None;
     }
@@ -226,13 +242,13 @@ fn turned(loads: u64, declared: &Declarations, body: &Body, turn: Turn) -> Optio
 }
 
 // Makes the line of a drain, unless it has a fault.
-fn drained(loads: u64, declared: &Declarations, body: &Body, conn: u64) -> Option<Line>
-    requires kept { IsKept loads declared.now body.now }
-    requires said { (line : List ℕ) × IsSaid DrainForm line (drain_words conn) }
-    ensures { (line : List ℕ) → IsSaid DrainForm line (drain_words conn)
-        → IfSome result (λ made. IsSaidChange loads (seen declared.now body.now) line (Change.Line made)) }
+fn drained(loads: u64, declared: &Declarations, body: &Body, conn: u64) -> Option<ScriptLine>
+    requires kept { IsValidBody loads declared.now body.now }
+    requires said { (line : List ℕ) × IsParsedAs DrainForm line (drain_words conn) }
+    ensures { (line : List ℕ) → IsParsedAs DrainForm line (drain_words conn)
+        → IfSome result (λ made. IsChangeOfLine loads (state_of_body declared.now body.now) line (Change.Line made)) }
 {
-    one_laws();
+    word_laws();
     if body.closed {
         return None;
     }
@@ -246,63 +262,63 @@ fn drained(loads: u64, declared: &Declarations, body: &Body, conn: u64) -> Optio
 // remainder; `None` for each other line. Inlined with its callees, so that the line is made in its final slot: nearly
 // all lines of a long script are such.
 #[inline(always)]
-pub(crate) fn front_stored<'a>(
+pub(crate) fn prefix_stored<'a>(
     loads: u64,
     declared: &Declarations,
     body: &Body,
     text: &'a [u8],
-) -> Option<(Line, &'a [u8])>
-    requires kept { IsKept loads declared.now body.now }
-    ensures { (T : TheTable) → IfSome result (λ r. IsChange loads T (seen declared.now body.now) text.now
+) -> Option<(ScriptLine, &'a [u8])>
+    requires kept { IsValidBody loads declared.now body.now }
+    ensures { (T : TheTable) → IfSome result (λ r. IsReadChange loads T (state_of_body declared.now body.now) text.now
         (Change.Line r.0) r.1.now) }
 {
-    one_laws();
-    let (store, behind) = front_store(text)?;
+    word_laws();
+    let (store, behind) = prefix_store(text)?;
     let made = stored(loads, declared, body, store)?;
     Some((made, behind))
 }
 
-// Like `front_stored`, for lines that submit a request, give an engine a turn, or drain a connection.
-pub(crate) fn front_line<'a>(
+// Like `prefix_stored`, for lines that submit a request, give an engine a turn, or drain a connection.
+pub(crate) fn prefix_line<'a>(
     loads: u64,
     declared: &Declarations,
     body: &Body,
     text: &'a [u8],
-) -> Option<(Line, &'a [u8])>
+) -> Option<(ScriptLine, &'a [u8])>
     requires small { loads ≤ MAX_LOADS }
-    requires kept { IsKept loads declared.now body.now }
+    requires kept { IsValidBody loads declared.now body.now }
     requires few { body.now.submissions ≤ MAX_WORK }
-    ensures { (T : TheTable) → IfSome result (λ r. IsChange loads T (seen declared.now body.now) text.now
+    ensures { (T : TheTable) → IfSome result (λ r. IsReadChange loads T (state_of_body declared.now body.now) text.now
         (Change.Line r.0) r.1.now) }
 {
-    one_laws();
-    if let Some((turn, behind)) = front_turn(text) {
+    word_laws();
+    if let Some((turn, behind)) = prefix_turn(text) {
         let made = turned(loads, declared, body, turn)?;
         return Some((made, behind));
     }
-    if let Some((conn, behind)) = front_drain(text) {
+    if let Some((conn, behind)) = prefix_drain(text) {
         let made = drained(loads, declared, body, conn)?;
         return Some((made, behind));
     }
-    let (submit, behind) = front_submit(text)?;
+    let (submit, behind) = prefix_submit(text)?;
     let made = submitted(loads, declared, body, submit)?;
     Some((made, behind))
 }
 
 // Reads a declaration, and returns it with the remainder after it. After `close`, its first line has a fault.
-fn item<'a>(
+fn declaration<'a>(
     alloc: Global,
     table: &Table,
     declared: &Declarations,
     closed: bool,
-    lines: ItemLines<'a>,
-) -> Result<(Item, &'a [u8]), ScriptFault>
+    lines: DeclarationLines<'a>,
+) -> Result<(Declaration, &'a [u8]), ScriptFault>
     requires { IsValid table.now }
-    ensures { MatchResult result (λ r. (closed ≡ false) × Declares table.now true declared.now lines.entry.form
-        lines.entry.line.now lines.entry.behind.now r.0 r.1.now) (IsItemFault table.now declared.now closed
+    ensures { MatchResult result (λ r. (closed ≡ false) × HasDeclaration table.now true declared.now lines.entry.form
+        lines.entry.line.now lines.entry.behind.now r.0 r.1.now) (IsDeclarationFault table.now declared.now closed
         lines.entry.form lines.entry.line.now lines.entry.behind.now) }
 {
-    match read_item(alloc, table, declared, lines, true) {
+    match read_declaration(alloc, table, declared, lines, true) {
         Ok((item, left)) => {
             if closed {
                 return Err(fault(ScriptReason::After));
@@ -331,20 +347,21 @@ pub(crate) fn first_change<'a>(
 ) -> Result<(Change, &'a [u8]), ScriptFault>
     requires table { IsValid table.now }
     requires small { loads ≤ MAX_LOADS }
-    requires kept { IsKept loads declared.now body.now }
+    requires kept { IsValidBody loads declared.now body.now }
     requires few { body.now.submissions ≤ MAX_WORK }
     requires some { 0 < length text.now }
-    ensures { MatchResult result (λ r. IsChange loads table.now (seen declared.now body.now) text.now r.0 r.1.now)
-        (IsStopOf loads table.now (seen declared.now body.now) text.now) }
+    ensures { MatchResult result (λ r. IsReadChange loads table.now (state_of_body declared.now body.now) text.now r.0
+        r.1.now)
+        (IsFirstFaultOf loads table.now (state_of_body declared.now body.now) text.now) }
 {
-    one_laws();
+    word_laws();
     let Some((line, behind)) = cut_line(text) else {
         return Err(fault(ScriptReason::Word));
     };
     if is_skipped(line) {
         return Ok((Change::Nothing, behind));
     }
-    if let Some(usual) = usual_said(alloc, loads, declared, body, line) {
+    if let Some(usual) = frequent_line(alloc, loads, declared, body, line) {
         return match usual {
             Ok(change) => Ok((change, behind)),
             Err(fault) => Err(fault),
@@ -353,14 +370,14 @@ pub(crate) fn first_change<'a>(
     let Some(form) = form_of(line) else {
         return Err(fault(ScriptReason::Word));
     };
-    if let Some(form) = ItemForm::of_form(form) {
-        let lines = ItemLines { form, line, behind };
-        return match item(alloc, table, declared, body.closed, lines) {
+    if let Some(form) = DeclarationForm::of_form(form) {
+        let lines = DeclarationLines { form, line, behind };
+        return match declaration(alloc, table, declared, body.closed, lines) {
             Ok((item, left)) => Ok((Change::Item(item), left)),
             Err(fault) => Err(fault),
         };
     }
-    match said(alloc, loads, declared, body, form, line) {
+    match change_of_line(alloc, loads, declared, body, form, line) {
         Ok(change) => Ok((change, behind)),
         Err(fault) => Err(fault),
     }

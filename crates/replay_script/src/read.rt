@@ -4,20 +4,20 @@ ghost use Rattle.std.specs.Prelude.{◌≡◌, ◌≤◌, ◌+◌, ◌-◌, [], 
 ghost use Rattle.mrpc_table.specs.Valid.{IsValid};
 ghost use Rattle.mrpc_table.specs.declared.limits.TheConstants.{MAX_LOADS};
 ghost use Rattle.script_grammar.specs.declared.fault.ScriptFault.TheVariants.{Memory as OutOfMemory};
-ghost use Rattle.replay_script.specs.Changes.{CanMake, HasChanged, end_of};
+ghost use Rattle.replay_script.specs.Changes.{CanApply, IsBodyAfter, final_state};
 ghost use Rattle.mrpc_table.specs.Lines.{line_count};
 ghost use Rattle.replay_script.specs.Lines.{IsScript};
-ghost use Rattle.replay_script.specs.Stopping.{IsStopIn, stopped};
-ghost use Rattle.replay_script.specs.Texts.{Reaches, Spells, IsFaultOf};
+ghost use Rattle.replay_script.specs.Stopping.{IsScriptStop, stopped};
+ghost use Rattle.replay_script.specs.Texts.{HasReached, IsScriptText, IsFaultOfScript};
 ghost use Rattle.replay_script.specs.declared.script.Script.{Script as TheScript};
 
 use crate::body::Body;
-use crate::change::{Change, first_change, front_line, front_stored};
-use crate::laws::{one_laws, one_script};
-use crate::script::{Lines, Script};
+use crate::change::{Change, first_change, prefix_line, prefix_stored};
+use crate::laws::{replay_script_or_fault, word_laws};
+use crate::script::{Script, ScriptLines};
 use mrpc_table::{Memory, Table, line_count};
 use policy_declarations::Declarations;
-use script_grammar::{Front, ScriptFault, ScriptReason, read_front};
+use script_grammar::{Preamble, ScriptFault, ScriptReason, read_preamble};
 use std::alloc::Global;
 
 // The first line of each script, with its line feed.
@@ -30,7 +30,7 @@ const SHORTEST_STORE: usize = 12;
 
 // Why reading the lines of a text ended early.
 #[derive(Clone, Copy)]
-enum Stop {
+enum ScriptStop {
     // A line with a fault, counted from 1 where this many bytes of the text remain.
     At {
         left: usize,
@@ -55,27 +55,27 @@ enum Stop {
 /// [`ScriptReason`]. [`ScriptFault::Memory`] means out of memory.
 pub fn read_script(alloc: Global, text: &[u8]) -> Result<Script, ScriptFault>
     // The text, each byte of it, is the result's.
-    ensures read { IfOk result (Spells text.now) }
+    ensures read { IfOk result (IsScriptText text.now) }
     // If the text is a script's, the call returns it, unless it runs out of memory.
-    ensures only { (s : TheScript) → Spells text.now s → MatchResult result (λ t. t ≡ s) (λ e. e ≡ OutOfMemory) }
+    ensures only { (s : TheScript) → IsScriptText text.now s → MatchResult result (λ t. t ≡ s) (λ e. e ≡ OutOfMemory) }
     // A fault is the text's: the first line with a fault, and its first reason.
-    ensures fault { IfErr result (IsFaultOf text.now) }
+    ensures fault { IfErr result (IsFaultOfScript text.now) }
     // Properties of each script.
     ensures script { IfOk result IsScript }
 {
-    one_script();
+    replay_script_or_fault();
     read_text(alloc, text)
 }
 
 fn read_text(alloc: Global, text: &[u8]) -> Result<Script, ScriptFault>
-    ensures { MatchResult result (Spells text.now) (IsFaultOf text.now) }
+    ensures { MatchResult result (IsScriptText text.now) (IsFaultOfScript text.now) }
 {
-    one_laws();
-    let Front {
+    word_laws();
+    let Preamble {
         loads,
         table,
         behind,
-    } = match read_front(alloc, text, FIRST_LINE) {
+    } = match read_preamble(alloc, text, FIRST_LINE) {
         Ok(front) => front,
         Err(fault) => return Err(fault),
     };
@@ -86,8 +86,8 @@ fn read_text(alloc: Global, text: &[u8]) -> Result<Script, ScriptFault>
             declared,
             lines,
         }),
-        Err(Stop::At { left, line, reason }) => Err(fault_at(text, left, line, reason)),
-        Err(Stop::Memory) => Err(ScriptFault::Memory),
+        Err(ScriptStop::At { left, line, reason }) => Err(fault_at(text, left, line, reason)),
+        Err(ScriptStop::Memory) => Err(ScriptFault::Memory),
     }
 }
 
@@ -109,32 +109,32 @@ fn read_lines(
     loads: u64,
     table: &Table,
     text: &[u8],
-) -> Result<(Declarations, Lines), Stop>
+) -> Result<(Declarations, ScriptLines), ScriptStop>
     requires table { IsValid table.now }
     requires some { 1 ≤ loads }
     requires small { loads ≤ MAX_LOADS }
-    ensures { MatchResult result (λ r. Reaches loads table.now text.now (end_of r.0 r.1) [])
-        (IsStopIn loads table.now text.now) }
+    ensures { MatchResult result (λ r. HasReached loads table.now text.now (final_state r.0 r.1) [])
+        (IsScriptStop loads table.now text.now) }
 {
     let mut declared = Declarations::new(alloc);
     let mut body = match Body::with_room(alloc, text.len() / SHORTEST_STORE) {
         Ok(body) => body,
-        Err(Memory) => return Err(Stop::Memory),
+        Err(Memory) => return Err(ScriptStop::Memory),
     };
     let mut rest = text;
     while !rest.is_empty() {
-        if let Some((line, behind)) = front_stored(loads, &declared, &body, rest) {
+        if let Some((line, behind)) = prefix_stored(loads, &declared, &body, rest) {
             match body.add(alloc, &declared, line) {
                 Ok(()) => {}
-                Err(Memory) => return Err(Stop::Memory),
+                Err(Memory) => return Err(ScriptStop::Memory),
             }
             rest = behind;
             continue;
         }
-        if let Some((line, behind)) = front_line(loads, &declared, &body, rest) {
+        if let Some((line, behind)) = prefix_line(loads, &declared, &body, rest) {
             match body.add(alloc, &declared, line) {
                 Ok(()) => {}
-                Err(Memory) => return Err(Stop::Memory),
+                Err(Memory) => return Err(ScriptStop::Memory),
             }
             rest = behind;
             continue;
@@ -145,7 +145,7 @@ fn read_lines(
         };
         declared = match changed(alloc, declared, &mut body, change) {
             Ok(declared) => declared,
-            Err(Memory) => return Err(Stop::Memory),
+            Err(Memory) => return Err(ScriptStop::Memory),
         };
         rest = left;
     }
@@ -163,8 +163,8 @@ fn changed(
     body: &mut Body,
     change: Change,
 ) -> Result<Declarations, Memory>
-    requires { CanMake declared body.old change }
-    ensures { IfOk result (λ d. HasChanged declared body.old change d body.new) }
+    requires { CanApply declared body.old change }
+    ensures { IfOk result (λ d. IsBodyAfter declared body.old change d body.new) }
 {
     match change {
         Change::Nothing => {}
@@ -176,15 +176,15 @@ fn changed(
 }
 
 // The stop for a fault of the remainder.
-fn stopped(rest: &[u8], fault: ScriptFault) -> Stop
+fn stopped(rest: &[u8], fault: ScriptFault) -> ScriptStop
     ensures { result ≡ stopped rest.now fault }
 {
     match fault {
-        ScriptFault::At { line, reason } => Stop::At {
+        ScriptFault::At { line, reason } => ScriptStop::At {
             left: rest.len(),
             line,
             reason,
         },
-        ScriptFault::Memory => Stop::Memory,
+        ScriptFault::Memory => ScriptStop::Memory,
     }
 }

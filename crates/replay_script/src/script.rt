@@ -5,7 +5,7 @@ use policy_declarations::Declarations;
 
 /// An action, on the connection with a number from 1 to 16.
 #[derive(Drop)]
-pub enum Line {
+pub enum ScriptLine {
     /// Opens a connection with a heap of this many words, 4 to 65536, all 0.
     Conn {
         conn: u32,
@@ -73,7 +73,7 @@ pub enum Line {
 }
 
 /// The actions of a script, in order.
-pub type Lines = Sequence<Line>;
+pub type ScriptLines = Sequence<ScriptLine>;
 
 /// A parsed script.
 #[derive(Drop)]
@@ -83,5 +83,5 @@ pub struct Script {
     pub table: Table,
     /// Its tenants and policies.
     pub declared: Declarations,
-    pub lines: Lines,
+    pub lines: ScriptLines,
 }

@@ -6,15 +6,15 @@ use Rattle.std.proofs.lemmas.Option.{same_Some, none-some}
 use Rattle.std.proofs.lemmas.List.Elements.{All-head, All-tail}
 use Rattle.policy_access.specs.Verdict.{AccessPolicy}
 use Rattle.engine_core.specs.declared.policy.Policy.{Policy}
-use Rattle.policy_declarations.specs.declared.item.NamedPolicy.{NamedPolicy}
-use Rattle.run_plan.specs.Chains.{inbound_of, label_at, own_policy_at, own_policy_in, policy_at, policy_by}
+use Rattle.policy_declarations.specs.declared.declaration.NamedPolicy.{NamedPolicy}
+use Rattle.run_plan.specs.Chains.{inbound_of, policy_name_at, own_policy_at, own_policy_in, policy_at, policy_by}
 use Rattle.run_plan.specs.Plans.{IsApplication, IsInbound, IsOwnPolicy, IsOwnSchema, IsPlan}
-use Rattle.run_plan.specs.Ports.{application_in}
+use Rattle.run_plan.specs.Links.{application_in}
 use Rattle.run_plan.specs.declared.application.Application.{Application}
 use Rattle.run_plan.specs.declared.application.OwnPolicy.{OwnPolicy}
 use Rattle.run_plan.specs.declared.application.OwnSchema.{OwnSchema}
 use Rattle.run_plan.specs.declared.plan.Plan.{Plan}
-use Rattle.run_driver.specs.Running.{judging_by, label_of, named}
+use Rattle.run_driver.specs.Running.{judging_by, inbound_name, with_policy_name}
 
 found-cases : {X : Type 0} (P : X → Type 0) (test : X → Bool) (b : Bool) (y : X) (rest : Option X) (x : X) → test y ≡ b
     → P y → (rest ≡ Some x → P x × (test x ≡ true)) → (if b then Some y else rest) ≡ Some x → P x × (test x ≡ true)
@@ -32,7 +32,7 @@ found-holds P test (y ∷ xs) x all at =
 
 -- a policy that is found has a name
 labelled : (policies : List NamedPolicy) (place : ℕ) (p : Policy) → policy_at policies place ≡ Some p
-    → (name : List ℕ) × (label_at policies place ≡ Some name)
+    → (name : List ℕ) × (policy_name_at policies place ≡ Some name)
 labelled policies place p at = from_place (slice_get policies place) at
   where
     from_place : (o : Option NamedPolicy) → option_map (λ (n : NamedPolicy). n.policy) o ≡ Some p
@@ -56,13 +56,13 @@ of_own plan own place p is at = from_found (own_policy_in own.policies place) re
 
 has-label : (plan : Plan) (own : Option OwnSchema) (place : ℕ) (p : Policy)
     → ((schema : OwnSchema) → own ≡ Some schema → IsOwnSchema plan schema)
-    → policy_by plan.declared.policies own place ≡ Some p → (name : List ℕ) × (label_at plan.declared.policies place ≡ Some name)
+    → policy_by plan.declared.policies own place ≡ Some p → (name : List ℕ) × (policy_name_at plan.declared.policies place ≡ Some name)
 has-label plan None place p sound at = labelled plan.declared.policies place p at
 has-label plan (Some schema) place p sound at =
     let there = of_own plan schema place p (sound schema refl) at in
     labelled plan.declared.policies place there.0 there.1
 
-mapped-back : (name : List ℕ) (o : Option AccessPolicy) → option_map (λ (p : List ℕ × AccessPolicy). p.1) (option_map (named name) o) ≡ o
+mapped-back : (name : List ℕ) (o : Option AccessPolicy) → option_map (λ (p : List ℕ × AccessPolicy). p.1) (option_map (with_policy_name name) o) ≡ o
 mapped-back name None = refl
 mapped-back name (Some policy) = refl
 
@@ -76,7 +76,7 @@ by-inbound : (plan : Plan) (app : Application) (inbound : Option ℕ) → IsAppl
 by-inbound plan app None is none sound = rw none refl
 by-inbound plan app (Some place) is some sound =
     let label = has-label plan app.own place sound.there (if-own plan app.own is.own) sound.found in
-    let labelled_so : label_of plan app ≡ Some label.0 = rw some label.1 in
+    let labelled_so : inbound_name plan app ≡ Some label.0 = rw some label.1 in
     rw labelled_so (mapped-back label.0 (inbound_of plan app))
 
 pub named-inbound : (plan : Plan) (app : Application) → IsApplication plan app

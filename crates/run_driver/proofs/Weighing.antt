@@ -5,14 +5,14 @@ use Rattle.std.proofs.lemmas.Bool.{eq-eqb, ne_eqb}
 use Rattle.std.proofs.lemmas.List.Elements.{All-cons, All-head, All-nil, All-tail}
 use Rattle.mrpc_table.specs.Valid.{AreDistinct}
 use Rattle.qos_order.specs.Account.{IsWeight, granted}
-use Rattle.qos_order.specs.Weights.{IsSound, conns_of, weight_of}
+use Rattle.qos_order.specs.Weights.{AreValidWeights, conns_of_weights, weight_of}
 use Rattle.qos_order.specs.declared.weights.Weight.{Weight}
 use Rattle.run_plan.specs.Plans.{IsApplication, IsPlan}
-use Rattle.run_plan.specs.Ports.{connections_of}
+use Rattle.run_plan.specs.Links.{connections_of}
 use Rattle.run_plan.specs.declared.application.Application.{Application}
 use Rattle.run_plan.specs.declared.plan.Plan.{Plan}
-use Rattle.service_wiring.specs.Weighing.{GoesBy}
-use Rattle.run_driver.specs.Ordering.{WeighsAs, weight_in, weights_of}
+use Rattle.service_wiring.specs.Weighing.{IsPlanOrder}
+use Rattle.run_driver.specs.Ordering.{HasPlanWeights, weight_in, weights_of}
 
 first-there : (y : ℕ) (ys : List ℕ) → Contains (y ∷ ys) y
 first-there y ys = (0, omega arith, refl)
@@ -32,7 +32,7 @@ unfolding IsDistinct
 distinct-is [] d = tt
 distinct-is (x ∷ xs) d = (none-equal x xs d.0, distinct-is xs d.1)
 
-same-conns : (apps : List Application) → conns_of (map weight_in apps) ≡ connections_of apps
+same-conns : (apps : List Application) → conns_of_weights (map weight_in apps) ≡ connections_of apps
 same-conns [] = refl
 same-conns (app ∷ apps) = ap (λ ns. app.conn ∷ ns) (same-conns apps)
 
@@ -44,7 +44,7 @@ in-range plan (app ∷ apps) all =
     All-cons (λ (w : Weight). IsWeight w.weight) (weight_in app) (map weight_in apps) here.port.weight
     (in-range plan apps (All-tail (IsApplication plan) app apps all))
 
-pub sound-weights : (plan : Plan) → IsPlan plan → IsSound (weights_of plan)
+pub sound-weights : (plan : Plan) → IsPlan plan → AreValidWeights (weights_of plan)
 sound-weights plan is = record {
   ranged = in-range plan plan.applications is.applications;
   once = subst (λ (ns : List ℕ). IsDistinct nat_eq ns) (sym (same-conns plan.applications))
@@ -73,8 +73,8 @@ weight-there (x ∷ apps) app (suc k) distinct within same =
     (subst (λ (n : ℕ). Contains (connections_of apps) n) (sym e) there)))
     (weight-there apps app k distinct.1 (omega (arith, within)) same)
 
-pub goes-by : (plan : Plan) (order : List Weight) → IsPlan plan → WeighsAs plan order
-    → GoesBy plan (λ conn kept. granted (weight_of order conn) kept)
+pub goes-by : (plan : Plan) (order : List Weight) → IsPlan plan → HasPlanWeights plan order
+    → IsPlanOrder plan (λ conn kept. granted (weight_of order conn) kept)
 goes-by plan order is weighs = λ weighted app there kept.
     ap (λ (n : ℕ). granted n kept)
     (weighs app.conn ∙ weight-there plan.applications app there.0 is.connections there.1 there.2)

@@ -1,3 +1,3 @@
 pub mod Ordering
 pub mod Running
-pub mod Telling
+pub mod Reporting

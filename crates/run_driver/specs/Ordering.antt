@@ -13,5 +13,5 @@ abbrev pub weights_of : Plan → List Weight
 weights_of plan = map weight_in plan.applications
 
 -- the order gives each connection the weight that the plan gives it
-abbrev pub WeighsAs : Plan → List Weight → Type 0
-WeighsAs plan order = (conn : ℕ) → weight_of order conn ≡ weight_of (weights_of plan) conn
+abbrev pub HasPlanWeights : Plan → List Weight → Type 0
+HasPlanWeights plan order = (conn : ℕ) → weight_of order conn ≡ weight_of (weights_of plan) conn

@@ -8,9 +8,9 @@
 //! its lines, and the fabric has the links of the connections back.
 #![tactic(auto)]
 
-mod giving_back;
 mod ordering;
+mod reporting;
+mod return_links;
 mod running;
-mod telling;
 
-pub use running::{Counted, Run, count_plan, serve_plan};
+pub use running::{RunCounts, RunReport, count_plan, serve_plan};

@@ -4,21 +4,21 @@ ghost use Rattle.std.specs.Prelude.{◌≡◌, IfOk};
 ghost use Rattle.qos_order.specs.Account.{granted};
 ghost use Rattle.qos_order.specs.Weights.{weight_of};
 ghost use Rattle.run_plan.specs.Plans.{IsPlan};
-ghost use Rattle.service_wiring.specs.Weighing.{GoesBy};
-ghost use Rattle.run_driver.specs.Ordering.{WeighsAs, weights_of};
+ghost use Rattle.service_wiring.specs.Weighing.{IsPlanOrder};
+ghost use Rattle.run_driver.specs.Ordering.{HasPlanWeights, weights_of};
 
 use mrpc_table::Memory;
-use qos_order::{Weight, Weighted, Weights, one_weight_fault};
+use qos_order::{Weight, Weighted, Weights, weights_or_fault};
 use run_plan::Plan;
 use std::alloc::Global;
 
 // The order by the weights of a plan.
 pub(crate) fn weighted(alloc: Global, plan: &Plan) -> Result<Weighted, Memory>
     requires { IsPlan plan.now }
-    ensures weighs { IfOk result (WeighsAs plan.now) }
-    ensures goes_by { IfOk result (λ order. GoesBy plan.now (λ conn kept. granted (weight_of order conn) kept)) }
+    ensures weighs { IfOk result (HasPlanWeights plan.now) }
+    ensures goes_by { IfOk result (λ order. IsPlanOrder plan.now (λ conn kept. granted (weight_of order conn) kept)) }
 {
-    one_weight_fault();
+    weights_or_fault();
     let weights = weights(alloc, plan)?;
     match Weighted::new(weights) {
         Ok(order) => Ok(order),

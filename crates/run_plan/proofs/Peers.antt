@@ -3,44 +3,44 @@ use Rattle.std.proofs.Common.{◌≡◌, ◌≢◌, ◌⊎◌, ℕ, zero, suc, L
 use Rattle.std.proofs.lemmas.Bool.Decides.{nat_tests}
 use Rattle.std.proofs.lemmas.Grind.{common_steps}
 use Rattle.mrpc_table.specs.Valid.{AreDistinct}
-use Rattle.run_plan.specs.Ports.{all_ends, peer_in}
-use Rattle.run_plan.specs.declared.plan.Pair.{Pair}
+use Rattle.run_plan.specs.Links.{all_ends, peer_in}
+use Rattle.run_plan.specs.declared.plan.LinkPlan.{LinkPlan}
 
 -- both ends of a link are among all ends
-first_end : (l : Pair) (ls : List Pair) → Contains (all_ends (l ∷ ls)) l.a
+first_end : (l : LinkPlan) (ls : List LinkPlan) → Contains (all_ends (l ∷ ls)) l.a
 first_end l ls = (0, omega arith, refl)
 
-second_end : (l : Pair) (ls : List Pair) → Contains (all_ends (l ∷ ls)) l.b
+second_end : (l : LinkPlan) (ls : List LinkPlan) → Contains (all_ends (l ∷ ls)) l.b
 second_end l ls = (1, omega arith, refl)
 
-later_end : (l : Pair) (ls : List Pair) (n : ℕ) → Contains (all_ends ls) n → Contains (all_ends (l ∷ ls)) n
+later_end : (l : LinkPlan) (ls : List LinkPlan) (n : ℕ) → Contains (all_ends ls) n → Contains (all_ends (l ∷ ls)) n
 later_end l ls n (k, within, same) = (suc (suc k), omega (arith, within), same)
 
 -- each of all ends is an end of the first link or of a later one
-which : (l : Pair) (ls : List Pair) (n : ℕ) → Contains (all_ends (l ∷ ls)) n
+which : (l : LinkPlan) (ls : List LinkPlan) (n : ℕ) → Contains (all_ends (l ∷ ls)) n
     → (l.a ≡ n) ⊎ ((l.b ≡ n) ⊎ Contains (all_ends ls) n)
 which l ls n (zero, within, same) = inl same
 which l ls n (suc zero, within, same) = inr (inl same)
 which l ls n (suc (suc k), within, same) = inr (inr (k, omega (arith, within), same))
 
 -- the peer by the first link, and by a later one
-at_a : (l : Pair) (ls : List Pair) → peer_in (l ∷ ls) l.a ≡ Some l.b
+at_a : (l : LinkPlan) (ls : List LinkPlan) → peer_in (l ∷ ls) l.a ≡ Some l.b
 at_a l ls = grind (arith, common_steps, nat_tests)
 
-at_b : (l : Pair) (ls : List Pair) → l.a ≢ l.b → peer_in (l ∷ ls) l.b ≡ Some l.a
+at_b : (l : LinkPlan) (ls : List LinkPlan) → l.a ≢ l.b → peer_in (l ∷ ls) l.b ≡ Some l.a
 at_b l ls apart = grind (arith, common_steps, nat_tests)
 
-behind : (l : Pair) (ls : List Pair) (n : ℕ) → l.a ≢ n → l.b ≢ n → peer_in (l ∷ ls) n ≡ peer_in ls n
+behind : (l : LinkPlan) (ls : List LinkPlan) (n : ℕ) → l.a ≢ n → l.b ≢ n → peer_in (l ∷ ls) n ≡ peer_in ls n
 behind l ls n a b = grind (arith, common_steps, nat_tests)
 
 -- two connections are peers of each other
-pub record Talk (links : List Pair) (conn peer : ℕ) : Type 0 where
+pub record Talk (links : List LinkPlan) (conn peer : ℕ) : Type 0 where
   pub there : peer_in links conn ≡ Some peer
   pub back : peer_in links peer ≡ Some conn
   pub end : Contains (all_ends links) peer
   pub apart : conn ≢ peer
 
-talk_behind : (l : Pair) (ls : List Pair) (conn peer : ℕ) → AreDistinct (all_ends (l ∷ ls)) → Contains (all_ends ls) conn
+talk_behind : (l : LinkPlan) (ls : List LinkPlan) (conn peer : ℕ) → AreDistinct (all_ends (l ∷ ls)) → Contains (all_ends ls) conn
     → Talk ls conn peer → Talk (l ∷ ls) conn peer
 talk_behind l ls conn peer distinct has talk =
     let not_a : (n : ℕ) → Contains (all_ends ls) n → l.a ≢ n =
@@ -54,7 +54,7 @@ talk_behind l ls conn peer distinct has talk =
       apart = talk.apart;
     }
 
-pub talks : (links : List Pair) (conn : ℕ) → AreDistinct (all_ends links) → Contains (all_ends links) conn
+pub talks : (links : List LinkPlan) (conn : ℕ) → AreDistinct (all_ends links) → Contains (all_ends links) conn
     → (peer : ℕ) × Talk links conn peer
 talks [] conn distinct (k, within, same) = absurd (omega (arith, within))
 talks (l ∷ ls) conn distinct has =

@@ -7,13 +7,13 @@ use Rattle.mrpc_table.specs.declared.table.Table.{Table}
 use Rattle.app_program.specs.declared.program.ProgramLine.{ProgramLine}
 use Rattle.app_program.specs.declared.program.ProgramLine.TheVariants as program
 use Rattle.app_program.specs.Programs.{IsClientLine, IsClientProgram}
-use Rattle.policy_declarations.specs.Declarations.{nothing}
+use Rattle.policy_declarations.specs.Declarations.{no_declarations}
 use Rattle.run_plan.specs.Chains.{empty_chain}
 use Rattle.run_plan.specs.Plans.{IsPlan, IsApplication, work}
-use Rattle.run_plan.specs.Ports.{HasClient, peer_in}
+use Rattle.run_plan.specs.Links.{HasClient, peer_in}
 use Rattle.run_plan.specs.declared.application.Application.{Application}
 use Rattle.run_plan.specs.declared.application.Role.TheVariants as role
-use Rattle.run_plan.specs.declared.plan.Pair.{Pair}
+use Rattle.run_plan.specs.declared.plan.LinkPlan.{LinkPlan}
 use Rattle.run_plan.specs.declared.plan.Plan.{Plan}
 
 none : {X : Type 0} (P : X → Type 0) → All P []
@@ -61,7 +61,7 @@ echo = record {
   own = None;
 }
 
-abbrev link : Pair
+abbrev link : LinkPlan
 link = record { a = 1; b = 2 }
 
 abbrev plan : Table → Plan
@@ -71,7 +71,7 @@ plan T = record {
   workers = 2;
   weighted = false;
   table = T;
-  declared = nothing;
+  declared = no_declarations;
   applications = client ∷ echo ∷ [];
   links = link ∷ [];
   operators = [];

@@ -5,17 +5,17 @@ use Rattle.mrpc_table.specs.declared.table.Table.{Table}
 use Rattle.policy_access.specs.Texts as access
 use Rattle.policy_access.specs.Verdict.{AccessPolicy}
 use Rattle.policy_redact.specs.Texts as redact
-use Rattle.engine_core.specs.Chains.{Chain, Changes}
+use Rattle.engine_core.specs.Chains.{Chain, HasChanged}
 use Rattle.engine_core.specs.declared.op.Op.{Op}
 use Rattle.engine_core.specs.declared.op.Op.TheVariants as op
 use Rattle.engine_core.specs.declared.policy.Policy.{Policy}
 use Rattle.engine_core.specs.declared.policy.Policy.TheVariants as policy
-use Rattle.policy_declarations.specs.declared.item.NamedPolicy.{NamedPolicy}
+use Rattle.policy_declarations.specs.declared.declaration.NamedPolicy.{NamedPolicy}
 use Rattle.run_plan.specs.declared.application.Application.{Application}
 use Rattle.run_plan.specs.declared.application.OwnPolicy.{OwnPolicy}
 use Rattle.run_plan.specs.declared.application.OwnSchema.{OwnSchema}
 use Rattle.run_plan.specs.declared.operator.Operator.{Operator}
-use Rattle.run_plan.specs.declared.operator.Step.{Step}
+use Rattle.run_plan.specs.declared.operator.OperatorStep.{OperatorStep}
 use Rattle.run_plan.specs.declared.operator.StepLine.{StepLine}
 use Rattle.run_plan.specs.declared.operator.StepLine.TheVariants as line
 use Rattle.run_plan.specs.declared.plan.Plan.{Plan}
@@ -23,8 +23,8 @@ use Rattle.run_plan.specs.declared.plan.Plan.{Plan}
 -- ---- policies by index
 
 -- the name under which a policy is declared
-abbrev pub label_at : List NamedPolicy → ℕ → Option (List ℕ)
-label_at policies place = option_map (λ p. p.name) (slice_get policies place)
+abbrev pub policy_name_at : List NamedPolicy → ℕ → Option (List ℕ)
+policy_name_at policies place = option_map (λ p. p.name) (slice_get policies place)
 
 -- a policy as read under the plan's table, and under the table of an application's own schema
 abbrev pub policy_at : List NamedPolicy → ℕ → Option Policy
@@ -41,16 +41,16 @@ abbrev pub table_by : Table → Option OwnSchema → Table
 table_by shared None = shared
 table_by shared (Some own) = own.table
 
-abbrev pub table_of : Plan → Application → Table
-table_of plan app = table_by plan.table app.own
+abbrev pub app_table : Plan → Application → Table
+app_table plan app = table_by plan.table app.own
 
 -- a policy of the plan as it judges on an application's connection
 abbrev pub policy_by : List NamedPolicy → Option OwnSchema → ℕ → Option Policy
 policy_by shared None place = policy_at shared place
 policy_by shared (Some own) place = own_policy_at own.policies place
 
-abbrev pub policy_of : Plan → Application → ℕ → Option Policy
-policy_of plan app place = policy_by plan.declared.policies app.own place
+abbrev pub app_policy : Plan → Application → ℕ → Option Policy
+app_policy plan app place = policy_by plan.declared.policies app.own place
 
 -- an access policy; none for a policy of another kind
 abbrev pub access_in : Option Policy → Option AccessPolicy
@@ -59,7 +59,7 @@ access_in _ = None
 
 -- the access policy that judges messages delivered to the application
 abbrev pub inbound_of : Plan → Application → Option AccessPolicy
-inbound_of plan app = option_and_then (λ place. access_in (policy_of plan app place)) app.inbound
+inbound_of plan app = option_and_then (λ place. access_in (app_policy plan app place)) app.inbound
 
 -- ---- policies under tables
 
@@ -70,12 +70,12 @@ IsReadUnder T (policy.Redact p) = (lines : List (List ℕ)) × redact.IsTextOf T
 IsReadUnder T _ = Unit {0}
 
 -- two policies mean the same, each under its table: they have the same lines, or are equal if they have none
-abbrev pub SaysTheSame : (T : Table) → Policy → (U : Table) → Policy → Type 0
-SaysTheSame T (policy.Access p) U (policy.Access q) =
+abbrev pub HaveSameMeaning : (T : Table) → Policy → (U : Table) → Policy → Type 0
+HaveSameMeaning T (policy.Access p) U (policy.Access q) =
     (lines : List (List ℕ)) × access.IsTextOf T lines p × access.IsTextOf U lines q
-SaysTheSame T (policy.Redact p) U (policy.Redact q) =
+HaveSameMeaning T (policy.Redact p) U (policy.Redact q) =
     (lines : List (List ℕ)) × redact.IsTextOf T lines p × redact.IsTextOf U lines q
-SaysTheSame T p U q = p ≡ q
+HaveSameMeaning T p U q = p ≡ q
 
 -- ---- steps
 
@@ -86,41 +86,41 @@ with_policy f _ _ = None
 
 abbrev pub op_of : Plan → Application → StepLine → Option Op
 op_of plan app (line.Attach at name place) =
-    with_policy (op.Attach at name) (label_at plan.declared.policies place) (policy_of plan app place)
+    with_policy (op.Attach at name) (policy_name_at plan.declared.policies place) (app_policy plan app place)
 op_of plan app (line.Detach name) = Some (op.Detach name)
 op_of plan app (line.Upgrade name place) =
-    with_policy (op.Upgrade name) (label_at plan.declared.policies place) (policy_of plan app place)
+    with_policy (op.Upgrade name) (policy_name_at plan.declared.policies place) (app_policy plan app place)
 
 -- the operation that attaches the policy at a position of the application's initial chain
-abbrev pub attaching : ℕ → List ℕ → Policy → Op
-attaching at label policy = op.Attach at label label policy
+abbrev pub attach_op : ℕ → List ℕ → Policy → Op
+attach_op at label policy = op.Attach at label label policy
 
 abbrev pub attachment_of : Plan → Application → ℕ → Option Op
 attachment_of plan app at =
-    option_and_then (λ place. with_policy (attaching at) (label_at plan.declared.policies place) (policy_of plan app place))
+    option_and_then (λ place. with_policy (attach_op at) (policy_name_at plan.declared.policies place) (app_policy plan app place))
     (slice_get app.chain at)
 
 -- attachments in order from a position of the chain, each under the name that its policy is declared by
-abbrev pub chained : List NamedPolicy → ℕ → List ℕ → List StepLine
-chained policies at [] = []
-chained policies at (place ∷ places) =
-    line.Attach at (unwrap_or (label_at policies place) []) place ∷ chained policies (at + 1) places
+abbrev pub attach_lines : List NamedPolicy → ℕ → List ℕ → List StepLine
+attach_lines policies at [] = []
+attach_lines policies at (place ∷ places) =
+    line.Attach at (unwrap_or (policy_name_at policies place) []) place ∷ attach_lines policies (at + 1) places
 
 -- the steps of operators for a connection
-abbrev pub steps_in : Option Operator → List Step
-steps_in None = []
-steps_in (Some operator) = operator.steps
+abbrev pub steps_of_operator : Option Operator → List OperatorStep
+steps_of_operator None = []
+steps_of_operator (Some operator) = operator.steps
 
 abbrev pub operator_in : List Operator → ℕ → Option Operator
 operator_in operators conn = find (λ operator. operator.conn == conn) operators
 
-abbrev pub steps_on : List Operator → ℕ → List Step
-steps_on operators conn = steps_in (operator_in operators conn)
+abbrev pub steps_on : List Operator → ℕ → List OperatorStep
+steps_on operators conn = steps_of_operator (operator_in operators conn)
 
 -- all lines for the chain of an application's connection, in order: its initial attachments, then the steps
-abbrev pub lines_on : Plan → Application → List StepLine
-lines_on plan app =
-    chained plan.declared.policies 0 app.chain ++ map (λ step. step.line) (steps_on plan.operators app.conn)
+abbrev pub chain_lines : Plan → Application → List StepLine
+chain_lines plan app =
+    attach_lines plan.declared.policies 0 app.chain ++ map (λ step. step.line) (steps_on plan.operators app.conn)
 
 -- ---- chains
 
@@ -128,13 +128,13 @@ abbrev pub empty_chain : Chain
 empty_chain = record { entries = []; attached = 0 }
 
 -- the operations change the chain one after another, and none is refused
-abbrev pub Changing : Chain → List Op → Chain → Type 0
-Changing before [] after = after ≡ before
-Changing before (op ∷ ops) after = (next : Chain) × Changes before op next × Changing next ops after
+abbrev pub IsChangedBy : Chain → List Op → Chain → Type 0
+IsChangedBy before [] after = after ≡ before
+IsChangedBy before (op ∷ ops) after = (next : Chain) × HasChanged before op next × IsChangedBy next ops after
 
 -- the lines mean operations of which the chain refuses none
-pub record NeverRefuses (plan : Plan) (app : Application) (lines : List StepLine) : Type 0 where
+pub record AreNeverRefused (plan : Plan) (app : Application) (lines : List StepLine) : Type 0 where
   pub ops : List Op
   pub stand_for : map (op_of plan app) lines ≡ map Some ops
   pub after : Chain
-  pub change : Changing empty_chain ops after
+  pub change : IsChangedBy empty_chain ops after

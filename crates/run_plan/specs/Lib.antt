@@ -1,3 +1,3 @@
 pub mod Chains
 pub mod Plans
-pub mod Ports
+pub mod Links

@@ -2,18 +2,18 @@
 use Rattle.std.specs.Prelude.{◌≡◌, ℕ, ◌*◌, ◌<◌, ◌≤◌, List, length, map, sum, All, Contains, Some, IfSome, slice_get}
 use Rattle.mrpc_table.specs.Lines.{IsIn}
 use Rattle.mrpc_table.specs.Names.{IsName, IsFullName}
-use Rattle.mrpc_table.specs.Valid.{IsValid, Ascends, AreDistinct}
+use Rattle.mrpc_table.specs.Valid.{IsValid, IsAscendingBy, AreDistinct}
 use Rattle.mrpc_table.specs.declared.limits.TheConstants.{MAX_LOADS}
 use Rattle.mrpc_table.specs.declared.table.Table.{Table}
 use Rattle.engine_core.specs.Policies.{IsAccess}
 use Rattle.engine_core.specs.declared.policy.Policy.{Policy}
 use Rattle.engine_core.specs.declared.policy.Policy.TheVariants.{Quota}
-use Rattle.policy_declarations.specs.Declarations.{IsSound}
-use Rattle.policy_declarations.specs.declared.item.NamedPolicy.{NamedPolicy}
-use Rattle.policy_declarations.specs.declared.item.Tenant.{Tenant}
-use Rattle.app_program.specs.Programs.{IsClientProgram, IsServerProgram, submits_of}
-use Rattle.run_plan.specs.Chains.{policy_at, policy_of, IsReadUnder, SaysTheSame, lines_on, NeverRefuses}
-use Rattle.run_plan.specs.Ports.{IsPort, ArePaired, connections_of}
+use Rattle.policy_declarations.specs.Declarations.{AreValidDeclarations}
+use Rattle.policy_declarations.specs.declared.declaration.NamedPolicy.{NamedPolicy}
+use Rattle.policy_declarations.specs.declared.declaration.Tenant.{Tenant}
+use Rattle.app_program.specs.Programs.{IsClientProgram, IsServerProgram, program_submits}
+use Rattle.run_plan.specs.Chains.{policy_at, app_policy, IsReadUnder, HaveSameMeaning, chain_lines, AreNeverRefused}
+use Rattle.run_plan.specs.Links.{HasNumbersInRange, ArePaired, connections_of}
 use Rattle.run_plan.specs.declared.application.Application.{Application}
 use Rattle.run_plan.specs.declared.application.OwnPolicy.{OwnPolicy}
 use Rattle.run_plan.specs.declared.application.OwnSchema.{OwnSchema}
@@ -34,13 +34,13 @@ HasProgram words (role.Server program) = IsServerProgram words program
 HasProgram words role.Echo = Unit {0}
 
 -- the number of calls that a client submits
-abbrev pub submissions : Role → ℕ
-submissions (role.Client program) = length (submits_of 0 program)
-submissions _ = 0
+abbrev pub submission_count : Role → ℕ
+submission_count (role.Client program) = length (program_submits 0 program)
+submission_count _ = 0
 
 -- the loads of all calls: each call of a client counts twice, for its reply, with the maximum loads of one call
 abbrev pub work : ℕ → List Application → ℕ
-work loads apps = 2 * sum (map (λ app. submissions app.role) apps) * loads
+work loads apps = 2 * sum (map (λ app. submission_count app.role) apps) * loads
 
 -- ---- policies
 
@@ -54,17 +54,17 @@ HasWindow tenants _ = Unit {0}
 pub record IsOwnPolicy (shared : Table) (policies : List NamedPolicy) (own : Table) (p : OwnPolicy) : Type 0 where
   pub there : Policy
   pub found : policy_at policies p.place ≡ Some there
-  pub same : SaysTheSame shared there own p.policy
+  pub same : HaveSameMeaning shared there own p.policy
 
 pub record IsOwnSchema (plan : Plan) (own : OwnSchema) : Type 0 where
   pub table : IsValid own.table
-  pub places : Ascends (λ p q. p.place < q.place) own.policies
+  pub places : IsAscendingBy (λ p q. p.place < q.place) own.policies
   pub policies : All (IsOwnPolicy plan.table plan.declared.policies own.table) own.policies
 
 -- the index is that of an access policy, as it judges on an application's connection
 pub record IsInbound (plan : Plan) (app : Application) (place : ℕ) : Type 0 where
   pub there : Policy
-  pub found : policy_of plan app place ≡ Some there
+  pub found : app_policy plan app place ≡ Some there
   pub access : IsAccess there
 
 -- ---- operators
@@ -76,25 +76,25 @@ HasNames (line.Upgrade name place) = IsName name
 
 pub record IsOperator (plan : Plan) (operator : Operator) : Type 0 where
   pub conn : Contains (connections_of plan.applications) operator.conn
-  pub counts : Ascends (λ step next. step.count ≤ next.count) operator.steps
+  pub counts : IsAscendingBy (λ step next. step.count ≤ next.count) operator.steps
   pub names : All (λ step. HasNames step.line) operator.steps
   pub few : length operator.steps ≤ MAX_STEPS
 
 -- ---- applications and plans
 
 pub record IsApplication (plan : Plan) (app : Application) : Type 0 where
-  pub port : IsPort app
+  pub port : HasNumbersInRange app
   pub program : HasProgram app.heap app.role
   pub own : IfSome app.own (IsOwnSchema plan)
   pub inbound : IfSome app.inbound (IsInbound plan app)
-  pub chain : NeverRefuses plan app (lines_on plan app)
+  pub chain : AreNeverRefused plan app (chain_lines plan app)
 
 pub record IsPlan (plan : Plan) : Type 0 where
   pub service : IsFullName plan.service
   pub loads : IsIn 1 MAX_LOADS plan.loads
   pub workers : IsIn 1 MAX_WORKERS plan.workers
   pub table : IsValid plan.table
-  pub declared : IsSound plan.declared
+  pub declared : AreValidDeclarations plan.declared
   pub read : All (λ p. IsReadUnder plan.table p.policy) plan.declared.policies
   pub windows : All (λ p. HasWindow plan.declared.tenants p.policy) plan.declared.policies
   pub few : length plan.applications ≤ MAX_CONNECTIONS

@@ -1,11 +1,11 @@
 //! Laws of plans. These functions do nothing; their contracts are the laws.
 
 ghost use Rattle.std.specs.Prelude.{◌≡◌, ◌≢◌, ◌∷◌, ◌++◌, ℕ, List, Some, Contains, map};
-ghost use Rattle.engine_core.specs.Chains.{Chain, Changes};
+ghost use Rattle.engine_core.specs.Chains.{Chain, HasChanged};
 ghost use Rattle.engine_core.specs.declared.op.Op.{Op};
-ghost use Rattle.run_plan.specs.Chains.{Changing, empty_chain, lines_on, op_of};
+ghost use Rattle.run_plan.specs.Chains.{IsChangedBy, empty_chain, chain_lines, op_of};
 ghost use Rattle.run_plan.specs.Plans.{IsPlan};
-ghost use Rattle.run_plan.specs.Ports.{connections_of, peer_in};
+ghost use Rattle.run_plan.specs.Links.{connections_of, peer_in};
 ghost use Rattle.run_plan.specs.declared.application.Application.{Application};
 ghost use Rattle.run_plan.specs.declared.operator.StepLine.{StepLine};
 ghost use Rattle.run_plan.specs.declared.plan.Plan.{Plan};
@@ -14,9 +14,9 @@ ghost use Rattle.run_plan.specs.declared.plan.Plan.{Plan};
 /// made.
 pub fn chains_never_refuse()
     ensures { (plan : Plan) (app : Application) (front back : List StepLine) (line : StepLine) → IsPlan plan
-        → Contains plan.applications app → lines_on plan app ≡ front ++ line ∷ back
+        → Contains plan.applications app → chain_lines plan app ≡ front ++ line ∷ back
         → (ops : List Op) × (op : Op) × (before after : Chain) × (map (op_of plan app) front ≡ map Some ops)
-        × (op_of plan app line ≡ Some op) × Changing empty_chain ops before × Changes before op after }
+        × (op_of plan app line ≡ Some op) × IsChangedBy empty_chain ops before × HasChanged before op after }
 {}
 
 /// Each connection of a plan has a peer, which has this connection as its peer.

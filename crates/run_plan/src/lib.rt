@@ -11,14 +11,14 @@
 #![tactic(auto)]
 
 mod application;
+mod chain_ops;
 mod laws;
 mod limits;
 mod operator;
 mod plan;
-mod steps;
 
 pub use application::{Application, OwnPolicy, OwnSchema, Role};
 pub use laws::{chains_never_refuse, peers_are_mutual};
 pub use limits::{MAX_CONNECTIONS, MAX_RING, MAX_STEPS, MAX_WEIGHT, MAX_WORK, MAX_WORKERS};
-pub use operator::{Operator, Step, StepLine};
-pub use plan::{Pair, Plan};
+pub use operator::{Operator, OperatorStep, StepLine};
+pub use plan::{LinkPlan, Plan};

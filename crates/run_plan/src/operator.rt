@@ -31,15 +31,15 @@ impl Drop for StepLine {
 }
 
 /// A step, due once the connection has taken `count` calls and before it takes another.
-pub struct Step {
+pub struct OperatorStep {
     pub count: u64,
     pub line: StepLine,
 }
 
 // Written by hand so that a drop is one call, not a drop of each field.
-impl Drop for Step {
+impl Drop for OperatorStep {
     fn drop(self) {
-        let Step {
+        let OperatorStep {
             count: _,
             line: _line,
         } = self;
@@ -49,7 +49,7 @@ impl Drop for Step {
 /// The steps for one connection, in order of non-decreasing counts.
 pub struct Operator {
     pub conn: u32,
-    pub steps: Sequence<Step>,
+    pub steps: Sequence<OperatorStep>,
 }
 
 // Written by hand so that a drop is one call, not a drop of each field.

@@ -3,7 +3,7 @@
 ghost use Rattle.std.specs.Prelude.{◌≡◌};
 ghost use Rattle.std.specs.Option.{option_copied};
 ghost use Rattle.run_plan.specs.Chains.{operator_in};
-ghost use Rattle.run_plan.specs.Ports.{application_in, link_in, other_end, peer_in};
+ghost use Rattle.run_plan.specs.Links.{application_in, link_in, other_end, peer_in};
 
 use crate::application::Application;
 use crate::operator::Operator;
@@ -12,7 +12,7 @@ use policy_declarations::Declarations;
 
 /// Two connections that talk to each other.
 #[derive(Clone, Copy)]
-pub struct Pair {
+pub struct LinkPlan {
     pub a: u32,
     pub b: u32,
 }
@@ -32,7 +32,7 @@ pub struct Plan {
     /// The tenants, and the policies as read under `table`.
     pub declared: Declarations,
     pub applications: Sequence<Application>,
-    pub links: Sequence<Pair>,
+    pub links: Sequence<LinkPlan>,
     /// At most one for each connection.
     pub operators: Sequence<Operator>,
 }
@@ -66,7 +66,7 @@ impl Plan {
     }
 
     /// The link of a connection; `None` if it is in no link.
-    pub fn link(&self, conn: u32) -> Option<&Pair>
+    pub fn link(&self, conn: u32) -> Option<&LinkPlan>
         ensures { option_copied result ≡ link_in self.now.links conn }
     {
         self.links
@@ -96,7 +96,7 @@ impl Plan {
     }
 }
 
-impl Pair {
+impl LinkPlan {
     /// The end other than `conn`.
     pub fn other_end(&self, conn: u32) -> u32
         ensures { result ≡ other_end conn self.now }

@@ -3,15 +3,15 @@ use Rattle.std.proofs.Common.{◌≡◌, ℕ, zero, suc, ◌+◌, ◌<◌, ◌^�
 use Rattle.std.proofs.Common.{take, Some, refl, sym, ap, ◌∙◌, subst, append_assoc, append-nil, length-append, arith}
 use Rattle.std.specs.Prelude.{slice_get}
 use Rattle.std.specs.List.{flat_map}
-use Rattle.telemetry.specs.Counts.{Happened as Counted, IsSmall, counts_of, number_of, one_more, plus}
-use Rattle.telemetry.specs.Totals.{JoinedCounts, OneCounts, counts_in, sums_of}
+use Rattle.telemetry.specs.Counts.{CountedEvent as Counted, AreIn64Bits, counts_of, count_named, one_more, plus}
+use Rattle.telemetry.specs.Totals.{IsJoinedCountSum, IsCountOneMore, counts_in, sums_of}
 use Rattle.telemetry.specs.declared.counts.Counts.{Counts}
 use Rattle.telemetry.specs.declared.counts.What.{What}
 use Rattle.telemetry.specs.declared.counts.What.TheVariants.{Took, Sent, Refused, Standing}
 use Rattle.run_report.specs.Counts.{CanCount, HaveCounted, counts_together}
 use Rattle.run_report.proofs.Lines.{all-of, one-more}
 
-pub number-within : (what : What) (counts : Counts) → number_of what counts ≤ counts_together counts
+pub number-within : (what : What) (counts : Counts) → count_named what counts ≤ counts_together counts
 number-within Took counts = omega arith
 number-within Sent counts = omega arith
 number-within Refused counts = omega arith
@@ -27,7 +27,7 @@ flip : (m k : ℕ) → (m == k) ≡ (k == m)
 flip m k = grind arith
 
 -- one more event is counted
-pub counted-one : OneCounts → (happened : List Counted) (one : Counted) (totals next : List (ℕ × Counts)) → HaveCounted happened totals
+pub counted-one : IsCountOneMore → (happened : List Counted) (one : Counted) (totals next : List (ℕ × Counts)) → HaveCounted happened totals
     → ((m : ℕ) → counts_in next m ≡ (if m == one.method then one_more one.what (counts_in totals m) else counts_in totals m))
     → sums_of next ≡ one_more one.what (sums_of totals) → HaveCounted (happened ++ one ∷ []) next
 counted-one law happened one totals next so at sums = record {
@@ -54,7 +54,7 @@ plus-together : (a b : Counts) → counts_together (plus a b) ≡ counts_togethe
 plus-together a b = omega arith
 
 -- sums of so few are small
-pub plus-small : (a b : Counts) → counts_together a + counts_together b < 2 ^ 64 → IsSmall (plus a b)
+pub plus-small : (a b : Counts) → counts_together a + counts_together b < 2 ^ 64 → AreIn64Bits (plus a b)
 plus-small a b few = record {
   took = omega (arith, few);
   sent = omega (arith, few);
@@ -63,7 +63,7 @@ plus-small a b few = record {
 }
 
 -- the counts of others are added
-pub counted-more : JoinedCounts → (happened more : List Counted) (all own next : List (ℕ × Counts)) → HaveCounted happened all
+pub counted-more : IsJoinedCountSum → (happened more : List Counted) (all own next : List (ℕ × Counts)) → HaveCounted happened all
     → HaveCounted more own → ((m : ℕ) → counts_in next m ≡ plus (counts_in all m) (counts_in own m))
     → sums_of next ≡ plus (sums_of all) (sums_of own) → HaveCounted (happened ++ more) next
 counted-more law happened more all own next so its at sums = record {

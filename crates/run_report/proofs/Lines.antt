@@ -4,7 +4,7 @@ use Rattle.std.proofs.Common.{ap, ◌∙◌, append_assoc, append-nil, arith}
 use Rattle.std.proofs.lemmas.List.{length-map}
 use Rattle.std.specs.Prelude.{slice_get}
 use Rattle.std.specs.List.{flat_map}
-use Rattle.engine_core.specs.Marks.{StandingCall, seqs_of}
+use Rattle.engine_core.specs.Marks.{PendingCall, seqs_of}
 use Rattle.engine_core.specs.Moves.{Row}
 
 module _ {X A : Type 0} (f : X → List A) where
@@ -42,5 +42,5 @@ mapped f g [] = refl
 mapped f g (x ∷ xs) = ap (λ lines. f (g x) ++ lines) (mapped f g xs)
 
 -- a row has as many calls as are pending
-pub rows-long : (row : Row) (calls : List StandingCall) → map (λ call. call.0) row ≡ seqs_of calls → length row ≡ length calls
-rows-long row calls same = sym (length-map row (λ (call : ℕ × ℕ). call.0)) ∙ ap length same ∙ length-map calls (λ (s : StandingCall). s.call.seq)
+pub rows-long : (row : Row) (calls : List PendingCall) → map (λ call. call.0) row ≡ seqs_of calls → length row ≡ length calls
+rows-long row calls same = sym (length-map row (λ (call : ℕ × ℕ). call.0)) ∙ ap length same ∙ length-map calls (λ (s : PendingCall). s.call.seq)

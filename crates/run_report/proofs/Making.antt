@@ -5,17 +5,17 @@ use Rattle.std.specs.Prelude.{IfOk, Result, slice_get, slice_index_or}
 use Rattle.std.specs.List.{AllZip}
 use Rattle.std.proofs.lemmas.Option.{none-some, same_Some}
 use Rattle.mrpc_table.specs.declared.memory.Memory.{Memory}
-use Rattle.run_report.specs.Fronts.{AreMade, IsMade, Making}
-use Rattle.run_report.specs.declared.fronts.Made.{Made}
+use Rattle.run_report.specs.Prefixes.{AreMadePrefixes, IsMadePrefix, ExpectedPrefix}
+use Rattle.run_report.specs.declared.prefixes.MadePrefix.{MadePrefix}
 
 pub all-one : {X : Type 0} (P : X → Type 0) (x : X) → P x → All P (x ∷ [])
 all-one P x is zero d less = is
 all-one P x is (suc k) d less = absurd (omega (arith, less))
 
-pub made-places : (makings : List Making) (made : List (Result Made Memory)) → length made ≡ length makings
-    → ((k : ℕ) (d : Making) (e : Result Made Memory) → k < length makings
-    → IfOk (slice_index_or made k e) (IsMade (slice_index_or makings k d)))
-    → AreMade makings made
+pub made-places : (makings : List ExpectedPrefix) (made : List (Result MadePrefix Memory)) → length made ≡ length makings
+    → ((k : ℕ) (d : ExpectedPrefix) (e : Result MadePrefix Memory) → k < length makings
+    → IfOk (slice_index_or made k e) (IsMadePrefix (slice_index_or makings k d)))
+    → AreMadePrefixes makings made
 made-places [] [] same each = tt
 made-places [] (y ∷ ys) same each = absurd (omega (arith, same))
 made-places (x ∷ xs) [] same each = absurd (omega (arith, same))
@@ -24,27 +24,27 @@ made-places (x ∷ xs) (y ∷ ys) same each = (
   made-places xs ys (omega (arith, same)) (λ k d e less. each (suc k) d e (omega (arith, less))),
 )
 
-some-made : (making : Making) (makings : List Making) (made : List (Result Made Memory)) → AreMade (making ∷ makings) made
+some-made : (making : ExpectedPrefix) (makings : List ExpectedPrefix) (made : List (Result MadePrefix Memory)) → AreMadePrefixes (making ∷ makings) made
     → length made ≡ 0 → ⊥
 some-made making makings [] all few = all
 some-made making makings (m ∷ made) all few = omega (arith, few)
 
-module _ {X : Type 0} (f : X → Making) (xs : List X) (i : ℕ) (x : X) (made : List (Result Made Memory)) (less : i < length xs)
-    (is : x ≡ get_or xs i x) (all : AreMade (map f (drop i xs)) made) where
+module _ {X : Type 0} (f : X → ExpectedPrefix) (xs : List X) (i : ℕ) (x : X) (made : List (Result MadePrefix Memory)) (less : i < length xs)
+    (is : x ≡ get_or xs i x) (all : AreMadePrefixes (map f (drop i xs)) made) where
   next-is : drop i xs ≡ x ∷ drop (i + 1) xs
   next-is =
       let place : suc i ≡ i + 1 = omega arith in
       drop-cons xs i x less ∙ ap (λ (y : X). y ∷ drop (suc i) xs) (sym is) ∙ ap (λ n. x ∷ drop n xs) place
 
   -- the next one is made of the next item
-  pub made-next : (one : Result Made Memory) (rest : List (Result Made Memory)) → made ≡ one ∷ rest
-      → IfOk one (IsMade (f x)) × AreMade (map f (drop (i + 1) xs)) rest
-  made-next one rest same = subst (λ (l : List X). AreMade (map f l) (one ∷ rest)) next-is
-      (subst (AreMade (map f (drop i xs))) same all)
+  pub made-next : (one : Result MadePrefix Memory) (rest : List (Result MadePrefix Memory)) → made ≡ one ∷ rest
+      → IfOk one (IsMadePrefix (f x)) × AreMadePrefixes (map f (drop (i + 1) xs)) rest
+  made-next one rest same = subst (λ (l : List X). AreMadePrefixes (map f l) (one ∷ rest)) next-is
+      (subst (AreMadePrefixes (map f (drop i xs))) same all)
 
   -- there is one
   pub made-more : length made ≡ 0 → ⊥
-  made-more none = some-made (f x) (map f (drop (i + 1) xs)) made (subst (λ (l : List X). AreMade (map f l) made) next-is all) none
+  made-more none = some-made (f x) (map f (drop (i + 1) xs)) made (subst (λ (l : List X). AreMadePrefixes (map f l) made) next-is all) none
 
 -- ---- index by index
 

@@ -3,7 +3,7 @@ use Rattle.std.proofs.Common.{◌≡◌, [], ◌∷◌, refl, true, false, Some,
 use Rattle.std.specs.Prelude.{codes}
 use Rattle.std.specs.Fmt.{digits}
 use Rattle.frame_transport.specs.declared.fault.FeedFault.TheVariants.{Kind}
-use Rattle.run_report.specs.Telling.{cut_text, not_held_text}
+use Rattle.run_report.specs.ConnectionReport.{cut_text, not_held_text}
 
 -- a client gives back a block that it never had
 a-false-reclaim : not_held_text 1 (9 ∷ []) ≡ codes "notheld 1 9\n"

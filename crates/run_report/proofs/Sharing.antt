@@ -24,19 +24,19 @@ use Rattle.chain_upgrade.proofs.cuts.Cuts.TheSendSync as cuts
 use Rattle.chain_upgrade.specs.contracts.chain.Chain as Chain
 use Rattle.chain_upgrade.specs.contracts.chain.Chain.TheInside as ChainInside
 use Rattle.graph_form.proofs.reason.Reason.TheSendSync as reason
-use Rattle.call_history.proofs.record.Refusal.TheSendSync as refusal
+use Rattle.call_history.proofs.record.RecordedCause.TheSendSync as refusal
 use Rattle.call_history.specs.contracts.happening.TookCopy as TookCopy
-use Rattle.call_history.specs.contracts.happening.Taken as Taken
-use Rattle.call_history.specs.contracts.record.Record as Record
+use Rattle.call_history.specs.contracts.happening.AcceptedCall as Taken
+use Rattle.call_history.specs.contracts.record.HistoryRecord as Record
 use Rattle.call_history.specs.contracts.history.History as History
 use Rattle.call_history.specs.contracts.history.History.TheInside as HistoryInside
-use Rattle.wire_encode.proofs.output.Output.TheSendSync as output
+use Rattle.wire_encode.proofs.backward_buffer.BackwardBuffer.TheSendSync as output
 use Rattle.conn_core.specs.contracts.conn.Conn as Conn
 use Rattle.conn_core.specs.contracts.conn.Conn.TheInside as ConnInside
 use Rattle.receive_core.proofs.arrival.DropCause.TheSendSync as cause
 use Rattle.message_delivery.specs.contracts.arrivals.ArrivalLine as ArrivalLine
 use Rattle.run_report.proofs.arrivals.Judge.TheSendSync as judge
-use Rattle.run_report.specs.contracts.fronts.Front as Front
+use Rattle.run_report.specs.contracts.prefixes.PrefixSource as Front
 
 word : (w : Width) → IsSync (as_row (uint_field w))
 word w = as_row_sync (uint_field w) (plain_sync _ _ _ _ _)

@@ -7,12 +7,12 @@ use Rattle.std.specs.List.{AllZip, concat, flat_map}
 use Rattle.std.proofs.lemmas.List.Folds.{concat-append}
 use Rattle.call_history.specs.declared.happening.Happening.{Happening}
 use Rattle.call_history.specs.declared.happening.Happening.TheVariants.{Took, Away, Op, Moment, Charged, Drawn, Counted, Redacted, Sent, Refused}
-use Rattle.call_history.specs.declared.happening.Taken.{Taken}
+use Rattle.call_history.specs.declared.happening.AcceptedCall.{AcceptedCall}
 use Rattle.run_report.specs.Counting.{counted}
-use Rattle.receive_core.specs.Life.{Life}
-use Rattle.message_delivery.specs.Arriving.{AreArriving, HaveLived}
+use Rattle.receive_core.specs.ReceiverTraces.{ReceiverTrace}
+use Rattle.message_delivery.specs.Arriving.{HasTrace, IsArrivalTrace}
 use Rattle.message_delivery.specs.declared.arrivals.Arrivals.{Arrivals}
-use Rattle.run_report.specs.Telling.{IsLeft}
+use Rattle.run_report.specs.ConnectionReport.{IsStreamRemainder}
 
 -- ---- index by index
 
@@ -42,7 +42,7 @@ joined-last texts all last first second more is =
 
 -- ---- the number of lines that count
 
-counted-few : (calls : List Taken) (h : Happening) → length (counted calls h) ≤ 1
+counted-few : (calls : List AcceptedCall) (h : Happening) → length (counted calls h) ≤ 1
 counted-few calls (Took call) = omega arith
 counted-few calls (Away method number addr) = omega arith
 counted-few calls (Op step) = omega arith
@@ -54,7 +54,7 @@ counted-few calls (Redacted seq name version) = omega arith
 counted-few calls (Sent seq bytes) = omega arith
 counted-few calls (Refused seq why) = omega arith
 
-pub few-counted : (calls : List Taken) (hs : List Happening) → length (flat_map (counted calls) hs) ≤ length hs
+pub few-counted : (calls : List AcceptedCall) (hs : List Happening) → length (flat_map (counted calls) hs) ≤ length hs
 few-counted calls [] = omega arith
 few-counted calls (h ∷ hs) =
     let rest = few-counted calls hs in
@@ -64,16 +64,16 @@ few-counted calls (h ∷ hs) =
 
 -- ---- the remainder, by any trace of the stream
 
-pub left-any : (conn : ℕ) (failed : Bool) (a : Arrivals) (out next : List ℕ) → AreArriving a
-    → ((life : Life) → HaveLived life a → (text : List ℕ) × IsLeft conn failed life text × (next ≡ out ++ text))
-    → (left : List ℕ) × ((life : Life) → HaveLived life a → IsLeft conn failed life left) × (next ≡ out ++ left)
+pub left-any : (conn : ℕ) (failed : Bool) (a : Arrivals) (out next : List ℕ) → HasTrace a
+    → ((life : ReceiverTrace) → IsArrivalTrace life a → (text : List ℕ) × IsStreamRemainder conn failed life text × (next ≡ out ++ text))
+    → (left : List ℕ) × ((life : ReceiverTrace) → IsArrivalTrace life a → IsStreamRemainder conn failed life left) × (next ≡ out ++ left)
 left-any conn failed a out next arriving told =
-    let first : (text : List ℕ) × IsLeft conn failed arriving.0 text × (next ≡ out ++ text) = told arriving.0 arriving.1 in (
+    let first : (text : List ℕ) × IsStreamRemainder conn failed arriving.0 text × (next ≡ out ++ text) = told arriving.0 arriving.1 in (
       first.0,
       λ life lived.
-          let more : (text : List ℕ) × IsLeft conn failed life text × (next ≡ out ++ text) = told life lived in
+          let more : (text : List ℕ) × IsStreamRemainder conn failed life text × (next ≡ out ++ text) = told life lived in
           let same : more.0 ≡ first.0 = append_cancel_left out more.0 first.0 (sym more.2 ∙ first.2) in
-          subst (λ text. IsLeft conn failed life text) same more.1,
+          subst (λ text. IsStreamRemainder conn failed life text) same more.1,
       first.2,
     )
 

@@ -2,46 +2,46 @@
 use Rattle.std.proofs.Common.{◌≡◌, ℕ, ◌-◌, Bool, All, List, [], ◌∷◌, ◌++◌, length, refl, sym, ap, ◌∙◌}
 use Rattle.std.specs.List.{AllZip, concat, flat_map}
 use Rattle.std.proofs.lemmas.List.Elements.{All-head, All-tail}
-use Rattle.frame_transport.specs.Frames.{SplitsOnce}
-use Rattle.frame_transport.specs.Feed.{total}
+use Rattle.frame_transport.specs.Frames.{IsSplitUnique}
+use Rattle.frame_transport.specs.Feed.{total_fed}
 use Rattle.frame_transport.specs.declared.format.Frame.{Frame}
-use Rattle.receive_core.specs.Life.{Life}
-use Rattle.message_delivery.specs.Arriving.{AreArriving, HaveLived}
+use Rattle.receive_core.specs.ReceiverTraces.{ReceiverTrace}
+use Rattle.message_delivery.specs.Arriving.{HasTrace, IsArrivalTrace}
 use Rattle.message_delivery.specs.declared.arrivals.Arrivals.{Arrivals}
 use Rattle.telemetry.specs.Totals.{IsTextOf}
 use Rattle.run_report.specs.Counting.{counted_in}
-use Rattle.run_report.specs.Telling.{IsLeft, cut_text, waiting_text}
-use Rattle.run_report.specs.Told.{IsRunText, IsServedText, IsShownText, IsTellable, IsTellableConn, rounds_of}
-use Rattle.run_report.specs.declared.shown.Shown.{Shown}
-use Rattle.run_report.specs.declared.shown.Shown.TheVariants.{Served, Unbound}
-use Rattle.run_report.specs.declared.shown.ShownConn.{ShownConn}
+use Rattle.run_report.specs.ConnectionReport.{IsStreamRemainder, cut_text, waiting_text}
+use Rattle.run_report.specs.Report.{IsRunText, IsServedText, IsReportText, IsReportable, IsReportableConn, rounds_of}
+use Rattle.run_report.specs.declared.reported_connection.ReportedConnection.{ReportedConnection}
+use Rattle.run_report.specs.declared.reported_connection.ReportedConnection.TheVariants.{Served, Unbound}
+use Rattle.run_report.specs.declared.reported_connection.ServedReport.{ServedReport}
 use Rattle.run_report.proofs.Keeping.{cut-same}
 
-module _ (once : SplitsOnce) where
+module _ (once : IsSplitUnique) where
   -- the remainder after the frames of a trace
-  abbrev left-behind : (conn : ℕ) (failed : Bool) (life : Life) (a : Arrivals) → HaveLived life a → List ℕ
+  abbrev left-behind : (conn : ℕ) (failed : Bool) (life : ReceiverTrace) (a : Arrivals) → IsArrivalTrace life a → List ℕ
   left-behind conn failed life a lived =
       cut_text conn failed life.fault (length life.stream - length lived.lives.all.rest) lived.lives.all.rest
       ++ waiting_text conn lived.lives.waiting
 
   -- it is the same after those of another trace
-  left-same : (conn : ℕ) (failed : Bool) (life other : Life) (a : Arrivals) (lived : HaveLived life a)
-      (also : HaveLived other a) → left-behind conn failed life a lived ≡ left-behind conn failed other a also
+  left-same : (conn : ℕ) (failed : Bool) (life other : ReceiverTrace) (a : Arrivals) (lived : IsArrivalTrace life a)
+      (also : IsArrivalTrace other a) → left-behind conn failed life a lived ≡ left-behind conn failed other a also
   left-same conn failed life other a lived also =
       let fed = a.inbound.fed in
       let same : (lived.lives.waiting ≡ also.lives.waiting) × (lived.lives.kept.rest ≡ also.lives.kept.rest) =
       once fed.place fed.bytes lived.lives.waiting also.lives.waiting lived.lives.kept.rest also.lives.kept.rest
       lived.lives.kept.splits also.lives.kept.splits in
-      let kept : cut_text conn failed a.fault (total fed - length lived.lives.kept.rest) lived.lives.kept.rest
-      ≡ cut_text conn failed a.fault (total fed - length also.lives.kept.rest) also.lives.kept.rest =
-      ap (λ (r : List ℕ). cut_text conn failed a.fault (total fed - length r) r) same.1 in
+      let kept : cut_text conn failed a.fault (total_fed fed - length lived.lives.kept.rest) lived.lives.kept.rest
+      ≡ cut_text conn failed a.fault (total_fed fed - length also.lives.kept.rest) also.lives.kept.rest =
+      ap (λ (r : List ℕ). cut_text conn failed a.fault (total_fed fed - length r) r) same.1 in
       let cut = sym (cut-same once life a lived conn failed) ∙ kept ∙ cut-same once other a also conn failed in
       ap (λ (t : List ℕ). t ++ waiting_text conn lived.lives.waiting) cut
       ∙ ap (λ (fs : List Frame). cut_text conn failed other.fault (length other.stream - length also.lives.all.rest)
       also.lives.all.rest ++ waiting_text conn fs) same.0
 
-  left-of : (conn : ℕ) (failed : Bool) (a : Arrivals) → AreArriving a
-      → (left : List ℕ) × ((life : Life) → HaveLived life a → IsLeft conn failed life left)
+  left-of : (conn : ℕ) (failed : Bool) (a : Arrivals) → HasTrace a
+      → (left : List ℕ) × ((life : ReceiverTrace) → IsArrivalTrace life a → IsStreamRemainder conn failed life left)
   left-of conn failed a arriving = (
     left-behind conn failed arriving.0 a arriving.1,
     λ life lived. record {
@@ -52,23 +52,23 @@ module _ (once : SplitsOnce) where
     },
   )
 
-  served-text : (s : ShownConn) → IsTellableConn s → (text : List ℕ) × IsServedText s text
+  served-text : (s : ServedReport) → IsReportableConn s → (text : List ℕ) × IsServedText s text
   served-text s can =
       let left = left-of s.calls.now.conn s.calls.now.ended s.arrivals.now can.arriving in
-      (_, record { left = left.0; is_left = left.1; lines = refl })
+      (_, record { left = left.0; is_remainder = left.1; lines = refl })
 
-  shown-text : (s : Shown) → IsTellable s → (text : List ℕ) × IsShownText s text
+  shown-text : (s : ReportedConnection) → IsReportable s → (text : List ℕ) × IsReportText s text
   shown-text (Unbound conn why) can = (_, refl)
   shown-text (Served served) can = served-text served can
 
-  texts-of : (shown : List Shown) → All IsTellable shown → (each : List (List ℕ)) × AllZip IsShownText shown each
+  texts-of : (shown : List ReportedConnection) → All IsReportable shown → (each : List (List ℕ)) × AllZip IsReportText shown each
   texts-of [] all = ([], tt)
   texts-of (s ∷ shown) all =
-      let here = shown-text s (All-head IsTellable s shown all) in
-      let more = texts-of shown (All-tail IsTellable s shown all) in
+      let here = shown-text s (All-head IsReportable s shown all) in
+      let more = texts-of shown (All-tail IsReportable s shown all) in
       (here.0 ∷ more.0, (here.1, more.1))
 
-  pub a-text : (shown : List Shown) (totals : List ℕ) → All IsTellable shown → IsTextOf (flat_map counted_in shown) totals
+  pub a-text : (shown : List ReportedConnection) (totals : List ℕ) → All IsReportable shown → IsTextOf (flat_map counted_in shown) totals
       → (text : List ℕ) × IsRunText shown text
   a-text shown totals all counts =
       let texts = texts-of shown all in (

@@ -1,6 +1,6 @@
 pub mod Counting
 pub mod Counts
-pub mod Fronts
+pub mod Prefixes
 pub mod Lines
-pub mod Telling
-pub mod Told
+pub mod ConnectionReport
+pub mod Report

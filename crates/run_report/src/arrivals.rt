@@ -1,12 +1,12 @@
 //! The lines for arrivals.
 
 ghost use Rattle.std.specs.Prelude.{◌≡◌, ◌<◌, ◌++◌, IfOk, OnOk, Option, length};
-ghost use Rattle.mrpc_table.specs.Lines.{behind_spaces};
+ghost use Rattle.mrpc_table.specs.Lines.{after_spaces};
 ghost use Rattle.mrpc_table.specs.Normal.{IsNormal};
 ghost use Rattle.mrpc_table.specs.Text.{line};
 ghost use Rattle.mrpc_table.specs.Valid.{IsValid};
 ghost use Rattle.wire_base.specs.Encoding.{encoding};
-ghost use Rattle.run_report.specs.Lines.{FitsArrival, FitsCause, arrival_words, call_words, cause_words, judging_of, message_of_kind};
+ghost use Rattle.run_report.specs.Lines.{IsWritableArrival, IsWritableDropCause, arrival_words, call_words, drop_cause_words, judging_of, message_of_arrival};
 
 use audit_text::append_hex_word;
 use frame_transport::REPLY;
@@ -35,7 +35,7 @@ pub fn append_arrival(
     arrival: &ArrivalLine,
 ) -> Result<(), Memory>
     requires valid { IsValid table.now }
-    requires fits { FitsArrival table.now (judging_of judge) arrival.now }
+    requires fits { IsWritableArrival table.now (judging_of judge) arrival.now }
     ensures { OnOk result (out.new
         ≡ out.old ++ line (arrival_words table.now (judging_of judge.entry) conn arrival.now)) }
 {
@@ -73,8 +73,8 @@ fn encoded(
 ) -> Result<Bytes, Memory>
     requires valid { IsValid table.now }
     requires method { method < length table.now.methods }
-    requires normal { IsNormal table.now (message_of_kind table.now kind method) tree.now }
-    ensures { IfOk result (λ bytes. bytes ≡ encoding table.now (message_of_kind table.now kind method) tree.now) }
+    requires normal { IsNormal table.now (message_of_arrival table.now kind method) tree.now }
+    ensures { IfOk result (λ bytes. bytes ≡ encoding table.now (message_of_arrival table.now kind method) tree.now) }
 {
     let message = table.message_at(method, if kind == REPLY { 1 } else { 0 });
     encode(alloc, tree, table, message)
@@ -89,7 +89,7 @@ fn append_call(
     method: u16,
     number: u32,
 ) -> Result<(), Memory>
-    ensures { OnOk result (out.new ≡ out.old ++ (word.now ++ behind_spaces (call_words conn kind method number))) }
+    ensures { OnOk result (out.new ≡ out.old ++ (word.now ++ after_spaces (call_words conn kind method number))) }
 {
     let numbers = [
         u64::from(conn),
@@ -102,8 +102,8 @@ fn append_call(
 
 // Appends the reason why a frame was dropped, each word after a space.
 fn append_cause(out: &mut Bytes, judge: Option<Judge>, why: DropCause) -> Result<(), Memory>
-    requires { FitsCause (judging_of judge) why }
-    ensures { OnOk result (out.new ≡ out.old ++ behind_spaces (cause_words (judging_of judge.entry) why)) }
+    requires { IsWritableDropCause (judging_of judge) why }
+    ensures { OnOk result (out.new ≡ out.old ++ after_spaces (drop_cause_words (judging_of judge.entry) why)) }
 {
     match why {
         DropCause::Hello => out.append_row(b" Hello", &[]),
@@ -119,9 +119,9 @@ fn append_cause(out: &mut Bytes, judge: Option<Judge>, why: DropCause) -> Result
 
 // Appends the policy and the rule that denied a call, each word after a space.
 fn append_denial(out: &mut Bytes, judge: Option<Judge>, rule: u32) -> Result<(), Memory>
-    requires { FitsCause (judging_of judge) (DropCause.Denied rule) }
+    requires { IsWritableDropCause (judging_of judge) (DropCause.Denied rule) }
     ensures { OnOk result (out.new
-        ≡ out.old ++ behind_spaces (cause_words (judging_of judge.entry) (DropCause.Denied rule))) }
+        ≡ out.old ++ after_spaces (drop_cause_words (judging_of judge.entry) (DropCause.Denied rule))) }
 {
     let Some(judge) = judge else { unreachable!() };
     out.append_spaced(b"access")?;

@@ -2,13 +2,13 @@
 
 ghost use Rattle.std.specs.Prelude.{◌≡◌, ◌++◌, OnOk};
 ghost use Rattle.mrpc_table.specs.Valid.{IsValid};
-ghost use Rattle.run_report.specs.Telling.{history_lines, standing_lines};
+ghost use Rattle.run_report.specs.ConnectionReport.{history_lines, pending_call_lines};
 
 use conn_core::Conn;
-use connection_audit::{append_happened, append_standing};
+use connection_audit::{append_event, append_pending};
 use mrpc_table::{Bytes, Memory, Table};
 use std::alloc::Global;
-use wire_encode::Output;
+use wire_encode::BackwardBuffer;
 
 /// Appends the audit of all events on a connection, by its own table. The only error is `Memory`.
 pub fn append_history(
@@ -21,20 +21,20 @@ pub fn append_history(
     requires same { calls.now.table ≡ table.now }
     ensures { OnOk result (out.new ≡ out.old ++ history_lines calls.now) }
 {
-    let mut encoding = Output::new(alloc)?;
+    let mut encoding = BackwardBuffer::new(alloc)?;
     for place in 0..calls.history().len() {
-        append_happened(out, &mut encoding, calls, place, table)?;
+        append_event(out, &mut encoding, calls, place, table)?;
     }
     Ok(())
 }
 
 /// Appends the lines of the pending calls of a connection, by ascending number. The only error is `Memory`.
-pub fn append_standing_calls(out: &mut Bytes, calls: &Conn<'_>) -> Result<(), Memory>
-    ensures { OnOk result (out.new ≡ out.old ++ standing_lines calls.now) }
+pub fn append_pending_calls(out: &mut Bytes, calls: &Conn<'_>) -> Result<(), Memory>
+    ensures { OnOk result (out.new ≡ out.old ++ pending_call_lines calls.now) }
 {
     calls.is_connection();
     for place in 0..calls.chain().calls().len() as u32 {
-        append_standing(out, calls, place)?;
+        append_pending(out, calls, place)?;
     }
     Ok(())
 }

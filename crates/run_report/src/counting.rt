@@ -2,17 +2,17 @@
 
 ghost use Rattle.std.specs.Prelude.{◌≡◌, ◌≤◌, ◌<◌, ◌++◌, ◌∷◌, [], ℕ, List, Some, IfOk, IfSome, OnOk, length, map, slice_get};
 ghost use Rattle.std.specs.List.{AllZip, flat_map};
-ghost use Rattle.call_history.specs.Behind.{taken};
-ghost use Rattle.call_history.specs.Records.{told_by};
-ghost use Rattle.call_history.specs.declared.happening.Taken.{Taken as TheTaken};
-ghost use Rattle.conn_core.specs.Connections.{behind};
-ghost use Rattle.telemetry.specs.Counts.{Happened as Counted};
+ghost use Rattle.call_history.specs.Trace.{taken};
+ghost use Rattle.call_history.specs.Records.{event_of_record};
+ghost use Rattle.call_history.specs.declared.happening.AcceptedCall.{AcceptedCall as TheTaken};
+ghost use Rattle.conn_core.specs.Connections.{conn_trace};
+ghost use Rattle.telemetry.specs.Counts.{CountedEvent as Counted};
 ghost use Rattle.engine_core.specs.declared.op.Op.{Op as TheStep};
-ghost use Rattle.run_report.specs.Counting.{counted, counted_in, counted_on, method_of, standing_counted};
-ghost use Rattle.run_report.specs.Counts.{AreCountsOf, AreNumbered, CanCount, HaveCounted, methods_by, methods_of, told_count};
+ghost use Rattle.run_report.specs.Counting.{counted, counted_in, counted_on, method_of_call, pending_counted};
+ghost use Rattle.run_report.specs.Counts.{AreCountsOf, AreNumberedFromOne, CanCount, HaveCounted, methods_by, methods_of_calls, count_if_any};
 
-use crate::shown::Shown;
-use call_history::Record;
+use crate::reported_connection::ReportedConnection;
+use call_history::HistoryRecord;
 use conn_core::Conn;
 use mrpc_table::Memory;
 use std::alloc::Global;
@@ -22,7 +22,7 @@ use telemetry::{Totals, What, counts_add_up};
 // no machine.
 pub(crate) fn add_up(
     alloc: Global,
-    shown: &[Shown<'_, '_>],
+    shown: &[ReportedConnection<'_, '_>],
     counts: &[Totals],
 ) -> Result<Totals, Memory>
     requires { AllZip AreCountsOf shown.now counts.now }
@@ -40,7 +40,7 @@ pub(crate) fn add_up(
 }
 
 // An upper bound on the counted lines of all connections; `None` if it overflows.
-fn most_of_all(shown: &[Shown<'_, '_>]) -> Option<usize>
+fn most_of_all(shown: &[ReportedConnection<'_, '_>]) -> Option<usize>
     ensures { IfSome result (λ most. length (flat_map counted_in shown.now) ≤ most) }
 {
     let mut most: usize = 0;
@@ -51,12 +51,12 @@ fn most_of_all(shown: &[Shown<'_, '_>]) -> Option<usize>
 }
 
 // An upper bound on the counted lines of a connection; `None` if it overflows.
-fn most_of(shown: &Shown<'_, '_>) -> Option<usize>
+fn most_of(shown: &ReportedConnection<'_, '_>) -> Option<usize>
     ensures { IfSome result (λ most. length (counted_in shown.now) ≤ most) }
 {
     match shown {
-        Shown::Unbound { .. } => Some(0),
-        Shown::Served(served) => most_on(served.calls),
+        ReportedConnection::Unbound { .. } => Some(0),
+        ReportedConnection::Served(served) => most_on(served.calls),
     }
 }
 
@@ -90,12 +90,12 @@ fn count_lines(alloc: Global, totals: &mut Totals, calls: &Conn<'_>) -> Result<(
     calls.is_connection();
     let methods = methods(alloc, calls)?;
     count_history(totals, calls, &methods)?;
-    count_standing(totals, calls, &methods)
+    count_pending(totals, calls, &methods)
 }
 
 // The methods of the accepted calls, in order.
 fn methods(alloc: Global, calls: &Conn<'_>) -> Result<Vec<u16>, Memory>
-    ensures { IfOk result (λ methods. methods.items ≡ methods_of (taken (behind calls.now))) }
+    ensures { IfOk result (λ methods. methods.items ≡ methods_of_calls (taken (conn_trace calls.now))) }
 {
     let mut methods = Vec::new(alloc);
     for place in 0..calls.history().len() {
@@ -105,11 +105,11 @@ fn methods(alloc: Global, calls: &Conn<'_>) -> Result<Vec<u16>, Memory>
 }
 
 // Appends the method of an accepted call.
-fn push_method(methods: &mut Vec<u16>, kept: &Record) -> Result<(), Memory>
+fn push_method(methods: &mut Vec<u16>, kept: &HistoryRecord) -> Result<(), Memory>
     ensures { (steps : List TheStep) → OnOk result (methods.new.items
-        ≡ methods.old.items ++ methods_by (told_by steps kept.now)) }
+        ≡ methods.old.items ++ methods_by (event_of_record steps kept.now)) }
 {
-    if let Record::Took(call) = kept {
+    if let HistoryRecord::Took(call) = kept {
         methods.push(call.method)?;
     }
     Ok(())
@@ -117,12 +117,12 @@ fn push_method(methods: &mut Vec<u16>, kept: &Record) -> Result<(), Memory>
 
 // Counts the lines of a history.
 fn count_history(totals: &mut Totals, calls: &Conn<'_>, methods: &[u16]) -> Result<(), Memory>
-    requires numbered { AreNumbered (taken (behind calls.now)) }
-    requires methods { methods.now ≡ methods_of (taken (behind calls.now)) }
-    requires few { CanCount (flat_map (counted (taken (behind calls.now))) calls.now.happenings) totals.old }
+    requires numbered { AreNumberedFromOne (taken (conn_trace calls.now)) }
+    requires methods { methods.now ≡ methods_of_calls (taken (conn_trace calls.now)) }
+    requires few { CanCount (flat_map (counted (taken (conn_trace calls.now))) calls.now.happenings) totals.old }
     ensures { (happened : List Counted) → HaveCounted happened totals.old
         → OnOk result (HaveCounted
-        (happened ++ flat_map (counted (taken (behind calls.now))) calls.now.happenings) totals.new) }
+        (happened ++ flat_map (counted (taken (conn_trace calls.now))) calls.now.happenings) totals.new) }
 {
     for place in 0..calls.history().len() {
         count_some(totals, counted_by(calls.history().at(place), methods))?;
@@ -131,52 +131,53 @@ fn count_history(totals: &mut Totals, calls: &Conn<'_>, methods: &[u16]) -> Resu
 }
 
 // What the line of an event counts as, if anything.
-fn counted_by(kept: &Record, methods: &[u16]) -> Option<(u16, What)>
-    ensures { (calls : List TheTaken) (steps : List TheStep) → AreNumbered calls → methods.now ≡ methods_of calls
-        → told_count result ≡ counted calls (told_by steps kept.now) }
+fn counted_by(kept: &HistoryRecord, methods: &[u16]) -> Option<(u16, What)>
+    ensures { (calls : List TheTaken) (steps : List TheStep) → AreNumberedFromOne calls
+        → methods.now ≡ methods_of_calls calls
+        → count_if_any result ≡ counted calls (event_of_record steps kept.now) }
 {
     match kept {
-        Record::Took(call) => Some((call.method, What::Took)),
-        Record::Sent { seq, .. } => Some((method_of(methods, *seq), What::Sent)),
-        Record::Refused { seq, .. } => Some((method_of(methods, *seq), What::Refused)),
+        HistoryRecord::Took(call) => Some((call.method, What::Took)),
+        HistoryRecord::Sent { seq, .. } => Some((method_of_call(methods, *seq), What::Sent)),
+        HistoryRecord::Refused { seq, .. } => Some((method_of_call(methods, *seq), What::Refused)),
         _ => None,
     }
 }
 
 // Counts the pending calls.
-fn count_standing(totals: &mut Totals, calls: &Conn<'_>, methods: &[u16]) -> Result<(), Memory>
-    requires numbered { AreNumbered (taken (behind calls.now)) }
-    requires methods { methods.now ≡ methods_of (taken (behind calls.now)) }
-    requires few { CanCount (map (standing_counted (taken (behind calls.now))) calls.now.chain.row) totals.old }
+fn count_pending(totals: &mut Totals, calls: &Conn<'_>, methods: &[u16]) -> Result<(), Memory>
+    requires numbered { AreNumberedFromOne (taken (conn_trace calls.now)) }
+    requires methods { methods.now ≡ methods_of_calls (taken (conn_trace calls.now)) }
+    requires few { CanCount (map (pending_counted (taken (conn_trace calls.now))) calls.now.chain.row) totals.old }
     ensures { (happened : List Counted) → HaveCounted happened totals.old
         → OnOk result (HaveCounted
-        (happened ++ map (standing_counted (taken (behind calls.now))) calls.now.chain.row) totals.new) }
+        (happened ++ map (pending_counted (taken (conn_trace calls.now))) calls.now.chain.row) totals.new) }
 {
     calls.is_connection();
     for place in 0..calls.chain().calls().len() as u32 {
-        count_some(totals, standing_at(calls, methods, place))?;
+        count_some(totals, pending_at(calls, methods, place))?;
     }
     Ok(())
 }
 
 // What the line of the pending call at an index counts as.
-fn standing_at(calls: &Conn<'_>, methods: &[u16], place: u32) -> Option<(u16, What)>
-    requires numbered { AreNumbered (taken (behind calls.now)) }
-    requires methods { methods.now ≡ methods_of (taken (behind calls.now)) }
+fn pending_at(calls: &Conn<'_>, methods: &[u16], place: u32) -> Option<(u16, What)>
+    requires numbered { AreNumberedFromOne (taken (conn_trace calls.now)) }
+    requires methods { methods.now ≡ methods_of_calls (taken (conn_trace calls.now)) }
     requires there { place < length calls.now.chain.row }
     ensures { (call : ℕ × ℕ) → slice_get calls.now.chain.row place ≡ Some call
-        → told_count result ≡ standing_counted (taken (behind calls.now)) call ∷ [] }
+        → count_if_any result ≡ pending_counted (taken (conn_trace calls.now)) call ∷ [] }
 {
     let Some((seq, _)) = calls.chain().standing(place) else {
         unreachable!()
     };
-    Some((method_of(methods, seq), What::Standing))
+    Some((method_of_call(methods, seq), What::Standing))
 }
 
 // The method of the call with a number. Calls are numbered from 1.
-fn method_of(methods: &[u16], seq: u32) -> u16
-    ensures { (calls : List TheTaken) → AreNumbered calls → methods.now ≡ methods_of calls
-        → result ≡ method_of calls seq }
+fn method_of_call(methods: &[u16], seq: u32) -> u16
+    ensures { (calls : List TheTaken) → AreNumberedFromOne calls → methods.now ≡ methods_of_calls calls
+        → result ≡ method_of_call calls seq }
 {
     if seq == 0 {
         return 0;
@@ -189,9 +190,9 @@ fn method_of(methods: &[u16], seq: u32) -> u16
 
 // Adds one to a count, if there is one.
 fn count_some(totals: &mut Totals, counted: Option<(u16, What)>) -> Result<(), Memory>
-    requires few { CanCount (told_count counted) totals.old }
+    requires few { CanCount (count_if_any counted) totals.old }
     ensures { (happened : List Counted) → HaveCounted happened totals.old
-        → OnOk result (HaveCounted (happened ++ told_count counted) totals.new) }
+        → OnOk result (HaveCounted (happened ++ count_if_any counted) totals.new) }
 {
     match counted {
         Some((method, what)) => count_one(totals, method, what),

@@ -7,7 +7,7 @@
 //! counts of their lines. The text comes in parts: one for each connection, then one of the accounts of visits and of
 //! the counts of all lines.
 //!
-//! `specs/Told.antt` defines the whole text, `specs/Telling.antt` the parts of a connection's text,
+//! `specs/Report.antt` defines the whole text, `specs/ConnectionReport.antt` the parts of a connection's text,
 //! `specs/Lines.antt` the lines, and `specs/Counting.antt` what each line counts as. The crate depends on connections,
 //! on `message_delivery` and the handshake for what it reports, on the encoding of messages, on `telemetry`, and on the
 //! lines of `audit_text` and `connection_audit`. The layers above use one contract: the text is that of the connections
@@ -15,23 +15,23 @@
 #![tactic(auto)]
 
 mod arrival_laws;
+mod arrival_lines;
 mod arrivals;
-mod arrived;
 mod connection;
 mod counting;
-mod fronts;
-mod left;
-mod rest;
-mod shown;
-mod told;
+mod prefixes;
+mod report;
+mod reported_connection;
+mod stream_remainder;
 mod unbound;
+mod unfinished;
 
-pub use arrival_laws::lines_fit;
+pub use arrival_laws::lines_are_writable;
+pub use arrival_lines::{append_arrivals, append_false_reclaims};
 pub use arrivals::{Judge, append_arrival};
-pub use arrived::{append_arrivals, append_false_reclaims};
-pub use connection::{append_history, append_standing_calls};
-pub use left::append_left;
-pub use rest::{append_cut, append_not_held, append_short, append_waits};
-pub use shown::{Rounds, Shown, ShownConn};
-pub use told::{RunText, run_counts, run_text};
+pub use connection::{append_history, append_pending_calls};
+pub use report::{RunText, run_counts, run_text};
+pub use reported_connection::{ReportedConnection, Rounds, ServedReport};
+pub use stream_remainder::append_stream_remainder;
 pub use unbound::append_unbound;
+pub use unfinished::{append_cut, append_not_held, append_short, append_waits};

@@ -2,12 +2,12 @@
 
 ghost use Rattle.std.specs.Prelude.{◌≡◌, ◌≢◌, [], ◌∷◌, ◌++◌, OnOk, Option};
 ghost use Rattle.std.specs.Fmt.{decimal};
-ghost use Rattle.mrpc_table.specs.Lines.{behind_spaces};
+ghost use Rattle.mrpc_table.specs.Lines.{after_spaces};
 ghost use Rattle.mrpc_table.specs.Text.{line};
-ghost use Rattle.link_handshake.specs.Greeting.{SaysWhy};
+ghost use Rattle.link_handshake.specs.Handshake.{IsUnboundCause};
 ghost use Rattle.run_report.specs.Lines.{byte_word, disagreement_words, flag_word, reason_words, unbound_words};
 
-use crate::rest::append_fault;
+use crate::unfinished::append_fault;
 use link_handshake::Unbound;
 use mrpc_table::{Bytes, Memory};
 use schema_binding::AgreeFault;
@@ -16,7 +16,7 @@ use schema_binding::AgreeFault;
 /// `service OURS THEIRS`, `mismatch BYTE OURS THEIRS`, `methods AT` or `field MESSAGE NUMBER`. The only error is
 /// `Memory`.
 pub fn append_unbound(out: &mut Bytes, conn: u32, why: &Unbound) -> Result<(), Memory>
-    requires { SaysWhy why.now }
+    requires { IsUnboundCause why.now }
     ensures { OnOk result (out.new ≡ out.old ++ line (unbound_words conn why.now)) }
 {
     out.append_row(b"unbound", &[u64::from(conn)])?;
@@ -26,8 +26,8 @@ pub fn append_unbound(out: &mut Bytes, conn: u32, why: &Unbound) -> Result<(), M
 
 // Appends the reason why a connection isn't bound, each word after a space.
 fn append_reason(out: &mut Bytes, why: &Unbound) -> Result<(), Memory>
-    requires { SaysWhy why.now }
-    ensures { OnOk result (out.new ≡ out.old ++ behind_spaces (reason_words why.now)) }
+    requires { IsUnboundCause why.now }
+    ensures { OnOk result (out.new ≡ out.old ++ after_spaces (reason_words why.now)) }
 {
     match why {
         Unbound::Transport => out.append_row(b" transport", &[]),
@@ -44,7 +44,7 @@ fn append_reason(out: &mut Bytes, why: &Unbound) -> Result<(), Memory>
 // Appends the reason why two tables disagree, each word after a space.
 fn append_disagreement(out: &mut Bytes, fault: &AgreeFault) -> Result<(), Memory>
     requires { fault.now ≢ AgreeFault.Memory }
-    ensures { OnOk result (out.new ≡ out.old ++ behind_spaces (disagreement_words fault.now)) }
+    ensures { OnOk result (out.new ≡ out.old ++ after_spaces (disagreement_words fault.now)) }
 {
     match fault {
         AgreeFault::NoService { ours, theirs } => {
@@ -57,15 +57,15 @@ fn append_disagreement(out: &mut Bytes, fault: &AgreeFault) -> Result<(), Memory
         AgreeFault::Methods { at } => out.append_row(b" methods", &[u64::from(*at)]),
         AgreeFault::Field { message, number } => {
             out.append_spaced(b"field")?;
-            begin_field(out, message.as_slice(), *number)
+            append_field(out, message.as_slice(), *number)
         }
         AgreeFault::Memory => unreachable!(),
     }
 }
 
 // Appends the name of a message and the number of its field, each after a space.
-fn begin_field(out: &mut Bytes, message: &[u8], number: u32) -> Result<(), Memory>
-    ensures { OnOk result (out.new ≡ out.old ++ behind_spaces (message.now ∷ decimal number ∷ [])) }
+fn append_field(out: &mut Bytes, message: &[u8], number: u32) -> Result<(), Memory>
+    ensures { OnOk result (out.new ≡ out.old ++ after_spaces (message.now ∷ decimal number ∷ [])) }
 {
     out.append_spaced(message)?;
     out.append_word(u64::from(number))
@@ -80,7 +80,7 @@ fn digit(flag: bool) -> u64
 
 // Appends a byte of each of two texts, each after a space.
 fn append_bytes(out: &mut Bytes, ours: Option<u8>, theirs: Option<u8>) -> Result<(), Memory>
-    ensures { OnOk result (out.new ≡ out.old ++ behind_spaces (byte_word ours ∷ byte_word theirs ∷ [])) }
+    ensures { OnOk result (out.new ≡ out.old ++ after_spaces (byte_word ours ∷ byte_word theirs ∷ [])) }
 {
     append_byte(out, ours)?;
     append_byte(out, theirs)

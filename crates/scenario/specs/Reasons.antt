@@ -5,102 +5,102 @@ use Rattle.mrpc_table.specs.declared.policy_lines.RuleReason.TheVariants as rule
 use Rattle.engine_core.specs.Chains.{Refusal, no_such, taken, no_place, full, other_kind}
 use Rattle.scenario_lines.specs.declared.reason.LineReason.{LineReason}
 use Rattle.scenario_lines.specs.declared.reason.LineReason.TheVariants as line
-use Rattle.scenario.specs.declared.fault.Entry.{Entry}
-use Rattle.scenario.specs.declared.fault.Entry.TheVariants as entry
+use Rattle.scenario.specs.declared.fault.FaultyEntry.{FaultyEntry}
+use Rattle.scenario.specs.declared.fault.FaultyEntry.TheVariants as entry
 use Rattle.scenario.specs.declared.fault.ScenarioReason.{ScenarioReason}
 use Rattle.scenario.specs.declared.fault.ScenarioReason.TheVariants.{Toml, Key, Number, Name, Known, Unknown, Schema, Path, Default, Word, Place, NoSuch, Taken, At, ChainFull, OtherKind, Pair, Work}
 
-abbrev pub reason_word : ScenarioReason → List ℕ
-reason_word Toml = codes "Toml"
-reason_word Key = codes "Key"
-reason_word Number = codes "Number"
-reason_word Name = codes "Name"
-reason_word Known = codes "Known"
-reason_word Unknown = codes "Unknown"
-reason_word Schema = codes "Schema"
-reason_word Path = codes "Path"
-reason_word Default = codes "Default"
-reason_word Word = codes "Word"
-reason_word Place = codes "Place"
-reason_word NoSuch = codes "NoSuch"
-reason_word Taken = codes "Taken"
-reason_word At = codes "At"
-reason_word ChainFull = codes "ChainFull"
-reason_word OtherKind = codes "OtherKind"
-reason_word Pair = codes "Pair"
-reason_word Work = codes "Work"
+abbrev pub scenario_reason_word : ScenarioReason → List ℕ
+scenario_reason_word Toml = codes "Toml"
+scenario_reason_word Key = codes "Key"
+scenario_reason_word Number = codes "Number"
+scenario_reason_word Name = codes "Name"
+scenario_reason_word Known = codes "Known"
+scenario_reason_word Unknown = codes "Unknown"
+scenario_reason_word Schema = codes "Schema"
+scenario_reason_word Path = codes "Path"
+scenario_reason_word Default = codes "Default"
+scenario_reason_word Word = codes "Word"
+scenario_reason_word Place = codes "Place"
+scenario_reason_word NoSuch = codes "NoSuch"
+scenario_reason_word Taken = codes "Taken"
+scenario_reason_word At = codes "At"
+scenario_reason_word ChainFull = codes "ChainFull"
+scenario_reason_word OtherKind = codes "OtherKind"
+scenario_reason_word Pair = codes "Pair"
+scenario_reason_word Work = codes "Work"
 
 -- the rank of a reason: of several at one entry the one with the lowest counts
-abbrev pub order_of : ScenarioReason → ℕ
-order_of Toml = 0
-order_of Key = 1
-order_of Number = 2
-order_of Name = 3
-order_of Known = 4
-order_of Unknown = 5
-order_of Schema = 6
-order_of Path = 7
-order_of Default = 8
-order_of Word = 9
-order_of Place = 10
-order_of NoSuch = 11
-order_of Taken = 12
-order_of At = 13
-order_of ChainFull = 14
-order_of OtherKind = 15
-order_of Pair = 16
-order_of Work = 17
+abbrev pub scenario_reason_rank : ScenarioReason → ℕ
+scenario_reason_rank Toml = 0
+scenario_reason_rank Key = 1
+scenario_reason_rank Number = 2
+scenario_reason_rank Name = 3
+scenario_reason_rank Known = 4
+scenario_reason_rank Unknown = 5
+scenario_reason_rank Schema = 6
+scenario_reason_rank Path = 7
+scenario_reason_rank Default = 8
+scenario_reason_rank Word = 9
+scenario_reason_rank Place = 10
+scenario_reason_rank NoSuch = 11
+scenario_reason_rank Taken = 12
+scenario_reason_rank At = 13
+scenario_reason_rank ChainFull = 14
+scenario_reason_rank OtherKind = 15
+scenario_reason_rank Pair = 16
+scenario_reason_rank Work = 17
 
-abbrev pub first_of : ScenarioReason → ScenarioReason → ScenarioReason
-first_of one other = if nat_le (order_of one) (order_of other) then one else other
+abbrev pub first_reason_of : ScenarioReason → ScenarioReason → ScenarioReason
+first_reason_of one other = if nat_le (scenario_reason_rank one) (scenario_reason_rank other) then one else other
 
 -- the first of two optional reasons
-abbrev pub earlier : Option ScenarioReason → Option ScenarioReason → Option ScenarioReason
-earlier None other = other
-earlier (Some one) None = Some one
-earlier (Some one) (Some other) = Some (first_of one other)
+abbrev pub lower_ranked : Option ScenarioReason → Option ScenarioReason → Option ScenarioReason
+lower_ranked None other = other
+lower_ranked (Some one) None = Some one
+lower_ranked (Some one) (Some other) = Some (first_reason_of one other)
 
 -- the reason, if it holds
 abbrev pub reason_if : Bool → ScenarioReason → Option ScenarioReason
 reason_if holds reason = if holds then Some reason else None
 
 -- of the reasons that hold, this is the first
-pub record IsFirstReason (Stands : ScenarioReason → Type 0) (reason : ScenarioReason) : Type 0 where
+pub record IsFirstScenarioReason (Stands : ScenarioReason → Type 0) (reason : ScenarioReason) : Type 0 where
   pub stands : Stands reason
-  pub first : (other : ScenarioReason) → Stands other → order_of reason ≤ order_of other
+  pub first : (other : ScenarioReason) → Stands other → scenario_reason_rank reason ≤ scenario_reason_rank other
 
 -- the first of the reasons that hold, or none
 abbrev pub IsSoFar : (ScenarioReason → Type 0) → Option ScenarioReason → Type 0
 IsSoFar Stands None = (reason : ScenarioReason) → Stands reason → ⊥
-IsSoFar Stands (Some reason) = IsFirstReason Stands reason
+IsSoFar Stands (Some reason) = IsFirstScenarioReason Stands reason
 
 -- the reasons of program lines and step lines
-abbrev pub of_line : LineReason → ScenarioReason
-of_line line.Number = Number
-of_line line.Name = Name
-of_line line.Word = Word
-of_line line.Place = Place
+abbrev pub reason_of_line : LineReason → ScenarioReason
+reason_of_line line.Number = Number
+reason_of_line line.Name = Name
+reason_of_line line.Word = Word
+reason_of_line line.Place = Place
 
 -- the reasons of a policy's lines
-abbrev pub of_rule : RuleReason → ScenarioReason
-of_rule rule.Word = Word
-of_rule rule.Number = Number
-of_rule rule.Name = Name
-of_rule rule.Known = Known
-of_rule rule.Path = Path
-of_rule rule.Default = Default
+abbrev pub reason_of_policy_line : RuleReason → ScenarioReason
+reason_of_policy_line rule.Word = Word
+reason_of_policy_line rule.Number = Number
+reason_of_policy_line rule.Name = Name
+reason_of_policy_line rule.Known = Known
+reason_of_policy_line rule.Path = Path
+reason_of_policy_line rule.Default = Default
 
 -- the reasons for which a chain refuses an operation
-abbrev pub of_refusal : Refusal → ScenarioReason
-of_refusal (no_such name) = NoSuch
-of_refusal (taken name) = Taken
-of_refusal (no_place at) = At
-of_refusal (full entries) = ChainFull
-of_refusal (other_kind name) = OtherKind
+abbrev pub scenario_reason_of_refusal : Refusal → ScenarioReason
+scenario_reason_of_refusal (no_such name) = NoSuch
+scenario_reason_of_refusal (taken name) = Taken
+scenario_reason_of_refusal (no_place at) = At
+scenario_reason_of_refusal (full entries) = ChainFull
+scenario_reason_of_refusal (other_kind name) = OtherKind
 
 -- ---- entries: the top table, and then list by list
 
-abbrev pub list_of_entry : Entry → ℕ
+abbrev pub list_of_entry : FaultyEntry → ℕ
 list_of_entry entry.Top = 0
 list_of_entry (entry.Tenant n) = 1
 list_of_entry (entry.Policy n) = 2
@@ -108,7 +108,7 @@ list_of_entry (entry.App n) = 3
 list_of_entry (entry.Link n) = 4
 list_of_entry (entry.Operator n) = 5
 
-abbrev pub number_of_entry : Entry → ℕ
+abbrev pub number_of_entry : FaultyEntry → ℕ
 number_of_entry entry.Top = 0
 number_of_entry (entry.Tenant n) = n
 number_of_entry (entry.Policy n) = n

@@ -1,7 +1,7 @@
 //! Why a text isn't a scenario.
 
 ghost use Rattle.std.specs.Prelude.{◌≡◌};
-ghost use Rattle.scenario.specs.Reasons.{number_of_entry, order_of, reason_word};
+ghost use Rattle.scenario.specs.Reasons.{number_of_entry, scenario_reason_rank, scenario_reason_word};
 ghost use Rattle.scenario.specs.declared.fault.ScenarioFault.TheVariants.{Memory as NoMemory};
 
 use mrpc_table::Memory;
@@ -50,7 +50,7 @@ pub enum ScenarioReason {
 
 /// The faulty entry, by its number in its list, from 1.
 #[derive(Clone, Copy)]
-pub enum Entry {
+pub enum FaultyEntry {
     Top,
     Tenant(u64),
     Policy(u64),
@@ -64,7 +64,7 @@ pub enum Entry {
 pub enum ScenarioFault {
     /// The first faulty entry, with its first reason.
     At {
-        entry: Entry,
+        entry: FaultyEntry,
         reason: ScenarioReason,
     },
     /// Out of memory.
@@ -74,7 +74,7 @@ pub enum ScenarioFault {
 impl ScenarioReason {
     /// The word that names the reason in the text of a fault.
     pub fn word(self) -> &'static str
-        ensures { result.now ≡ reason_word self }
+        ensures { result.now ≡ scenario_reason_word self }
     {
         match self {
             ScenarioReason::Toml => "Toml",
@@ -100,24 +100,24 @@ impl ScenarioReason {
 
     /// Its rank: of two reasons the one with the lower number counts.
     pub fn order(self) -> u8
-        ensures { result ≡ order_of self }
+        ensures { result ≡ scenario_reason_rank self }
     {
         self as u8
     }
 }
 
-impl Entry {
+impl FaultyEntry {
     /// The number in the text of a fault: that of the entry in its list, from 1, or 0 for the whole scenario.
     pub fn number(self) -> u64
         ensures { result ≡ number_of_entry self }
     {
         match self {
-            Entry::Top => 0,
-            Entry::Tenant(number)
-            | Entry::Policy(number)
-            | Entry::App(number)
-            | Entry::Link(number)
-            | Entry::Operator(number) => number,
+            FaultyEntry::Top => 0,
+            FaultyEntry::Tenant(number)
+            | FaultyEntry::Policy(number)
+            | FaultyEntry::App(number)
+            | FaultyEntry::Link(number)
+            | FaultyEntry::Operator(number) => number,
         }
     }
 }

@@ -2,131 +2,131 @@
 
 ghost use Rattle.std.specs.Prelude.{◌≡◌, Some, codes};
 ghost use Rattle.toml.specs.View.{table_view};
-ghost use Rattle.scenario_toml.specs.Values.{a_key, has_keys};
-ghost use Rattle.scenario_toml.specs.declared.key.Shape.TheVariants as shape;
+ghost use Rattle.scenario_toml.specs.Values.{required_key, has_keys};
+ghost use Rattle.scenario_toml.specs.declared.key.ValueType.TheVariants as shape;
 ghost use Rattle.scenario.specs.Keys as keys;
 ghost use Rattle.scenario.specs.Policies as policies;
-ghost use Rattle.scenario.specs.declared.form.RoleWord.TheVariants as role;
+ghost use Rattle.scenario.specs.declared.entry_words.RoleWord.TheVariants as role;
 
-use crate::form::{Kind, RoleWord};
+use crate::entry_words::{PolicyKind, RoleWord};
 use mrpc_table::{MAX_HEAP, MAX_LOADS, MIN_HEAP, is_word};
 use run_plan::{MAX_CONNECTIONS, MAX_RING, MAX_WEIGHT, MAX_WORKERS};
-use scenario_toml::{Key, Range, Shape, has_keys, word_at};
+use scenario_toml::{IntegerRange, TableKey, ValueType, has_keys, text_or_empty};
 use toml::Table;
 
 // The longest window, and the longest period of a rate, in milliseconds.
 const DAY: u64 = 86_400_000;
 
 /// The version of the format.
-pub fn format() -> Range
+pub fn format() -> IntegerRange
     ensures { result ≡ keys.format }
 {
-    Range::new("mrpc", 1, 1, 1)
+    IntegerRange::new("mrpc", 1, 1, 1)
 }
 
 /// The maximum number of loads of one call.
-pub fn loads() -> Range
+pub fn loads() -> IntegerRange
     ensures { result ≡ keys.loads }
 {
-    Range::new("loads", 1024, 1, MAX_LOADS as u64)
+    IntegerRange::new("loads", 1024, 1, MAX_LOADS as u64)
 }
 
 /// The number of threads that serve the connections.
-pub fn workers() -> Range
+pub fn workers() -> IntegerRange
     ensures { result ≡ keys.workers }
 {
-    Range::new("workers", 2, 1, MAX_WORKERS)
+    IntegerRange::new("workers", 2, 1, MAX_WORKERS)
 }
 
 /// The milliseconds of a window or of the period of a rate.
-pub fn per() -> Range
+pub fn per() -> IntegerRange
     ensures { result ≡ keys.per }
 {
-    Range::new("per", 1, 1, DAY)
+    IntegerRange::new("per", 1, 1, DAY)
 }
 
 /// The number of calls that a rate lets pass in its period.
-pub fn amount() -> Range
+pub fn amount() -> IntegerRange
     ensures { result ≡ keys.amount }
 {
-    Range::new("amount", 1, 1, 1_000_000)
+    IntegerRange::new("amount", 1, 1, 1_000_000)
 }
 
 /// The number of calls that a rate lets pass at once.
-pub fn burst() -> Range
+pub fn burst() -> IntegerRange
     ensures { result ≡ keys.burst }
 {
-    Range::new("burst", 1, 1, 1_000_000)
+    IntegerRange::new("burst", 1, 1, 1_000_000)
 }
 
 /// The number of tickets in a window that pass.
-pub fn cap() -> Range
+pub fn cap() -> IntegerRange
     ensures { result ≡ keys.cap }
 {
-    Range::new("cap", 0, 0, 4_294_967_295)
+    IntegerRange::new("cap", 0, 0, 4_294_967_295)
 }
 
 /// The number of a connection.
-pub fn conn() -> Range
+pub fn conn() -> IntegerRange
     ensures { result ≡ keys.conn }
 {
-    Range::new("conn", 0, 1, MAX_CONNECTIONS as u64)
+    IntegerRange::new("conn", 0, 1, MAX_CONNECTIONS as u64)
 }
 
 /// The size in words of a heap that the application stores to.
-pub fn heap() -> Range
+pub fn heap() -> IntegerRange
     ensures { result ≡ keys.heap }
 {
-    Range::new("heap", 64, MIN_HEAP as u64, MAX_HEAP as u64)
+    IntegerRange::new("heap", 64, MIN_HEAP as u64, MAX_HEAP as u64)
 }
 
 /// The size in words of a heap where messages are delivered.
-pub fn receive() -> Range
+pub fn receive() -> IntegerRange
     ensures { result ≡ keys.receive }
 {
-    Range::new("receive", 1024, MIN_HEAP as u64, MAX_HEAP as u64)
+    IntegerRange::new("receive", 1024, MIN_HEAP as u64, MAX_HEAP as u64)
 }
 
 /// The capacity of a ring, in items.
-pub fn ring() -> Range
+pub fn ring() -> IntegerRange
     ensures { result ≡ keys.ring }
 {
-    Range::new("ring", 4, 1, MAX_RING)
+    IntegerRange::new("ring", 4, 1, MAX_RING)
 }
 
 /// The weight of a connection among ready ones.
-pub fn weight() -> Range
+pub fn weight() -> IntegerRange
     ensures { result ≡ keys.weight }
 {
-    Range::new("weight", 1, 1, MAX_WEIGHT)
+    IntegerRange::new("weight", 1, 1, MAX_WEIGHT)
 }
 
 /// One end of a link.
-pub fn end_a() -> Range
+pub fn end_a() -> IntegerRange
     ensures { result ≡ keys.end_a }
 {
-    Range::new("a", 0, 1, MAX_CONNECTIONS as u64)
+    IntegerRange::new("a", 0, 1, MAX_CONNECTIONS as u64)
 }
 
 /// The other end of a link.
-pub fn end_b() -> Range
+pub fn end_b() -> IntegerRange
     ensures { result ≡ keys.end_b }
 {
-    Range::new("b", 0, 1, MAX_CONNECTIONS as u64)
+    IntegerRange::new("b", 0, 1, MAX_CONNECTIONS as u64)
 }
 
 // The key of a name.
-fn name_key() -> Key
-    ensures { result ≡ a_key (codes "name") shape.Text }
+fn name_key() -> TableKey
+    ensures { result ≡ required_key (codes "name") shape.Text }
 {
-    Key::required("name", Shape::Text)
+    TableKey::required("name", ValueType::Text)
 }
 
 // The key of a connection.
-fn conn_key() -> Key
-    ensures { result ≡ a_key (codes "conn") shape.Integer }
+fn conn_key() -> TableKey
+    ensures { result ≡ required_key (codes "conn") shape.Integer }
 {
-    Key::required("conn", Shape::Integer)
+    TableKey::required("conn", ValueType::Integer)
 }
 
 /// Whether the top table has its keys.
@@ -134,17 +134,17 @@ pub fn has_top_keys(all: &Table) -> bool
     ensures { result ≡ has_keys keys.top_keys (table_view all.now) }
 {
     let keys = [
-        Key::required("mrpc", Shape::Integer),
-        Key::required("service", Shape::Text),
-        Key::required("schema", Shape::Text),
-        Key::optional("loads", Shape::Integer),
-        Key::optional("workers", Shape::Integer),
-        Key::optional("weighted", Shape::Flag),
-        Key::optional("tenant", Shape::Tables),
-        Key::optional("policy", Shape::Tables),
-        Key::optional("app", Shape::Tables),
-        Key::optional("link", Shape::Tables),
-        Key::optional("operator", Shape::Tables),
+        TableKey::required("mrpc", ValueType::Integer),
+        TableKey::required("service", ValueType::Text),
+        TableKey::required("schema", ValueType::Text),
+        TableKey::optional("loads", ValueType::Integer),
+        TableKey::optional("workers", ValueType::Integer),
+        TableKey::optional("weighted", ValueType::Flag),
+        TableKey::optional("tenant", ValueType::Tables),
+        TableKey::optional("policy", ValueType::Tables),
+        TableKey::optional("app", ValueType::Tables),
+        TableKey::optional("link", ValueType::Tables),
+        TableKey::optional("operator", ValueType::Tables),
     ];
     has_keys(&keys, all)
 }
@@ -153,62 +153,74 @@ pub fn has_top_keys(all: &Table) -> bool
 pub fn has_tenant_keys(entry: &Table) -> bool
     ensures { result ≡ has_keys keys.tenant_keys (table_view entry.now) }
 {
-    has_keys(&[name_key(), Key::required("per", Shape::Integer)], entry)
+    has_keys(
+        &[name_key(), TableKey::required("per", ValueType::Integer)],
+        entry,
+    )
 }
 
 /// The kind of a policy; `None` if its word isn't a kind.
-pub fn kind_of(entry: &Table) -> Option<Kind>
-    ensures { result ≡ keys.kind_of (table_view entry.now) }
+pub fn entry_kind(entry: &Table) -> Option<PolicyKind>
+    ensures { result ≡ keys.entry_kind (table_view entry.now) }
 {
-    let word = word_at(entry, "kind");
+    let word = text_or_empty(entry, "kind");
     if is_word(word, b"access") {
-        Some(Kind::Access)
+        Some(PolicyKind::Access)
     } else if is_word(word, b"rate") {
-        Some(Kind::Rate)
+        Some(PolicyKind::Rate)
     } else if is_word(word, b"quota") {
-        Some(Kind::Quota)
+        Some(PolicyKind::Quota)
     } else if is_word(word, b"count") {
-        Some(Kind::Count)
+        Some(PolicyKind::Count)
     } else if is_word(word, b"redact") {
-        Some(Kind::Redact)
+        Some(PolicyKind::Redact)
     } else {
         None
     }
 }
 
 /// Whether a policy of a kind has its keys.
-pub fn has_policy_keys(kind: Kind, entry: &Table) -> bool
+pub fn has_policy_keys(kind: PolicyKind, entry: &Table) -> bool
     ensures { result ≡ keys.has_policy_keys (Some kind) (table_view entry.now) }
 {
-    let word = Key::required("kind", Shape::Text);
+    let word = TableKey::required("kind", ValueType::Text);
     match kind {
-        Kind::Access => has_keys(
-            &[name_key(), word, Key::required("rules", Shape::Texts)],
+        PolicyKind::Access => has_keys(
+            &[
+                name_key(),
+                word,
+                TableKey::required("rules", ValueType::Texts),
+            ],
             entry,
         ),
-        Kind::Rate => {
+        PolicyKind::Rate => {
             let keys = [
                 name_key(),
                 word,
-                Key::required("amount", Shape::Integer),
-                Key::required("per", Shape::Integer),
-                Key::required("burst", Shape::Integer),
-                Key::required("mode", Shape::Text),
+                TableKey::required("amount", ValueType::Integer),
+                TableKey::required("per", ValueType::Integer),
+                TableKey::required("burst", ValueType::Integer),
+                TableKey::required("mode", ValueType::Text),
             ];
-            has_keys(&keys, entry) && (holds(entry) || is_word(word_at(entry, "mode"), b"deny"))
+            has_keys(&keys, entry)
+                && (holds(entry) || is_word(text_or_empty(entry, "mode"), b"deny"))
         }
-        Kind::Quota => {
+        PolicyKind::Quota => {
             let keys = [
                 name_key(),
                 word,
-                Key::required("tenant", Shape::Text),
-                Key::required("cap", Shape::Integer),
+                TableKey::required("tenant", ValueType::Text),
+                TableKey::required("cap", ValueType::Integer),
             ];
             has_keys(&keys, entry)
         }
-        Kind::Count => has_keys(&[name_key(), word], entry),
-        Kind::Redact => has_keys(
-            &[name_key(), word, Key::required("clears", Shape::Texts)],
+        PolicyKind::Count => has_keys(&[name_key(), word], entry),
+        PolicyKind::Redact => has_keys(
+            &[
+                name_key(),
+                word,
+                TableKey::required("clears", ValueType::Texts),
+            ],
             entry,
         ),
     }
@@ -218,14 +230,14 @@ pub fn has_policy_keys(kind: Kind, entry: &Table) -> bool
 pub fn holds(entry: &Table) -> bool
     ensures { result ≡ policies.holds (table_view entry.now) }
 {
-    is_word(word_at(entry, "mode"), b"hold")
+    is_word(text_or_empty(entry, "mode"), b"hold")
 }
 
 /// The role of an application; `None` if its word isn't a role.
-pub fn role_of(entry: &Table) -> Option<RoleWord>
-    ensures { result ≡ keys.role_of (table_view entry.now) }
+pub fn entry_role(entry: &Table) -> Option<RoleWord>
+    ensures { result ≡ keys.entry_role (table_view entry.now) }
 {
-    let word = word_at(entry, "role");
+    let word = text_or_empty(entry, "role");
     if is_word(word, b"client") {
         Some(RoleWord::Client)
     } else if is_word(word, b"server") {
@@ -243,14 +255,14 @@ fn has_echo_keys(entry: &Table) -> bool
 {
     let keys = [
         conn_key(),
-        Key::required("role", Shape::Text),
-        Key::optional("heap", Shape::Integer),
-        Key::optional("receive", Shape::Integer),
-        Key::optional("ring", Shape::Integer),
-        Key::optional("weight", Shape::Integer),
-        Key::optional("chain", Shape::Texts),
-        Key::optional("inbound", Shape::Text),
-        Key::optional("schema", Shape::Text),
+        TableKey::required("role", ValueType::Text),
+        TableKey::optional("heap", ValueType::Integer),
+        TableKey::optional("receive", ValueType::Integer),
+        TableKey::optional("ring", ValueType::Integer),
+        TableKey::optional("weight", ValueType::Integer),
+        TableKey::optional("chain", ValueType::Texts),
+        TableKey::optional("inbound", ValueType::Text),
+        TableKey::optional("schema", ValueType::Text),
     ];
     has_keys(&keys, entry)
 }
@@ -261,15 +273,15 @@ fn has_program_keys(entry: &Table) -> bool
 {
     let keys = [
         conn_key(),
-        Key::required("role", Shape::Text),
-        Key::optional("heap", Shape::Integer),
-        Key::optional("receive", Shape::Integer),
-        Key::optional("ring", Shape::Integer),
-        Key::optional("weight", Shape::Integer),
-        Key::optional("chain", Shape::Texts),
-        Key::optional("inbound", Shape::Text),
-        Key::optional("schema", Shape::Text),
-        Key::required("program", Shape::Texts),
+        TableKey::required("role", ValueType::Text),
+        TableKey::optional("heap", ValueType::Integer),
+        TableKey::optional("receive", ValueType::Integer),
+        TableKey::optional("ring", ValueType::Integer),
+        TableKey::optional("weight", ValueType::Integer),
+        TableKey::optional("chain", ValueType::Texts),
+        TableKey::optional("inbound", ValueType::Text),
+        TableKey::optional("schema", ValueType::Text),
+        TableKey::required("program", ValueType::Texts),
     ];
     has_keys(&keys, entry)
 }
@@ -289,8 +301,8 @@ pub fn has_link_keys(entry: &Table) -> bool
     ensures { result ≡ has_keys keys.link_keys (table_view entry.now) }
 {
     let keys = [
-        Key::required("a", Shape::Integer),
-        Key::required("b", Shape::Integer),
+        TableKey::required("a", ValueType::Integer),
+        TableKey::required("b", ValueType::Integer),
     ];
     has_keys(&keys, entry)
 }
@@ -299,5 +311,8 @@ pub fn has_link_keys(entry: &Table) -> bool
 pub fn has_operator_keys(entry: &Table) -> bool
     ensures { result ≡ has_keys keys.operator_keys (table_view entry.now) }
 {
-    has_keys(&[conn_key(), Key::required("steps", Shape::Texts)], entry)
+    has_keys(
+        &[conn_key(), TableKey::required("steps", ValueType::Texts)],
+        entry,
+    )
 }

@@ -8,15 +8,15 @@
 //! `run_plan`.
 #![tactic(auto)]
 
+mod entry_words;
 mod fault;
-mod first;
-mod form;
+mod first_reason;
 pub mod keys;
 mod schema;
 mod tenant;
 
-pub use fault::{Entry, ScenarioFault, ScenarioReason};
-pub use first::{earlier, earliest, of_line, of_rule, reason_if};
-pub use form::{Kind, RoleWord};
+pub use entry_words::{PolicyKind, RoleWord};
+pub use fault::{FaultyEntry, ScenarioFault, ScenarioReason};
+pub use first_reason::{earlier, first_with, reason_if, reason_of_line, reason_of_policy_line};
 pub use schema::table_in;
 pub use tenant::tenant_in;

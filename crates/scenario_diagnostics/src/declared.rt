@@ -2,19 +2,19 @@
 
 ghost use Rattle.mrpc_table.specs.Valid.{IsValid};
 
+use crate::operator_lines::policy_of;
 use crate::site::{Site, name_at, names_of, text_of};
-use crate::steps::policy_of;
 use mrpc_table::{Memory, Table as Schema};
 use policy_declarations::{Declarations, NamedPolicy};
 use scenario::{ScenarioFault, table_in};
 use scenario_entries::{read_policies, read_tenants};
-use scenario_toml::{items_at, tables_at, word_at};
+use scenario_toml::{items_at, tables_at, text_or_empty};
 use std::alloc::Global;
 use toml::Table;
 
 // The tenants and the policies of a scenario; `None` if one of them is at fault.
 pub(crate) fn declared_in(alloc: Global, all: &Table) -> Result<Option<Declarations>, Memory> {
-    match table_in(alloc, word_at(all, "schema"))? {
+    match table_in(alloc, text_or_empty(all, "schema"))? {
         Some(table) => free_of_fault(declared_under(alloc, &table, all)),
         None => Ok(None),
     }

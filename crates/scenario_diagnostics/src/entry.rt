@@ -1,37 +1,37 @@
 //! The words for an entry.
 
 ghost use Rattle.std.specs.Prelude.{◌≡◌, IfOk};
-ghost use Rattle.scenario_diagnostics.specs.Told.{entry_words, list_key, numbered};
+ghost use Rattle.scenario_diagnostics.specs.EntryWords.{entry_words, list_key, numbered};
 
 use mrpc_table::{Bytes, Memory};
-use scenario::Entry;
+use scenario::FaultyEntry;
 use std::alloc::Global;
 
 /// The key of the list that contains an entry; empty for the whole scenario.
-pub fn list_of(entry: Entry) -> &'static str
+pub fn list_of(entry: FaultyEntry) -> &'static str
     ensures { result.now ≡ list_key entry }
 {
     match entry {
-        Entry::Top => "",
-        Entry::Tenant(_) => "tenant",
-        Entry::Policy(_) => "policy",
-        Entry::App(_) => "app",
-        Entry::Link(_) => "link",
-        Entry::Operator(_) => "operator",
+        FaultyEntry::Top => "",
+        FaultyEntry::Tenant(_) => "tenant",
+        FaultyEntry::Policy(_) => "policy",
+        FaultyEntry::App(_) => "app",
+        FaultyEntry::Link(_) => "link",
+        FaultyEntry::Operator(_) => "operator",
     }
 }
 
 /// The words for an entry.
-pub fn entry_words(alloc: Global, entry: Entry) -> Result<Bytes, Memory>
+pub fn entry_words(alloc: Global, entry: FaultyEntry) -> Result<Bytes, Memory>
     ensures { IfOk result (λ words. words ≡ entry_words entry) }
 {
     match entry {
-        Entry::Top => Bytes::from_slice(alloc, b"the scenario"),
-        Entry::Tenant(number) => numbered(alloc, b"tenant ", number),
-        Entry::Policy(number) => numbered(alloc, b"policy ", number),
-        Entry::App(number) => numbered(alloc, b"app ", number),
-        Entry::Link(number) => numbered(alloc, b"link ", number),
-        Entry::Operator(number) => numbered(alloc, b"operator ", number),
+        FaultyEntry::Top => Bytes::from_slice(alloc, b"the scenario"),
+        FaultyEntry::Tenant(number) => numbered(alloc, b"tenant ", number),
+        FaultyEntry::Policy(number) => numbered(alloc, b"policy ", number),
+        FaultyEntry::App(number) => numbered(alloc, b"app ", number),
+        FaultyEntry::Link(number) => numbered(alloc, b"link ", number),
+        FaultyEntry::Operator(number) => numbered(alloc, b"operator ", number),
     }
 }
 

@@ -2,13 +2,13 @@
 
 use mrpc_table::{MAX_HEAP, MAX_LOADS, MIN_HEAP};
 use run_plan::{MAX_CONNECTIONS, MAX_RING, MAX_WEIGHT, MAX_WORKERS};
-use scenario::keys::{kind_of, role_of};
-use scenario::{Entry, Kind, RoleWord};
+use scenario::keys::{entry_kind, entry_role};
+use scenario::{FaultyEntry, PolicyKind, RoleWord};
 use toml::Table;
 
 // The values that a key takes.
 #[derive(Clone, Copy)]
-pub(crate) enum Takes {
+pub(crate) enum ValueForm {
     Text,
     // A number in this range, both ends included.
     Number(u64, u64),
@@ -18,128 +18,131 @@ pub(crate) enum Takes {
 }
 
 // A key, the values that it takes, and whether it is required. Required keys come first in a table.
-pub(crate) type Key = (&'static str, Takes, bool);
+pub(crate) type KeyForm = (&'static str, ValueForm, bool);
 
 // The longest window and the longest period of a rate, in milliseconds.
 const DAY: u64 = 86_400_000;
 
 // The most calls that a rate lets pass.
-const MOST_CALLS: u64 = 1_000_000;
+const MAX_CALLS: u64 = 1_000_000;
 
 // The largest cap of a window.
-const MOST_TICKETS: u64 = 4_294_967_295;
+const MAX_TICKETS: u64 = 4_294_967_295;
 
 const CONNECTIONS: u64 = MAX_CONNECTIONS as u64;
 
-const TOP: [Key; 11] = [
-    ("mrpc", Takes::Number(1, 1), true),
-    ("service", Takes::Text, true),
-    ("schema", Takes::Text, true),
-    ("loads", Takes::Number(1, MAX_LOADS), false),
-    ("workers", Takes::Number(1, MAX_WORKERS), false),
-    ("weighted", Takes::Flag, false),
-    ("tenant", Takes::Tables, false),
-    ("policy", Takes::Tables, false),
-    ("app", Takes::Tables, false),
-    ("link", Takes::Tables, false),
-    ("operator", Takes::Tables, false),
+const TOP: [KeyForm; 11] = [
+    ("mrpc", ValueForm::Number(1, 1), true),
+    ("service", ValueForm::Text, true),
+    ("schema", ValueForm::Text, true),
+    ("loads", ValueForm::Number(1, MAX_LOADS), false),
+    ("workers", ValueForm::Number(1, MAX_WORKERS), false),
+    ("weighted", ValueForm::Flag, false),
+    ("tenant", ValueForm::Tables, false),
+    ("policy", ValueForm::Tables, false),
+    ("app", ValueForm::Tables, false),
+    ("link", ValueForm::Tables, false),
+    ("operator", ValueForm::Tables, false),
 ];
 
-const TENANT: [Key; 2] = [
-    ("name", Takes::Text, true),
-    ("per", Takes::Number(1, DAY), true),
+const TENANT: [KeyForm; 2] = [
+    ("name", ValueForm::Text, true),
+    ("per", ValueForm::Number(1, DAY), true),
 ];
 
-const ACCESS: [Key; 3] = [
-    ("name", Takes::Text, true),
-    ("kind", Takes::Text, true),
-    ("rules", Takes::Texts, true),
+const ACCESS: [KeyForm; 3] = [
+    ("name", ValueForm::Text, true),
+    ("kind", ValueForm::Text, true),
+    ("rules", ValueForm::Texts, true),
 ];
 
-const RATE: [Key; 6] = [
-    ("name", Takes::Text, true),
-    ("kind", Takes::Text, true),
-    ("amount", Takes::Number(1, MOST_CALLS), true),
-    ("per", Takes::Number(1, DAY), true),
-    ("burst", Takes::Number(1, MOST_CALLS), true),
-    ("mode", Takes::Text, true),
+const RATE: [KeyForm; 6] = [
+    ("name", ValueForm::Text, true),
+    ("kind", ValueForm::Text, true),
+    ("amount", ValueForm::Number(1, MAX_CALLS), true),
+    ("per", ValueForm::Number(1, DAY), true),
+    ("burst", ValueForm::Number(1, MAX_CALLS), true),
+    ("mode", ValueForm::Text, true),
 ];
 
-const QUOTA: [Key; 4] = [
-    ("name", Takes::Text, true),
-    ("kind", Takes::Text, true),
-    ("tenant", Takes::Text, true),
-    ("cap", Takes::Number(0, MOST_TICKETS), true),
+const QUOTA: [KeyForm; 4] = [
+    ("name", ValueForm::Text, true),
+    ("kind", ValueForm::Text, true),
+    ("tenant", ValueForm::Text, true),
+    ("cap", ValueForm::Number(0, MAX_TICKETS), true),
 ];
 
-const COUNT: [Key; 2] = [("name", Takes::Text, true), ("kind", Takes::Text, true)];
-
-const REDACT: [Key; 3] = [
-    ("name", Takes::Text, true),
-    ("kind", Takes::Text, true),
-    ("clears", Takes::Texts, true),
+const COUNT: [KeyForm; 2] = [
+    ("name", ValueForm::Text, true),
+    ("kind", ValueForm::Text, true),
 ];
 
-const PROGRAM: [Key; 10] = [
-    ("conn", Takes::Number(1, CONNECTIONS), true),
-    ("role", Takes::Text, true),
-    ("program", Takes::Texts, true),
-    ("inbound", Takes::Text, false),
-    ("schema", Takes::Text, false),
-    ("heap", Takes::Number(MIN_HEAP, MAX_HEAP), false),
-    ("receive", Takes::Number(MIN_HEAP, MAX_HEAP), false),
-    ("ring", Takes::Number(1, MAX_RING), false),
-    ("weight", Takes::Number(1, MAX_WEIGHT), false),
-    ("chain", Takes::Texts, false),
+const REDACT: [KeyForm; 3] = [
+    ("name", ValueForm::Text, true),
+    ("kind", ValueForm::Text, true),
+    ("clears", ValueForm::Texts, true),
 ];
 
-const ECHO: [Key; 9] = [
-    ("conn", Takes::Number(1, CONNECTIONS), true),
-    ("role", Takes::Text, true),
-    ("inbound", Takes::Text, false),
-    ("schema", Takes::Text, false),
-    ("heap", Takes::Number(MIN_HEAP, MAX_HEAP), false),
-    ("receive", Takes::Number(MIN_HEAP, MAX_HEAP), false),
-    ("ring", Takes::Number(1, MAX_RING), false),
-    ("weight", Takes::Number(1, MAX_WEIGHT), false),
-    ("chain", Takes::Texts, false),
+const PROGRAM: [KeyForm; 10] = [
+    ("conn", ValueForm::Number(1, CONNECTIONS), true),
+    ("role", ValueForm::Text, true),
+    ("program", ValueForm::Texts, true),
+    ("inbound", ValueForm::Text, false),
+    ("schema", ValueForm::Text, false),
+    ("heap", ValueForm::Number(MIN_HEAP, MAX_HEAP), false),
+    ("receive", ValueForm::Number(MIN_HEAP, MAX_HEAP), false),
+    ("ring", ValueForm::Number(1, MAX_RING), false),
+    ("weight", ValueForm::Number(1, MAX_WEIGHT), false),
+    ("chain", ValueForm::Texts, false),
 ];
 
-const LINK: [Key; 2] = [
-    ("a", Takes::Number(1, CONNECTIONS), true),
-    ("b", Takes::Number(1, CONNECTIONS), true),
+const ECHO: [KeyForm; 9] = [
+    ("conn", ValueForm::Number(1, CONNECTIONS), true),
+    ("role", ValueForm::Text, true),
+    ("inbound", ValueForm::Text, false),
+    ("schema", ValueForm::Text, false),
+    ("heap", ValueForm::Number(MIN_HEAP, MAX_HEAP), false),
+    ("receive", ValueForm::Number(MIN_HEAP, MAX_HEAP), false),
+    ("ring", ValueForm::Number(1, MAX_RING), false),
+    ("weight", ValueForm::Number(1, MAX_WEIGHT), false),
+    ("chain", ValueForm::Texts, false),
 ];
 
-const OPERATOR: [Key; 2] = [
-    ("conn", Takes::Number(1, CONNECTIONS), true),
-    ("steps", Takes::Texts, true),
+const LINK: [KeyForm; 2] = [
+    ("a", ValueForm::Number(1, CONNECTIONS), true),
+    ("b", ValueForm::Number(1, CONNECTIONS), true),
+];
+
+const OPERATOR: [KeyForm; 2] = [
+    ("conn", ValueForm::Number(1, CONNECTIONS), true),
+    ("steps", ValueForm::Texts, true),
 ];
 
 // The keys of an entry; empty if its kind or its role isn't known.
-pub(crate) fn keys_of(at: Entry, entry: &Table) -> &'static [Key] {
+pub(crate) fn keys_of(at: FaultyEntry, entry: &Table) -> &'static [KeyForm] {
     match at {
-        Entry::Top => &TOP,
-        Entry::Tenant(_) => &TENANT,
-        Entry::Policy(_) => policy_keys(entry),
-        Entry::App(_) => app_keys(entry),
-        Entry::Link(_) => &LINK,
-        Entry::Operator(_) => &OPERATOR,
+        FaultyEntry::Top => &TOP,
+        FaultyEntry::Tenant(_) => &TENANT,
+        FaultyEntry::Policy(_) => policy_keys(entry),
+        FaultyEntry::App(_) => app_keys(entry),
+        FaultyEntry::Link(_) => &LINK,
+        FaultyEntry::Operator(_) => &OPERATOR,
     }
 }
 
-fn policy_keys(entry: &Table) -> &'static [Key] {
-    match kind_of(entry) {
+fn policy_keys(entry: &Table) -> &'static [KeyForm] {
+    match entry_kind(entry) {
         None => &[],
-        Some(Kind::Access) => &ACCESS,
-        Some(Kind::Rate) => &RATE,
-        Some(Kind::Quota) => &QUOTA,
-        Some(Kind::Count) => &COUNT,
-        Some(Kind::Redact) => &REDACT,
+        Some(PolicyKind::Access) => &ACCESS,
+        Some(PolicyKind::Rate) => &RATE,
+        Some(PolicyKind::Quota) => &QUOTA,
+        Some(PolicyKind::Count) => &COUNT,
+        Some(PolicyKind::Redact) => &REDACT,
     }
 }
 
-fn app_keys(entry: &Table) -> &'static [Key] {
-    match role_of(entry) {
+fn app_keys(entry: &Table) -> &'static [KeyForm] {
+    match entry_role(entry) {
         None => &[],
         Some(RoleWord::Echo) => &ECHO,
         Some(_) => &PROGRAM,
@@ -159,14 +162,14 @@ const ROLE: Choice = ("role", "\"client\", \"server\" or \"echo\"");
 const MODE: Choice = ("mode", "\"hold\" or \"deny\"");
 
 // The choice that an entry has besides its keys; `None` if it has none.
-pub(crate) fn choice_of(at: Entry, entry: &Table) -> Option<Choice> {
+pub(crate) fn choice_of(at: FaultyEntry, entry: &Table) -> Option<Choice> {
     match at {
-        Entry::Policy(_) => match kind_of(entry) {
+        FaultyEntry::Policy(_) => match entry_kind(entry) {
             None => Some(KIND),
-            Some(Kind::Rate) => Some(MODE),
+            Some(PolicyKind::Rate) => Some(MODE),
             Some(_) => None,
         },
-        Entry::App(_) => Some(ROLE),
+        FaultyEntry::App(_) => Some(ROLE),
         _ => None,
     }
 }

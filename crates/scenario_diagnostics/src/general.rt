@@ -1,10 +1,10 @@
 //! Texts for reasons that fit any entry.
 
 use crate::words_for;
-use diagnostics::Row;
+use diagnostics::WordText;
 use scenario::ScenarioReason;
 
-const WORDS: [Row; 17] = [
+const WORDS: [WordText; 17] = [
     ("Toml", " is no TOML"),
     (
         "Key",

@@ -1,14 +1,14 @@
 //! Keys that the entry doesn't have, keys that are missing, and values of another type.
 
-use crate::forms::{Choice, Key, Takes, choice_of, keys_of};
-use crate::site::{Said, Site, Spot, say_at};
+use crate::forms::{Choice, KeyForm, ValueForm, choice_of, keys_of};
+use crate::site::{DiagnosedPart, EntryPart, Site, say_at};
 use crate::values::{fits, say_type};
-use crate::{Part, say};
+use crate::{Phrase, append_phrases};
 use mrpc_table::{Bytes, is_word};
 use toml::{Table, Value};
 
 // Appends which key of an entry is at fault.
-pub(crate) fn say_key<'a>(out: &mut Bytes, site: &Site<'a>) -> Said<'a> {
+pub(crate) fn say_key<'a>(out: &mut Bytes, site: &Site<'a>) -> DiagnosedPart<'a> {
     let keys = keys_of(site.at, site.entry);
     if !keys.is_empty() {
         if let Some(spot) = say_against(out, keys, site.entry)? {
@@ -23,7 +23,7 @@ pub(crate) fn say_key<'a>(out: &mut Bytes, site: &Site<'a>) -> Said<'a> {
 
 // Appends the first fault: a key that isn't in the list or whose value has another type, or else a missing
 // key.
-fn say_against<'a>(out: &mut Bytes, keys: &[Key], entry: &'a Table) -> Said<'a> {
+fn say_against<'a>(out: &mut Bytes, keys: &[KeyForm], entry: &'a Table) -> DiagnosedPart<'a> {
     for (name, value) in entry.iter() {
         if let Some(spot) = say_wrong(out, keys, name.as_str(), value)? {
             return Ok(Some(spot));
@@ -38,7 +38,12 @@ fn say_against<'a>(out: &mut Bytes, keys: &[Key], entry: &'a Table) -> Said<'a> 
 }
 
 // Appends that a key isn't in the list, or that its value has another type.
-fn say_wrong<'a>(out: &mut Bytes, keys: &[Key], name: &'a str, value: &Value) -> Said<'a> {
+fn say_wrong<'a>(
+    out: &mut Bytes,
+    keys: &[KeyForm],
+    name: &'a str,
+    value: &Value,
+) -> DiagnosedPart<'a> {
     match taken_at(keys, name) {
         Some(takes) if fits(takes, value) => Ok(None),
         Some(takes) => say_type(out, name, takes, value),
@@ -47,7 +52,7 @@ fn say_wrong<'a>(out: &mut Bytes, keys: &[Key], name: &'a str, value: &Value) ->
 }
 
 // The values that a key takes; `None` if it isn't in the list.
-fn taken_at(keys: &[Key], name: &str) -> Option<Takes> {
+fn taken_at(keys: &[KeyForm], name: &str) -> Option<ValueForm> {
     for key in keys {
         if is_word(key.0.as_bytes(), name.as_bytes()) {
             return Some(key.1);
@@ -56,48 +61,48 @@ fn taken_at(keys: &[Key], name: &str) -> Option<Takes> {
     None
 }
 
-fn say_no_key<'a>(out: &mut Bytes, keys: &[Key], name: &'a str) -> Said<'a> {
+fn say_no_key<'a>(out: &mut Bytes, keys: &[KeyForm], name: &'a str) -> DiagnosedPart<'a> {
     let mut between = " is none of its keys, which are ";
-    say(out, &[Part::Text(": "), Part::Quoted(name.as_bytes())])?;
+    append_phrases(out, &[Phrase::Text(": "), Phrase::Quoted(name.as_bytes())])?;
     for key in keys {
-        say(out, &[Part::Text(between), Part::Text(key.0)])?;
+        append_phrases(out, &[Phrase::Text(between), Phrase::Text(key.0)])?;
         between = ", ";
     }
-    Ok(Some(Spot { key: name, line: 0 }))
+    Ok(Some(EntryPart { key: name, line: 0 }))
 }
 
 // Appends that a key is missing.
-fn say_missing(out: &mut Bytes, key: &str) -> Said<'static> {
+fn say_missing(out: &mut Bytes, key: &str) -> DiagnosedPart<'static> {
     say_at(
         out,
         "",
         &[
-            Part::Text(": the key "),
-            Part::Quoted(key.as_bytes()),
-            Part::Text(" is missing"),
+            Phrase::Text(": the key "),
+            Phrase::Quoted(key.as_bytes()),
+            Phrase::Text(" is missing"),
         ],
     )
 }
 
 // Appends what is wrong with the word at a key that takes one of a few words.
-fn say_choice(out: &mut Bytes, entry: &Table, choice: Choice) -> Said<'static> {
+fn say_choice(out: &mut Bytes, entry: &Table, choice: Choice) -> DiagnosedPart<'static> {
     let (key, choices) = choice;
     let Some(value) = entry.get(key) else {
         return say_missing(out, key);
     };
     let Some(word) = value.as_str() else {
-        return say_type(out, key, Takes::Text, value);
+        return say_type(out, key, ValueForm::Text, value);
     };
     say_at(
         out,
         key,
         &[
-            Part::Text(": "),
-            Part::Text(key),
-            Part::Text(" is "),
-            Part::Quoted(word.as_bytes()),
-            Part::Text("; it may be "),
-            Part::Text(choices),
+            Phrase::Text(": "),
+            Phrase::Text(key),
+            Phrase::Text(" is "),
+            Phrase::Quoted(word.as_bytes()),
+            Phrase::Text("; it may be "),
+            Phrase::Text(choices),
         ],
     )
 }

@@ -1,20 +1,20 @@
 //! Connections that aren't in a pair.
 
-use crate::Part;
-use crate::site::{Said, Site, say_at};
+use crate::Phrase;
+use crate::site::{DiagnosedPart, Site, say_at};
 use mrpc_table::Bytes;
-use scenario::Entry;
+use scenario::FaultyEntry;
 use scenario::keys::{conn, end_a, end_b};
 use toml::{Table, Value};
 
 // Appends why a connection isn't in a pair.
-pub(crate) fn say_pair(out: &mut Bytes, site: &Site<'_>) -> Said<'static> {
+pub(crate) fn say_pair(out: &mut Bytes, site: &Site<'_>) -> DiagnosedPart<'static> {
     match site.at {
-        Entry::App(_) => {
+        FaultyEntry::App(_) => {
             let number = conn().number(site.entry);
             say_conn(out, "conn", number, " is at an end of no link")
         }
-        Entry::Link(_) => say_link(out, site.before(), site.entry),
+        FaultyEntry::Link(_) => say_link(out, site.before(), site.entry),
         _ => Ok(None),
     }
 }
@@ -24,24 +24,24 @@ fn say_conn(
     key: &'static str,
     number: u64,
     behind: &'static str,
-) -> Said<'static> {
+) -> DiagnosedPart<'static> {
     say_at(
         out,
         key,
         &[
-            Part::Text(": connection "),
-            Part::Number(number),
-            Part::Text(behind),
+            Phrase::Text(": connection "),
+            Phrase::Number(number),
+            Phrase::Text(behind),
         ],
     )
 }
 
-fn say_link(out: &mut Bytes, before: &[Value], entry: &Table) -> Said<'static> {
+fn say_link(out: &mut Bytes, before: &[Value], entry: &Table) -> DiagnosedPart<'static> {
     let a = end_a().number(entry);
     let b = end_b().number(entry);
     if a == b {
         let words = ": both of its ends are connection ";
-        return say_at(out, "b", &[Part::Text(words), Part::Number(a)]);
+        return say_at(out, "b", &[Phrase::Text(words), Phrase::Number(a)]);
     }
     if is_linked(before, a) {
         return say_conn(out, "a", a, LINKED);
@@ -49,7 +49,11 @@ fn say_link(out: &mut Bytes, before: &[Value], entry: &Table) -> Said<'static> {
     if is_linked(before, b) {
         return say_conn(out, "b", b, LINKED);
     }
-    say_at(out, "", &[Part::Text(": no client is at one of its ends")])
+    say_at(
+        out,
+        "",
+        &[Phrase::Text(": no client is at one of its ends")],
+    )
 }
 
 const LINKED: &str = " is at an end of a link before it already";

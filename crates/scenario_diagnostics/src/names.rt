@@ -1,14 +1,14 @@
 //! Names that are invalid, in use already, or undeclared.
 
 use crate::declared::declared_in;
-use crate::site::{Said, Site, first_on, key_of_name, name_at, names_of, say_at};
-use crate::{Part, list_of};
-use diagnostics::Row;
+use crate::site::{DiagnosedPart, Site, first_on, key_of_name, name_at, names_of, say_at};
+use crate::{Phrase, list_of};
+use diagnostics::WordText;
 use mrpc_table::{Bytes, is_full_name, is_name};
 use policy_declarations::Declarations;
-use scenario::Entry;
+use scenario::FaultyEntry;
 use scenario::keys::{conn, end_a, end_b};
-use scenario_toml::{items_at, text_at, word_at};
+use scenario_toml::{items_at, text_at, text_or_empty};
 use std::alloc::Global;
 use toml::{Table, Value};
 
@@ -18,19 +18,19 @@ const FORM: &str =
     ", which is no name: a letter or \"_\", then letters, digits and \"_\", 64 bytes at the most";
 
 // Keys that take a name, with the start of a sentence about each.
-const NAMES: [Row; 2] = [("name", ": name is "), ("tenant", ": tenant is ")];
+const NAMES: [WordText; 2] = [("name", ": name is "), ("tenant", ": tenant is ")];
 
 // Appends which name of an entry is invalid, except names in lines.
-pub(crate) fn say_name(out: &mut Bytes, site: &Site<'_>) -> Said<'static> {
+pub(crate) fn say_name(out: &mut Bytes, site: &Site<'_>) -> DiagnosedPart<'static> {
     match site.at {
-        Entry::Top => say_service(out, site.entry),
-        Entry::App(_) => say_no_policy_name(out, site.entry),
+        FaultyEntry::Top => say_service(out, site.entry),
+        FaultyEntry::App(_) => say_no_policy_name(out, site.entry),
         _ => say_no_name(out, site.entry),
     }
 }
 
-fn say_service(out: &mut Bytes, all: &Table) -> Said<'static> {
-    let word = word_at(all, "service");
+fn say_service(out: &mut Bytes, all: &Table) -> DiagnosedPart<'static> {
+    let word = text_or_empty(all, "service");
     if is_full_name(word) {
         return Ok(None);
     }
@@ -38,7 +38,7 @@ fn say_service(out: &mut Bytes, all: &Table) -> Said<'static> {
 }
 
 // Appends that the name of an entry, or that of its tenant, is invalid.
-fn say_no_name(out: &mut Bytes, entry: &Table) -> Said<'static> {
+fn say_no_name(out: &mut Bytes, entry: &Table) -> DiagnosedPart<'static> {
     for row in &NAMES {
         if let Some(word) = text_at(entry, row.0) {
             if !is_name(word.as_bytes()) {
@@ -50,7 +50,7 @@ fn say_no_name(out: &mut Bytes, entry: &Table) -> Said<'static> {
 }
 
 // Appends which word that an application uses for a policy is no valid name.
-fn say_no_policy_name(out: &mut Bytes, entry: &Table) -> Said<'static> {
+fn say_no_policy_name(out: &mut Bytes, entry: &Table) -> DiagnosedPart<'static> {
     for place in 0..names_of(entry) {
         if let Some(name) = name_at(entry, place) {
             if !is_name(name) {
@@ -68,36 +68,40 @@ fn say_formless(
     before: &str,
     word: &[u8],
     form: &str,
-) -> Said<'static> {
-    let parts = [Part::Text(before), Part::Quoted(word), Part::Text(form)];
+) -> DiagnosedPart<'static> {
+    let parts = [
+        Phrase::Text(before),
+        Phrase::Quoted(word),
+        Phrase::Text(form),
+    ];
     say_at(out, key, &parts)
 }
 
 // Appends which earlier entry declares the same.
-pub(crate) fn say_known(out: &mut Bytes, site: &Site<'_>) -> Said<'static> {
+pub(crate) fn say_known(out: &mut Bytes, site: &Site<'_>) -> DiagnosedPart<'static> {
     match site.at {
-        Entry::Tenant(_) | Entry::Policy(_) => say_known_name(out, site),
-        Entry::App(_) | Entry::Operator(_) => say_known_conn(out, site),
+        FaultyEntry::Tenant(_) | FaultyEntry::Policy(_) => say_known_name(out, site),
+        FaultyEntry::App(_) | FaultyEntry::Operator(_) => say_known_conn(out, site),
         _ => Ok(None),
     }
 }
 
-fn say_known_name(out: &mut Bytes, site: &Site<'_>) -> Said<'static> {
-    let name = word_at(site.entry, "name");
+fn say_known_name(out: &mut Bytes, site: &Site<'_>) -> DiagnosedPart<'static> {
+    let name = text_or_empty(site.entry, "name");
     match first_named(site.before(), name) {
         Some(number) => say_used(
             out,
             site.at,
             "name",
             ": the name ",
-            Part::Quoted(name),
+            Phrase::Quoted(name),
             number,
         ),
         None => Ok(None),
     }
 }
 
-fn say_known_conn(out: &mut Bytes, site: &Site<'_>) -> Said<'static> {
+fn say_known_conn(out: &mut Bytes, site: &Site<'_>) -> DiagnosedPart<'static> {
     let own = conn().number(site.entry);
     match first_on(site.before(), own) {
         Some((number, _)) => say_used(
@@ -105,7 +109,7 @@ fn say_known_conn(out: &mut Bytes, site: &Site<'_>) -> Said<'static> {
             site.at,
             "conn",
             ": connection ",
-            Part::Number(own),
+            Phrase::Number(own),
             number,
         ),
         None => Ok(None),
@@ -115,23 +119,23 @@ fn say_known_conn(out: &mut Bytes, site: &Site<'_>) -> Said<'static> {
 // Appends that the entry with this number in the same list uses something already.
 fn say_used<'w>(
     out: &mut Bytes,
-    at: Entry,
+    at: FaultyEntry,
     key: &'static str,
     before: &'w str,
-    what: Part<'w>,
+    what: Phrase<'w>,
     number: u64,
-) -> Said<'static> {
+) -> DiagnosedPart<'static> {
     say_at(
         out,
         key,
         &[
-            Part::Text(before),
+            Phrase::Text(before),
             what,
-            Part::Text(" is used by "),
-            Part::Text(list_of(at)),
-            Part::Text(" "),
-            Part::Number(number),
-            Part::Text(" already"),
+            Phrase::Text(" is used by "),
+            Phrase::Text(list_of(at)),
+            Phrase::Text(" "),
+            Phrase::Number(number),
+            Phrase::Text(" already"),
         ],
     )
 }
@@ -142,7 +146,7 @@ fn first_named(entries: &[Value], name: &[u8]) -> Option<u64> {
     for item in entries {
         number = number.saturating_add(1);
         if let Some(entry) = item.as_table() {
-            if word_at(entry, "name") == name {
+            if text_or_empty(entry, "name") == name {
                 return Some(number);
             }
         }
@@ -151,26 +155,30 @@ fn first_named(entries: &[Value], name: &[u8]) -> Option<u64> {
 }
 
 // Appends which name or connection of an entry is undeclared, except those in lines.
-pub(crate) fn say_unknown(alloc: Global, out: &mut Bytes, site: &Site<'_>) -> Said<'static> {
+pub(crate) fn say_unknown(
+    alloc: Global,
+    out: &mut Bytes,
+    site: &Site<'_>,
+) -> DiagnosedPart<'static> {
     match site.at {
-        Entry::Policy(_) => say_unknown_tenant(out, site),
-        Entry::App(_) => say_unknown_policy(alloc, out, site),
-        Entry::Link(_) => say_unknown_end(out, site),
-        Entry::Operator(_) => say_no_app(out, site.all, "conn", conn().number(site.entry)),
+        FaultyEntry::Policy(_) => say_unknown_tenant(out, site),
+        FaultyEntry::App(_) => say_unknown_policy(alloc, out, site),
+        FaultyEntry::Link(_) => say_unknown_end(out, site),
+        FaultyEntry::Operator(_) => say_no_app(out, site.all, "conn", conn().number(site.entry)),
         _ => Ok(None),
     }
 }
 
-fn say_unknown_tenant(out: &mut Bytes, site: &Site<'_>) -> Said<'static> {
-    let name = word_at(site.entry, "tenant");
+fn say_unknown_tenant(out: &mut Bytes, site: &Site<'_>) -> DiagnosedPart<'static> {
+    let name = text_or_empty(site.entry, "tenant");
     if first_named(items_at(site.all, "tenant"), name).is_some() {
         return Ok(None);
     }
-    let words = Part::Text(": no tenant is named ");
-    say_at(out, "tenant", &[words, Part::Quoted(name)])
+    let words = Phrase::Text(": no tenant is named ");
+    say_at(out, "tenant", &[words, Phrase::Quoted(name)])
 }
 
-fn say_unknown_policy(alloc: Global, out: &mut Bytes, site: &Site<'_>) -> Said<'static> {
+fn say_unknown_policy(alloc: Global, out: &mut Bytes, site: &Site<'_>) -> DiagnosedPart<'static> {
     match declared_in(alloc, site.all)? {
         Some(declared) => say_undeclared(out, &declared, site.entry),
         None => Ok(None),
@@ -178,19 +186,27 @@ fn say_unknown_policy(alloc: Global, out: &mut Bytes, site: &Site<'_>) -> Said<'
 }
 
 // Appends which name in an application is that of no policy.
-fn say_undeclared(out: &mut Bytes, declared: &Declarations, entry: &Table) -> Said<'static> {
+fn say_undeclared(
+    out: &mut Bytes,
+    declared: &Declarations,
+    entry: &Table,
+) -> DiagnosedPart<'static> {
     for place in 0..names_of(entry) {
         if let Some(name) = name_at(entry, place) {
             if declared.policy(name).is_none() {
-                let words = Part::Text(": no policy is named ");
-                return say_at(out, key_of_name(entry, name), &[words, Part::Quoted(name)]);
+                let words = Phrase::Text(": no policy is named ");
+                return say_at(
+                    out,
+                    key_of_name(entry, name),
+                    &[words, Phrase::Quoted(name)],
+                );
             }
         }
     }
     Ok(None)
 }
 
-fn say_unknown_end(out: &mut Bytes, site: &Site<'_>) -> Said<'static> {
+fn say_unknown_end(out: &mut Bytes, site: &Site<'_>) -> DiagnosedPart<'static> {
     if let Some(spot) = say_no_app(out, site.all, "a", end_a().number(site.entry))? {
         return Ok(Some(spot));
     }
@@ -198,10 +214,15 @@ fn say_unknown_end(out: &mut Bytes, site: &Site<'_>) -> Said<'static> {
 }
 
 // Appends that no application is on a connection, if there is none.
-fn say_no_app(out: &mut Bytes, all: &Table, key: &'static str, number: u64) -> Said<'static> {
+fn say_no_app(
+    out: &mut Bytes,
+    all: &Table,
+    key: &'static str,
+    number: u64,
+) -> DiagnosedPart<'static> {
     if first_on(items_at(all, "app"), number).is_some() {
         return Ok(None);
     }
-    let words = Part::Text(": no app is on connection ");
-    say_at(out, key, &[words, Part::Number(number)])
+    let words = Phrase::Text(": no app is on connection ");
+    say_at(out, key, &[words, Phrase::Number(number)])
 }

@@ -1,24 +1,24 @@
 //! Numbers out of their ranges.
 
-use crate::Part;
-use crate::forms::{Takes, keys_of};
-use crate::site::{Said, Site, say_at};
+use crate::Phrase;
+use crate::forms::{ValueForm, keys_of};
+use crate::site::{DiagnosedPart, Site, say_at};
 use mrpc_table::Bytes;
 use policy_declarations::MAX_TENANTS;
-use scenario::Entry;
-use scenario_toml::Range;
+use scenario::FaultyEntry;
+use scenario_toml::IntegerRange;
 use toml::Table;
 
 // Appends which number of an entry is out of its range, except those in lines.
-pub(crate) fn say_number(out: &mut Bytes, site: &Site<'_>) -> Said<'static> {
-    if matches!(site.at, Entry::Tenant(number) if number > MAX_TENANTS as u64) {
+pub(crate) fn say_number(out: &mut Bytes, site: &Site<'_>) -> DiagnosedPart<'static> {
+    if matches!(site.at, FaultyEntry::Tenant(number) if number > MAX_TENANTS as u64) {
         let words = ": a scenario has 16 tenants at the most";
-        return say_at(out, "", &[Part::Text(words)]);
+        return say_at(out, "", &[Phrase::Text(words)]);
     }
     for key in keys_of(site.at, site.entry) {
-        if let Takes::Number(least, most) = key.1 {
+        if let ValueForm::Number(least, most) = key.1 {
             if is_out(site.entry, key.0, least, most) {
-                return say_range(out, site.entry, key.0, least, most);
+                return append_range(out, site.entry, key.0, least, most);
             }
         }
     }
@@ -27,38 +27,38 @@ pub(crate) fn say_number(out: &mut Bytes, site: &Site<'_>) -> Said<'static> {
 
 // Whether the number at the key is out of its range. A missing number is not.
 fn is_out(entry: &Table, key: &'static str, least: u64, most: u64) -> bool {
-    Range::new(key, least, least, most).is_out(entry)
+    IntegerRange::new(key, least, least, most).is_out(entry)
 }
 
 // Appends the number at the key, and its range.
-fn say_range(
+fn append_range(
     out: &mut Bytes,
     entry: &Table,
     key: &'static str,
     least: u64,
     most: u64,
-) -> Said<'static> {
+) -> DiagnosedPart<'static> {
     say_at(
         out,
         key,
         &[
-            Part::Text(": "),
-            Part::Text(key),
-            Part::Text(" is "),
+            Phrase::Text(": "),
+            Phrase::Text(key),
+            Phrase::Text(" is "),
             number_at(entry, key),
-            Part::Text("; it may be "),
-            Part::Range(least, most),
+            Phrase::Text("; it may be "),
+            Phrase::Range(least, most),
         ],
     )
 }
 
 // The number at the key, if there is one.
-fn number_at(entry: &Table, key: &str) -> Part<'static> {
+fn number_at(entry: &Table, key: &str) -> Phrase<'static> {
     let Some(value) = entry.get(key) else {
-        return Part::Text("");
+        return Phrase::Text("");
     };
     match value.as_integer() {
-        Some(number) => Part::Integer(number),
-        None => Part::Text(""),
+        Some(number) => Phrase::Integer(number),
+        None => Phrase::Text(""),
     }
 }

@@ -1,11 +1,11 @@
 //! Lines of programs.
 
-use crate::Part;
-use crate::site::{Said, Site, say_at, say_in, text_of};
+use crate::Phrase;
+use crate::site::{DiagnosedPart, Site, say_at, say_in, text_of};
 use app_program::{MAX_REQUEST_STORES, MAX_STORES};
 use mrpc_table::{Bytes, MAX_HEAP};
-use scenario::keys::{heap, role_of};
-use scenario::{RoleWord, ScenarioReason, of_line};
+use scenario::keys::{entry_role, heap};
+use scenario::{RoleWord, ScenarioReason, reason_of_line};
 use scenario_lines::{ProgramRole, read_line};
 use scenario_toml::items_at;
 use toml::Value;
@@ -32,8 +32,8 @@ pub(crate) fn say_program(
     out: &mut Bytes,
     site: &Site<'_>,
     reason: ScenarioReason,
-) -> Said<'static> {
-    let role = match role_of(site.entry) {
+) -> DiagnosedPart<'static> {
+    let role = match entry_role(site.entry) {
         Some(RoleWord::Client) => ProgramRole::Client,
         Some(RoleWord::Server) => ProgramRole::Server,
         _ => return Ok(None),
@@ -48,13 +48,13 @@ fn say_lines(
     heap: u32,
     lines: &[Value],
     reason: ScenarioReason,
-) -> Said<'static> {
+) -> DiagnosedPart<'static> {
     let mut number = 0u64;
     for item in lines {
         let line = text_of(item);
         number = number.saturating_add(1);
         if is_against(role, heap, line, reason) {
-            let line = Part::Line(number, line);
+            let line = Phrase::Line(number, line);
             let words = line_words(role, heap, reason);
             return say_in(out, "program", number, &[line, words[0], words[1]]);
         }
@@ -66,35 +66,42 @@ fn say_lines(
 fn is_against(role: ProgramRole, heap: u32, line: &[u8], reason: ScenarioReason) -> bool {
     match read_line(role, heap, line) {
         Ok(_) => false,
-        Err(why) => of_line(why).order() == reason.order(),
+        Err(why) => reason_of_line(why).order() == reason.order(),
     }
 }
 
 // The text of a reason about a line.
-fn line_words(role: ProgramRole, heap: u32, reason: ScenarioReason) -> [Part<'static>; 2] {
+fn line_words(role: ProgramRole, heap: u32, reason: ScenarioReason) -> [Phrase<'static>; 2] {
     match (reason, role) {
-        (ScenarioReason::Number, _) => [Part::Text(RANGES), Part::Text("")],
+        (ScenarioReason::Number, _) => [Phrase::Text(RANGES), Phrase::Text("")],
         (ScenarioReason::Place, _) => {
             let most = u64::from(heap).saturating_sub(1);
-            [Part::Text("a place of its heap is "), Part::Range(1, most)]
+            [
+                Phrase::Text("a place of its heap is "),
+                Phrase::Range(1, most),
+            ]
         }
-        (_, ProgramRole::Client) => [Part::Text(CLIENT_FORMS), Part::Text("")],
-        (_, ProgramRole::Server) => [Part::Text(SERVER_FORMS), Part::Text("")],
+        (_, ProgramRole::Client) => [Phrase::Text(CLIENT_FORMS), Phrase::Text("")],
+        (_, ProgramRole::Server) => [Phrase::Text(SERVER_FORMS), Phrase::Text("")],
     }
 }
 
 // Appends the text of a reason, if it is about all lines.
-fn say_whole(out: &mut Bytes, role: ProgramRole, reason: ScenarioReason) -> Said<'static> {
+fn say_whole(out: &mut Bytes, role: ProgramRole, reason: ScenarioReason) -> DiagnosedPart<'static> {
     let most = match role {
         ProgramRole::Client => MAX_STORES,
         ProgramRole::Server => MAX_REQUEST_STORES,
     };
     match reason {
         ScenarioReason::Number => {
-            let parts = [Part::Text(STORES), Part::Number(most), Part::Text(COUNTED)];
+            let parts = [
+                Phrase::Text(STORES),
+                Phrase::Number(most),
+                Phrase::Text(COUNTED),
+            ];
             say_at(out, "program", &parts)
         }
-        ScenarioReason::Word => say_at(out, "program", &[Part::Text(LAST)]),
+        ScenarioReason::Word => say_at(out, "program", &[Phrase::Text(LAST)]),
         _ => Ok(None),
     }
 }

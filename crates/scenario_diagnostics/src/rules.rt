@@ -3,15 +3,15 @@
 ghost use Rattle.mrpc_table.specs.Valid.{IsValid};
 
 use crate::declared::marks_of;
-use crate::site::{Said, Site, Spot, say_in, text_of};
-use crate::{Part, say, words_for};
-use diagnostics::Row;
+use crate::site::{DiagnosedPart, EntryPart, Site, say_in, text_of};
+use crate::{Phrase, append_phrases, words_for};
+use diagnostics::WordText;
 use mrpc_table::{Bytes, Lines, Memory, RuleFault, Table as Schema};
 use policy_access::read_access;
 use policy_redact::read_redact;
-use scenario::keys::kind_of;
-use scenario::{Kind, ScenarioReason, of_rule, table_in};
-use scenario_toml::{items_at, word_at};
+use scenario::keys::entry_kind;
+use scenario::{PolicyKind, ScenarioReason, reason_of_policy_line, table_in};
+use scenario_toml::{items_at, text_or_empty};
 use std::alloc::Global;
 use toml::{Table, Value};
 
@@ -28,8 +28,8 @@ pub(crate) fn say_rules(
     out: &mut Bytes,
     site: &Site<'_>,
     reason: ScenarioReason,
-) -> Said<'static> {
-    match table_in(alloc, word_at(site.all, "schema"))? {
+) -> DiagnosedPart<'static> {
+    match table_in(alloc, text_or_empty(site.all, "schema"))? {
         None => Ok(None),
         Some(table) => say_under(alloc, out, &table, site.entry, &[], reason),
     }
@@ -42,8 +42,8 @@ pub(crate) fn say_own_rules(
     site: &Site<'_>,
     app: &Table,
     reason: ScenarioReason,
-) -> Said<'static> {
-    match table_in(alloc, word_at(app, "schema"))? {
+) -> DiagnosedPart<'static> {
+    match table_in(alloc, text_or_empty(app, "schema"))? {
         None => Ok(None),
         Some(table) => say_named(alloc, out, &table, site, reason),
     }
@@ -55,7 +55,7 @@ fn say_named(
     table: &Schema,
     site: &Site<'_>,
     reason: ScenarioReason,
-) -> Said<'static>
+) -> DiagnosedPart<'static>
     requires { IsValid table.now }
 {
     let marks = marks_of(alloc, site)?;
@@ -76,7 +76,7 @@ fn say_marked(
     policies: &[Value],
     marks: &[bool],
     reason: ScenarioReason,
-) -> Said<'static>
+) -> DiagnosedPart<'static>
     requires { IsValid table.now }
 {
     let mut place = 0usize;
@@ -97,19 +97,19 @@ fn say_own(
     table: &Schema,
     item: &Value,
     reason: ScenarioReason,
-) -> Said<'static>
+) -> DiagnosedPart<'static>
     requires { IsValid table.now }
 {
     let Some(policy) = item.as_table() else {
         return Ok(None);
     };
     let front = [
-        Part::Text(": under the app's own schema, policy "),
-        Part::Quoted(word_at(policy, "name")),
+        Phrase::Text(": under the app's own schema, policy "),
+        Phrase::Quoted(text_or_empty(policy, "name")),
     ];
     match say_under(alloc, out, table, policy, &front, reason)? {
         None => Ok(None),
-        Some(_) => Ok(Some(Spot {
+        Some(_) => Ok(Some(EntryPart {
             key: "schema",
             line: 0,
         })),
@@ -122,14 +122,14 @@ fn say_under(
     out: &mut Bytes,
     table: &Schema,
     entry: &Table,
-    front: &[Part<'_>],
+    front: &[Phrase<'_>],
     reason: ScenarioReason,
-) -> Said<'static>
+) -> DiagnosedPart<'static>
     requires { IsValid table.now }
 {
-    let are_rules = match kind_of(entry) {
-        Some(Kind::Access) => true,
-        Some(Kind::Redact) => false,
+    let are_rules = match entry_kind(entry) {
+        Some(PolicyKind::Access) => true,
+        Some(PolicyKind::Redact) => false,
         _ => return Ok(None),
     };
     let key = if are_rules { "rules" } else { "clears" };
@@ -156,7 +156,7 @@ fn fault_in(
         None => Ok(None),
         Some(RuleFault::At { line, reason }) => Ok(Some(LineFault {
             line,
-            reason: of_rule(reason),
+            reason: reason_of_policy_line(reason),
         })),
         Some(RuleFault::Memory) => Err(Memory),
     }
@@ -179,16 +179,16 @@ fn copy_all(alloc: Global, texts: &[Value], lines: &mut Lines) -> Result<(), Mem
 // Appends the line at fault and its fault, if that has this reason.
 fn say_against(
     out: &mut Bytes,
-    front: &[Part<'_>],
+    front: &[Phrase<'_>],
     key: &'static str,
     lines: &Lines,
     fault: Option<LineFault>,
     reason: ScenarioReason,
-) -> Said<'static> {
+) -> DiagnosedPart<'static> {
     match fault {
         Some(fault) if fault.reason.order() == reason.order() => {
-            say(out, front)?;
-            let words = Part::Text(rule_words(key, reason));
+            append_phrases(out, front)?;
+            let words = Phrase::Text(rule_words(key, reason));
             say_in(out, key, fault.line, &[line_of(lines, fault.line), words])
         }
         _ => Ok(None),
@@ -196,10 +196,10 @@ fn say_against(
 }
 
 // The line with this number; past the last line, the words for a missing one.
-fn line_of(lines: &Lines, number: u64) -> Part<'_> {
+fn line_of(lines: &Lines, number: u64) -> Phrase<'_> {
     match lines.as_slice().get(number.saturating_sub(1) as usize) {
-        Some(line) => Part::Line(number, line.as_slice()),
-        None => Part::Text(": its lines end, and one is missing: "),
+        Some(line) => Phrase::Line(number, line.as_slice()),
+        None => Phrase::Text(": its lines end, and one is missing: "),
     }
 }
 
@@ -209,7 +209,7 @@ const RULE: &str =
 
 const CLEAR: &str = "expected \"clear method INDEX [reply] PATH\", 1 to 64 times";
 
-const RULES: [Row; 5] = [
+const RULES: [WordText; 5] = [
     (
         "Number",
         "an index is above 65535, or a value is out of the range of its kind",

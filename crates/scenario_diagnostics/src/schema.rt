@@ -1,11 +1,11 @@
 //! Schemas that have no table.
 
-use crate::Part;
-use crate::site::{Said, say_at};
+use crate::Phrase;
+use crate::site::{DiagnosedPart, say_at};
 use mrpc_table::{Bytes, Memory};
 use proto_grammar::ProtoFault;
 use proto_schema::{alone_is_ordered, read_proto};
-use scenario_toml::word_at;
+use scenario_toml::text_or_empty;
 use schema_resolve::{ResolveFault, resolve};
 use std::alloc::Global;
 use toml::Table;
@@ -23,18 +23,18 @@ struct SchemaFault {
 const MORE: &str = ", of which \"mrpc check\" says more where the schema is a file";
 
 // Appends on which line the schema of an entry is at fault.
-pub(crate) fn say_schema(alloc: Global, out: &mut Bytes, entry: &Table) -> Said<'static> {
-    match fault_of(alloc, word_at(entry, "schema"))? {
+pub(crate) fn say_schema(alloc: Global, out: &mut Bytes, entry: &Table) -> DiagnosedPart<'static> {
+    match fault_of(alloc, text_or_empty(entry, "schema"))? {
         None => Ok(None),
         Some(fault) => say_at(
             out,
             "schema",
             &[
-                Part::Text(": line "),
-                Part::Number(fault.line),
-                Part::Text(" of its schema has the fault "),
-                Part::Text(fault.word),
-                Part::Text(MORE),
+                Phrase::Text(": line "),
+                Phrase::Number(fault.line),
+                Phrase::Text(" of its schema has the fault "),
+                Phrase::Text(fault.word),
+                Phrase::Text(MORE),
             ],
         ),
     }

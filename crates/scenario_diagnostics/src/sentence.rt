@@ -5,14 +5,14 @@ use crate::keys::say_key;
 use crate::links::say_pair;
 use crate::names::{say_known, say_name, say_unknown};
 use crate::numbers::say_number;
+use crate::operator_lines::{say_chain, say_rejected, say_step, say_step_rules, say_unknown_step};
 use crate::program::say_program;
 use crate::rules::{say_own_rules, say_rules};
 use crate::schema::say_schema;
-use crate::site::{Said, Site, Spot};
-use crate::steps::{say_chain, say_refused, say_step, say_step_rules, say_unknown_step};
-use crate::{Part, say};
+use crate::site::{DiagnosedPart, EntryPart, Site};
+use crate::{Phrase, append_phrases};
 use mrpc_table::{Bytes, Memory};
-use scenario::{Entry, ScenarioReason};
+use scenario::{FaultyEntry, ScenarioReason};
 use std::alloc::Global;
 
 // Appends the text for a reason at an entry, and returns the part of the entry that it is about.
@@ -21,15 +21,15 @@ pub(crate) fn say_reason<'a>(
     out: &mut Bytes,
     site: &Site<'a>,
     reason: ScenarioReason,
-) -> Result<Spot<'a>, Memory> {
+) -> Result<EntryPart<'a>, Memory> {
     if let Some(spot) = say_of_keys(alloc, out, site, reason)? {
         return Ok(spot);
     }
     if let Some(spot) = say_of_lines(alloc, out, site, reason)? {
         return Ok(spot);
     }
-    say(out, &[Part::Text(general_words(reason))])?;
-    Ok(Spot { key: "", line: 0 })
+    append_phrases(out, &[Phrase::Text(general_words(reason))])?;
+    Ok(EntryPart { key: "", line: 0 })
 }
 
 // Appends what is wrong with the value at one key of an entry, except lines.
@@ -38,7 +38,7 @@ fn say_of_keys<'a>(
     out: &mut Bytes,
     site: &Site<'a>,
     reason: ScenarioReason,
-) -> Said<'a> {
+) -> DiagnosedPart<'a> {
     match reason {
         ScenarioReason::Key => say_key(out, site),
         ScenarioReason::Number => say_number(out, site),
@@ -57,11 +57,11 @@ fn say_of_lines(
     out: &mut Bytes,
     site: &Site<'_>,
     reason: ScenarioReason,
-) -> Said<'static> {
+) -> DiagnosedPart<'static> {
     match site.at {
-        Entry::Policy(_) => say_rules(alloc, out, site, reason),
-        Entry::App(_) => say_of_app(alloc, out, site, reason),
-        Entry::Operator(_) => say_of_operator(alloc, out, site, reason),
+        FaultyEntry::Policy(_) => say_rules(alloc, out, site, reason),
+        FaultyEntry::App(_) => say_of_app(alloc, out, site, reason),
+        FaultyEntry::Operator(_) => say_of_operator(alloc, out, site, reason),
         _ => Ok(None),
     }
 }
@@ -72,7 +72,7 @@ fn say_of_app(
     out: &mut Bytes,
     site: &Site<'_>,
     reason: ScenarioReason,
-) -> Said<'static> {
+) -> DiagnosedPart<'static> {
     if let Some(spot) = say_own_rules(alloc, out, site, site.entry, reason)? {
         return Ok(Some(spot));
     }
@@ -88,7 +88,7 @@ fn say_of_operator(
     out: &mut Bytes,
     site: &Site<'_>,
     reason: ScenarioReason,
-) -> Said<'static> {
+) -> DiagnosedPart<'static> {
     if let Some(spot) = say_step(out, site.entry, reason)? {
         return Ok(Some(spot));
     }
@@ -98,7 +98,7 @@ fn say_of_operator(
         | ScenarioReason::Taken
         | ScenarioReason::At
         | ScenarioReason::ChainFull
-        | ScenarioReason::OtherKind => say_refused(alloc, out, site, reason),
+        | ScenarioReason::OtherKind => say_rejected(alloc, out, site, reason),
         _ => say_step_rules(alloc, out, site, reason),
     }
 }

@@ -1,8 +1,8 @@
 //! Where in the table of a scenario a fault is, and its text there.
 
-use crate::{Part, list_of, say};
+use crate::{Phrase, append_phrases, list_of};
 use mrpc_table::{Bytes, Memory};
-use scenario::Entry;
+use scenario::FaultyEntry;
 use scenario::keys::conn;
 use scenario_toml::{items_at, text_at};
 use toml::{Table, Value};
@@ -13,14 +13,14 @@ pub(crate) struct Site<'a> {
     // The whole scenario.
     pub all: &'a Table,
     // Which entry it is.
-    pub at: Entry,
+    pub at: FaultyEntry,
     // Its table; for the whole scenario the same as `all`.
     pub entry: &'a Table,
 }
 
 // A part of an entry.
 #[derive(Clone, Copy)]
-pub(crate) struct Spot<'a> {
+pub(crate) struct EntryPart<'a> {
     // The key whose value is at fault; empty if there is none.
     pub key: &'a str,
     // The number of a line in the list there, from 1; 0 if there is none.
@@ -28,25 +28,30 @@ pub(crate) struct Spot<'a> {
 }
 
 // The part of a site that a text was appended for; `None` if nothing was appended.
-pub(crate) type Said<'a> = Result<Option<Spot<'a>>, Memory>;
+pub(crate) type DiagnosedPart<'a> = Result<Option<EntryPart<'a>>, Memory>;
 
 // Appends these parts for the value at a key, or for the entry itself if the key is empty.
-pub(crate) fn say_at<'a>(out: &mut Bytes, key: &'a str, parts: &[Part<'_>]) -> Said<'a> {
+pub(crate) fn say_at<'a>(out: &mut Bytes, key: &'a str, parts: &[Phrase<'_>]) -> DiagnosedPart<'a> {
     say_in(out, key, 0, parts)
 }
 
 // Appends these parts for the line with this number in the list at a key.
-pub(crate) fn say_in<'a>(out: &mut Bytes, key: &'a str, line: u64, parts: &[Part<'_>]) -> Said<'a> {
-    match say(out, parts) {
-        Ok(()) => Ok(Some(Spot { key, line })),
+pub(crate) fn say_in<'a>(
+    out: &mut Bytes,
+    key: &'a str,
+    line: u64,
+    parts: &[Phrase<'_>],
+) -> DiagnosedPart<'a> {
+    match append_phrases(out, parts) {
+        Ok(()) => Ok(Some(EntryPart { key, line })),
         Err(fault) => Err(fault),
     }
 }
 
 impl<'a> Site<'a> {
     // The entry of a scenario; `None` if the scenario doesn't have it.
-    pub(crate) fn of(all: &'a Table, at: Entry) -> Option<Site<'a>> {
-        let entry = if let Entry::Top = at {
+    pub(crate) fn of(all: &'a Table, at: FaultyEntry) -> Option<Site<'a>> {
+        let entry = if let FaultyEntry::Top = at {
             all
         } else {
             entry_at(items_at(all, list_of(at)), at.number())?

@@ -1,19 +1,19 @@
 //! Values of another type than their key takes.
 
-use crate::Part;
-use crate::forms::Takes;
-use crate::site::{Said, say_at};
+use crate::Phrase;
+use crate::forms::ValueForm;
+use crate::site::{DiagnosedPart, say_at};
 use mrpc_table::Bytes;
 use toml::Value;
 
 // Whether a value has the type that a key takes.
-pub(crate) fn fits(takes: Takes, value: &Value) -> bool {
+pub(crate) fn fits(takes: ValueForm, value: &Value) -> bool {
     match takes {
-        Takes::Text => value.is_str(),
-        Takes::Number(_, _) => value.is_integer(),
-        Takes::Flag => value.is_bool(),
-        Takes::Texts => holds_all(value, false),
-        Takes::Tables => holds_all(value, true),
+        ValueForm::Text => value.is_str(),
+        ValueForm::Number(_, _) => value.is_integer(),
+        ValueForm::Flag => value.is_bool(),
+        ValueForm::Texts => holds_all(value, false),
+        ValueForm::Tables => holds_all(value, true),
     }
 }
 
@@ -39,29 +39,29 @@ fn holds_all(value: &Value, tables: bool) -> bool {
 pub(crate) fn say_type<'a>(
     out: &mut Bytes,
     name: &'a str,
-    takes: Takes,
+    takes: ValueForm,
     value: &Value,
-) -> Said<'a> {
+) -> DiagnosedPart<'a> {
     say_at(
         out,
         name,
         &[
-            Part::Text(": "),
-            Part::Quoted(name.as_bytes()),
-            Part::Text(" has a value of type "),
-            Part::Text(value.type_str()),
-            Part::Text(", and takes "),
-            Part::Text(type_words(takes)),
+            Phrase::Text(": "),
+            Phrase::Quoted(name.as_bytes()),
+            Phrase::Text(" has a value of type "),
+            Phrase::Text(value.type_str()),
+            Phrase::Text(", and takes "),
+            Phrase::Text(type_words(takes)),
         ],
     )
 }
 
-fn type_words(takes: Takes) -> &'static str {
+fn type_words(takes: ValueForm) -> &'static str {
     match takes {
-        Takes::Text => "a string",
-        Takes::Number(_, _) => "an integer",
-        Takes::Flag => "true or false",
-        Takes::Texts => "an array of strings",
-        Takes::Tables => "an array of tables",
+        ValueForm::Text => "a string",
+        ValueForm::Number(_, _) => "an integer",
+        ValueForm::Flag => "true or false",
+        ValueForm::Texts => "an array of strings",
+        ValueForm::Tables => "an array of tables",
     }
 }

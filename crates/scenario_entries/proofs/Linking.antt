@@ -11,12 +11,12 @@ use Rattle.std.proofs.lemmas.Option.{same_Some, slice_get_read}
 use Rattle.mrpc_table.specs.Lines.{in_64_bits}
 use Rattle.mrpc_table.specs.Valid.{AreDistinct}
 use Rattle.mrpc_table.specs.declared.words.Decimal.TheVariants.{Small, Large}
-use Rattle.engine_core.specs.Chains.{Chain, Entry, IsAgainst, IsChain, Refusal, names_of, new_entry, order_of, upgraded}
+use Rattle.engine_core.specs.Chains.{Chain, Entry, IsReasonToReject, IsChain, Refusal, names_of, new_entry, refusal_rank, upgraded}
 use Rattle.engine_core.specs.Chains as chains
 use Rattle.engine_core.specs.Policies.{is_same_kind}
 use Rattle.engine_core.specs.declared.op.Op.TheVariants as op
 use Rattle.engine_core.specs.declared.policy.Policy.{Policy}
-use Rattle.scenario_entries.specs.Linking.{IsChanged, IsKept, kept_of}
+use Rattle.scenario_entries.specs.ChainEntries.{IsChangeOrRefusal, AreEntriesOf, outline_policies}
 use Rattle.scenario_entries.specs.declared.chain.ChainEntry.{ChainEntry}
 use Rattle.scenario.specs.declared.fault.ScenarioReason.TheVariants as reason
 use Rattle.scenario_entries.proofs.Lists.{position_map, there_cases, there_first, there_more}
@@ -99,17 +99,17 @@ pub none_from : (o : Option ℕ) → is_some o ≡ false → o ≡ None
 none_from None e = refl
 none_from (Some n) e = absurd cc
 
-least : (r : Refusal) → order_of r < 1 → ⊥
+least : (r : Refusal) → refusal_rank r < 1 → ⊥
 least (chains.no_such n) h = absurd (omega (arith, h))
 least (chains.taken n) h = absurd (omega (arith, h))
 least (chains.no_place n) h = absurd (omega (arith, h))
 least (chains.full n) h = absurd (omega (arith, h))
 least (chains.other_kind n) h = absurd (omega (arith, h))
 
-later : (r q : Refusal) (n : ℕ) → r ≡ q → order_of r < n → n ≤ order_of q → ⊥
-later r q n is less most = let e = ap order_of is in absurd (omega (arith, e, less, most))
+later : (r q : Refusal) (n : ℕ) → r ≡ q → refusal_rank r < n → n ≤ refusal_rank q → ⊥
+later r q n is less most = let e = ap refusal_rank is in absurd (omega (arith, e, less, most))
 
-module _ (entries : List ChainEntry) (c : Chain) (kept : IsKept entries c) where
+module _ (entries : List ChainEntry) (c : Chain) (kept : AreEntriesOf entries c) where
   place_same : (n : List ℕ) → position (λ e. bytes_eq e.name n) c.entries ≡ position (λ e. bytes_eq e.name.now n) entries
   place_same n =
       position_map (λ (e : Entry). (e.name, e.policy)) (λ k. bytes_eq k.0 n) c.entries
@@ -139,7 +139,7 @@ module _ (entries : List ChainEntry) (c : Chain) (kept : IsKept entries c) where
   -- ---- detaching
 
   pub detach_refused : (n : List ℕ) → position (λ e. bytes_eq e.name.now n) entries ≡ None
-      → IsChanged c (op.Detach n) entries (Some reason.NoSuch)
+      → IsChangeOrRefusal c (op.Detach n) entries (Some reason.NoSuch)
   detach_refused n none = (
     chains.no_such n,
     record {
@@ -149,7 +149,7 @@ module _ (entries : List ChainEntry) (c : Chain) (kept : IsKept entries c) where
     refl,
   )
 
-  detach_free : (n : List ℕ) (r : Refusal) → Contains (names_of c.entries) n → IsAgainst c.entries (op.Detach n) r → ⊥
+  detach_free : (n : List ℕ) (r : Refusal) → Contains (names_of c.entries) n → IsReasonToReject c.entries (op.Detach n) r → ⊥
   detach_free n r there (chains.detaches_none m is none why) =
       let same : n ≡ m = cc in none (subst (λ (x : List ℕ). Contains (names_of c.entries) x) same there)
   detach_free n r there (chains.upgrades_none m label p is none why) = absurd cc
@@ -159,19 +159,19 @@ module _ (entries : List ChainEntry) (c : Chain) (kept : IsKept entries c) where
   detach_free n r there (chains.is_other m label p e is h named kind why) = absurd cc
 
   pub detached : (n : List ℕ) (i : ℕ) → position (λ e. bytes_eq e.name.now n) entries ≡ Some i
-      → IsChanged c (op.Detach n) (remove entries i) None
+      → IsChangeOrRefusal c (op.Detach n) (remove entries i) None
   detached n i some =
       let at = found n i some in
       let there = has n (ap is_some some) in (
         record { entries = remove c.entries i; attached = c.attached },
         record {
           free = λ r against. detach_free n r there against;
-          makes = chains.detaches n at.item (take i c.entries) (drop (suc i) c.entries) refl (split_at c.entries i at.item at.at) at.same refl;
+          effect = chains.detaches n at.item (take i c.entries) (drop (suc i) c.entries) refl (split_at c.entries i at.item at.at) at.same refl;
         },
         kept_without i,
       )
     where
-      kept_without : (i : ℕ) → kept_of (remove entries i) ≡ map (λ (e : Entry). (e.name, e.policy)) (remove c.entries i)
+      kept_without : (i : ℕ) → outline_policies (remove entries i) ≡ map (λ (e : Entry). (e.name, e.policy)) (remove c.entries i)
       kept_without i =
           map_two (λ (e : ChainEntry). (e.name.now, e.policy.now)) i (suc i) entries
           ∙ ap (λ (ks : List (List ℕ × Policy)). take i ks ++ drop (suc i) ks) kept
@@ -180,7 +180,7 @@ module _ (entries : List ChainEntry) (c : Chain) (kept : IsKept entries c) where
   -- ---- attaching
 
   pub attach_taken : (at : ℕ) (n label : List ℕ) (p : Policy) → is_some (position (λ e. bytes_eq e.name.now n) entries) ≡ true
-      → IsChanged c (op.Attach at n label p) entries (Some reason.Taken)
+      → IsChangeOrRefusal c (op.Attach at n label p) entries (Some reason.Taken)
   attach_taken at n label p some = (
     chains.taken n,
     record {
@@ -198,7 +198,7 @@ module _ (entries : List ChainEntry) (c : Chain) (kept : IsKept entries c) where
   )
 
   pub attach_past : (at : ℕ) (n label : List ℕ) (p : Policy) → position (λ e. bytes_eq e.name.now n) entries ≡ None → length entries < at
-      → IsChanged c (op.Attach at n label p) entries (Some reason.At)
+      → IsChangeOrRefusal c (op.Attach at n label p) entries (Some reason.At)
   attach_past at n label p none past = (
     chains.no_place at,
     record {
@@ -216,7 +216,7 @@ module _ (entries : List ChainEntry) (c : Chain) (kept : IsKept entries c) where
   )
 
   attach_free : (at : ℕ) (n label : List ℕ) (p : Policy) (r : Refusal) → (Contains (names_of c.entries) n → ⊥) → at ≤ length c.entries
-      → length c.entries < 8 → IsAgainst c.entries (op.Attach at n label p) r → ⊥
+      → length c.entries < 8 → IsReasonToReject c.entries (op.Attach at n label p) r → ⊥
   attach_free at n label p r none within few (chains.detaches_none m is h why) = absurd cc
   attach_free at n label p r none within few (chains.upgrades_none m l q is h why) = absurd cc
   attach_free at n label p r none within few (chains.is_taken a m l q is h why) =
@@ -226,7 +226,7 @@ module _ (entries : List ChainEntry) (c : Chain) (kept : IsKept entries c) where
   attach_free at n label p r none within few (chains.is_other m l q e is h named kind why) = absurd cc
 
   pub attach_full : (at : ℕ) (n label : List ℕ) (p : Policy) → position (λ e. bytes_eq e.name.now n) entries ≡ None → at ≤ length entries
-      → 8 ≤ length entries → IsChanged c (op.Attach at n label p) entries (Some reason.ChainFull)
+      → 8 ≤ length entries → IsChangeOrRefusal c (op.Attach at n label p) entries (Some reason.ChainFull)
   attach_full at n label p none within many = (
     chains.full (length c.entries),
     record {
@@ -245,15 +245,15 @@ module _ (entries : List ChainEntry) (c : Chain) (kept : IsKept entries c) where
 
   pub attached : (at : ℕ) (n label : List ℕ) (p : Policy) (e : ChainEntry) → e.name.now ≡ n → e.policy.now ≡ p
       → position (λ e. bytes_eq e.name.now n) entries ≡ None → at ≤ length entries → length entries < 8
-      → IsChanged c (op.Attach at n label p) (insert entries at e) None
+      → IsChangeOrRefusal c (op.Attach at n label p) (insert entries at e) None
   attached at n label p e name policy none within few = (
     record { entries = take at c.entries ++ new_entry n (c.attached + 1) p ∷ drop at c.entries; attached = c.attached + 1 },
     record {
       free = λ r against. attach_free at n label p r (lacks n none) (omega (arith, within, count_same)) (omega (arith, few, count_same)) against;
-      makes = chains.attaches at n label p (take at c.entries) (drop at c.entries) refl (sym (take-append-drop at c.entries))
+      effect = chains.attaches at n label p (take at c.entries) (drop at c.entries) refl (sym (take-append-drop at c.entries))
           (length-take-le at c.entries (omega (arith, within, count_same))) refl;
     },
-    map_three (λ (x : ChainEntry). (x.name.now, x.policy.now)) at at entries e ∙ ap (λ (k : List ℕ × Policy). take at (kept_of entries) ++ k ∷ drop at (kept_of entries)) pair
+    map_three (λ (x : ChainEntry). (x.name.now, x.policy.now)) at at entries e ∙ ap (λ (k : List ℕ × Policy). take at (outline_policies entries) ++ k ∷ drop at (outline_policies entries)) pair
         ∙ ap (λ (ks : List (List ℕ × Policy)). take at ks ++ (n, p) ∷ drop at ks) kept
         ∙ sym (map_three (λ (x : Entry). (x.name, x.policy)) at at c.entries (new_entry n (c.attached + 1) p)),
   )
@@ -264,7 +264,7 @@ module _ (entries : List ChainEntry) (c : Chain) (kept : IsKept entries c) where
   -- ---- upgrading
 
   pub upgrade_refused : (n label : List ℕ) (p : Policy) → position (λ e. bytes_eq e.name.now n) entries ≡ None
-      → IsChanged c (op.Upgrade n label p) entries (Some reason.NoSuch)
+      → IsChangeOrRefusal c (op.Upgrade n label p) entries (Some reason.NoSuch)
   upgrade_refused n label p none = (
     chains.no_such n,
     record {
@@ -284,7 +284,7 @@ module _ (entries : List ChainEntry) (c : Chain) (kept : IsKept entries c) where
 
   pub upgrade_other : (n label : List ℕ) (p : Policy) (i : ℕ) (e : ChainEntry) → position (λ e. bytes_eq e.name.now n) entries ≡ Some i
       → slice_get entries i ≡ Some e → is_same_kind e.policy.now p ≡ false
-      → IsChanged c (op.Upgrade n label p) entries (Some reason.OtherKind)
+      → IsChangeOrRefusal c (op.Upgrade n label p) entries (Some reason.OtherKind)
   upgrade_other n label p i e some at other_kind =
       let here = found n i some in
       let there = has n (ap is_some some) in (
@@ -305,7 +305,7 @@ module _ (entries : List ChainEntry) (c : Chain) (kept : IsKept entries c) where
       )
 
   upgrade_free : IsChain c → (n label : List ℕ) (p : Policy) (item : Entry) (r : Refusal) → Contains c.entries item → item.name ≡ n
-      → is_same_kind item.policy p ≡ true → IsAgainst c.entries (op.Upgrade n label p) r → ⊥
+      → is_same_kind item.policy p ≡ true → IsReasonToReject c.entries (op.Upgrade n label p) r → ⊥
   upgrade_free sound n label p item r there named kind (chains.detaches_none m is h why) = absurd cc
   upgrade_free sound n label p item r there named kind (chains.upgrades_none m l q is none why) =
       let same : n ≡ m = cc in
@@ -321,14 +321,14 @@ module _ (entries : List ChainEntry) (c : Chain) (kept : IsKept entries c) where
 
   pub upgraded_to : IsChain c → (n label : List ℕ) (p : Policy) (i : ℕ) (e f : ChainEntry) → position (λ e. bytes_eq e.name.now n) entries ≡ Some i
       → slice_get entries i ≡ Some e → is_same_kind e.policy.now p ≡ true → f.name.now ≡ e.name.now → f.policy.now ≡ p
-      → IsChanged c (op.Upgrade n label p) (set entries i f) None
+      → IsChangeOrRefusal c (op.Upgrade n label p) (set entries i f) None
   upgraded_to sound n label p i e f some at kind name policy =
       let here = found n i some in
       let fits = ap (λ (q : Policy). is_same_kind q p) (sym (same_entry n i e some at)) ∙ kind in (
         record { entries = take i c.entries ++ upgraded here.item p ∷ drop (suc i) c.entries; attached = c.attached },
         record {
           free = λ r against. upgrade_free sound n label p here.item r (get_there c.entries i here.item here.at) here.same fits against;
-          makes = chains.upgrades n label p here.item (take i c.entries) (drop (suc i) c.entries) refl (split_at c.entries i here.item here.at) here.same refl;
+          effect = chains.upgrades n label p here.item (take i c.entries) (drop (suc i) c.entries) refl (split_at c.entries i here.item here.at) here.same refl;
         },
         kept_with here.item here.at,
       )
@@ -344,10 +344,10 @@ module _ (entries : List ChainEntry) (c : Chain) (kept : IsKept entries c) where
           ap (λ (x : List ℕ). (x, f.policy.now)) (name ∙ ap (λ (k : List ℕ × Policy). k.0) same) ∙ ap (λ (x : Policy). (item.name, x)) policy
 
       kept_with : (item : Entry) → slice_get c.entries i ≡ Some item
-          → kept_of (set entries i f) ≡ map (λ (x : Entry). (x.name, x.policy)) (take i c.entries ++ upgraded item p ∷ drop (suc i) c.entries)
+          → outline_policies (set entries i f) ≡ map (λ (x : Entry). (x.name, x.policy)) (take i c.entries ++ upgraded item p ∷ drop (suc i) c.entries)
       kept_with item there =
-          ap kept_of (set_split entries i f within)
+          ap outline_policies (set_split entries i f within)
           ∙ map_three (λ (x : ChainEntry). (x.name.now, x.policy.now)) i (suc i) entries f
-          ∙ ap (λ (k : List ℕ × Policy). take i (kept_of entries) ++ k ∷ drop (suc i) (kept_of entries)) (same_pair item there)
+          ∙ ap (λ (k : List ℕ × Policy). take i (outline_policies entries) ++ k ∷ drop (suc i) (outline_policies entries)) (same_pair item there)
           ∙ ap (λ (ks : List (List ℕ × Policy)). take i ks ++ (item.name, p) ∷ drop (suc i) ks) kept
           ∙ sym (map_three (λ (x : Entry). (x.name, x.policy)) i (suc i) c.entries (upgraded item p))

@@ -8,14 +8,14 @@ use Rattle.std.proofs.lemmas.Option.{same_Some}
 use Rattle.mrpc_table.specs.declared.policy_lines.RuleReason.{RuleReason}
 use Rattle.mrpc_table.specs.declared.table.Table.{Table}
 use Rattle.engine_core.specs.declared.policy.Policy.{Policy}
-use Rattle.policy_declarations.specs.Declarations.{Declared, policy_place}
-use Rattle.policy_declarations.specs.declared.item.NamedPolicy.{NamedPolicy}
+use Rattle.policy_declarations.specs.Declarations.{Declared, policy_index}
+use Rattle.policy_declarations.specs.declared.declaration.NamedPolicy.{NamedPolicy}
 use Rattle.toml.specs.Data.{Members}
-use Rattle.scenario.specs.Keys.{kind_of}
-use Rattle.scenario.specs.Policies.{KindSays, LinesFail}
-use Rattle.scenario.specs.declared.form.Kind.{Kind}
-use Rattle.scenario.specs.declared.form.Kind.TheVariants as kind
-use Rattle.scenario_entries.specs.Firsts.{IsLined, IsRuled}
+use Rattle.scenario.specs.Keys.{entry_kind}
+use Rattle.scenario.specs.Policies.{IsPolicyOfKind, HasFaultyLine}
+use Rattle.scenario.specs.declared.entry_words.PolicyKind.{PolicyKind}
+use Rattle.scenario.specs.declared.entry_words.PolicyKind.TheVariants as kind
+use Rattle.scenario_entries.specs.FirstReasons.{IsLinesMeaning, IsRuledResult}
 use Rattle.scenario_entries.specs.Marking.{AreMarked, IsNamedPolicy, IsReadAgain}
 use Rattle.scenario_entries.proofs.Declaring.{access_says, redact_says}
 use Rattle.scenario_entries.proofs.PolicyNaming as naming
@@ -49,24 +49,24 @@ set_here (x ∷ xs) zero within = refl
 set_here (x ∷ xs) (suc i) within = set_here xs i (omega (arith, within))
 
 module _ (d : Declared) where
-  pub place_within : (name : List ℕ) (place : ℕ) → policy_place d name ≡ Some place → place < length d.policies
+  pub place_within : (name : List ℕ) (place : ℕ) → policy_index d name ≡ Some place → place < length d.policies
   place_within name place e = (naming.place_is (λ (p : NamedPolicy). p.name) name d.policies place e).within
 
   module _ (names : List (List ℕ)) (name : List ℕ) (marks : List Bool) (so_far : AreMarked d names marks) where
     still_named : (place : ℕ) → IsNamedPolicy d names place → IsNamedPolicy d (names ++ name ∷ []) place
     still_named place h = (h.0, Contains-append_left names (name ∷ []) h.0 h.1, h.2)
 
-    pub marks_same : policy_place d name ≡ None → AreMarked d (names ++ name ∷ []) marks
+    pub marks_same : policy_index d name ≡ None → AreMarked d (names ++ name ∷ []) marks
     marks_same none = record {
       long = so_far.long;
       named = λ place e. still_named place (so_far.named place e);
       marked = λ place h. elim (Contains-push_cases names name h.0 h.1) [
         | inl before ↦ so_far.marked place (h.0, before, h.2)
-        | inr same ↦ absurd (let e : None ≡ Some place = sym none ∙ ap (policy_place d) same ∙ h.2 in cc)
+        | inr same ↦ absurd (let e : None ≡ Some place = sym none ∙ ap (policy_index d) same ∙ h.2 in cc)
       ];
     }
 
-    pub marks_more : (i : ℕ) → policy_place d name ≡ Some i → AreMarked d (names ++ name ∷ []) (set marks i true)
+    pub marks_more : (i : ℕ) → policy_index d name ≡ Some i → AreMarked d (names ++ name ∷ []) (set marks i true)
     marks_more i found = record {
       long = length-set marks i true ∙ so_far.long;
       named = λ place e. elim (set_true marks i place e) [
@@ -76,7 +76,7 @@ module _ (d : Declared) where
       marked = λ place h. elim (Contains-push_cases names name h.0 h.1) [
         | inl before ↦ set_kept marks i place (so_far.marked place (h.0, before, h.2))
         | inr same ↦
-            let is : i ≡ place = same_Some i place (sym found ∙ ap (policy_place d) same ∙ h.2) in
+            let is : i ≡ place = same_Some i place (sym found ∙ ap (policy_index d) same ∙ h.2) in
             let within : i < length marks = (let w = place_within name i found in let l = so_far.long in omega (arith, w, l)) in
             subst (λ (n : ℕ). slice_get (set marks i true) n ≡ Some true) is (set_here marks i within)
       ];
@@ -85,16 +85,16 @@ module _ (d : Declared) where
 -- ---- policies that are read again
 
 module _ (own : Table) (tenants : List Members) (ms : Members) where
-  ruled_again : (k : Kind) → kind_of ms ≡ Some k → ((p : Policy) → IsLined k own ms (Some p) → KindSays own tenants ms p)
-      → (r : Result Policy RuleReason) → IsRuled k own ms r → IsReadAgain own tenants ms r
-  ruled_again k is says (Ok p) h = (says p h.0, λ why fails. h.1 why (subst (λ (o : Option Kind). LinesFail o own ms why) is fails))
+  ruled_again : (k : PolicyKind) → entry_kind ms ≡ Some k → ((p : Policy) → IsLinesMeaning k own ms (Some p) → IsPolicyOfKind own tenants ms p)
+      → (r : Result Policy RuleReason) → IsRuledResult k own ms r → IsReadAgain own tenants ms r
+  ruled_again k is says (Ok p) h = (says p h.0, λ why fails. h.1 why (subst (λ (o : Option PolicyKind). HasFaultyLine o own ms why) is fails))
   ruled_again k is says (Err why) h = (
-    subst (λ (o : Option Kind). LinesFail o own ms why) (sym is) h.0,
-    λ other fails. h.1 other (subst (λ (o : Option Kind). LinesFail o own ms other) is fails),
+    subst (λ (o : Option PolicyKind). HasFaultyLine o own ms why) (sym is) h.0,
+    λ other fails. h.1 other (subst (λ (o : Option PolicyKind). HasFaultyLine o own ms other) is fails),
   )
 
-  pub access_again : kind_of ms ≡ Some kind.Access → (r : Result Policy RuleReason) → IsRuled kind.Access own ms r → IsReadAgain own tenants ms r
+  pub access_again : entry_kind ms ≡ Some kind.Access → (r : Result Policy RuleReason) → IsRuledResult kind.Access own ms r → IsReadAgain own tenants ms r
   access_again is = ruled_again kind.Access is (λ p h. access_says own tenants ms ⊥ (Some p) is h)
 
-  pub redact_again : kind_of ms ≡ Some kind.Redact → (r : Result Policy RuleReason) → IsRuled kind.Redact own ms r → IsReadAgain own tenants ms r
+  pub redact_again : entry_kind ms ≡ Some kind.Redact → (r : Result Policy RuleReason) → IsRuledResult kind.Redact own ms r → IsReadAgain own tenants ms r
   redact_again is = ruled_again kind.Redact is (λ p h. redact_says own tenants ms ⊥ (Some p) is h)

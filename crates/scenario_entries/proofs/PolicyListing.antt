@@ -8,8 +8,8 @@ use Rattle.std.proofs.lemmas.List.{drop_more, length-map, length-take-le, map-ap
 use Rattle.toml.specs.Data.{Members}
 use Rattle.toml.specs.View.{table_view}
 use Rattle.toml.specs.declared.value.Value.{Value}
-use Rattle.scenario_entries.specs.Entries.{AreFree, IsFirstEntry, views}
-use Rattle.scenario.specs.Reasons.{IsFirstReason}
+use Rattle.scenario_entries.specs.Entries.{AreFaultFree, IsFirstEntry, views}
+use Rattle.scenario.specs.Reasons.{IsFirstScenarioReason}
 use Rattle.scenario.specs.declared.fault.ScenarioReason.{ScenarioReason}
 use Rattle.scenario_entries.proofs.PolicyLists.{map_more, snoc_split}
 
@@ -18,18 +18,18 @@ module _ (Against : List Members → Members → ScenarioReason → Type 0) wher
   nothing_stands [] ms back e = absurd cc
   nothing_stands (b ∷ before) ms back e = absurd cc
 
-  pub free_none : AreFree Against []
+  pub free_none : AreFaultFree Against []
   free_none = λ before ms n q stands h. nothing_stands before ms stands.back stands.whole
 
-  pub free_push : (entries : List Members) (ms : Members) → AreFree Against entries → ((q : ScenarioReason) → Against entries ms q → ⊥)
-      → AreFree Against (entries ++ ms ∷ [])
+  pub free_push : (entries : List Members) (ms : Members) → AreFaultFree Against entries → ((q : ScenarioReason) → Against entries ms q → ⊥)
+      → AreFaultFree Against (entries ++ ms ∷ [])
   free_push entries ms free one = λ before other n q stands h. elim (snoc_split entries before ms other stands.back stands.whole) [
     | inl both ↦ one q (subst (λ (xs : List Members). Against xs ms q) both.0 (subst (λ (m : Members). Against before m q) both.1 h))
     | inr more ↦ free before other n q (record { back = more.0; whole = more.1; is_number = stands.is_number }) h
   ]
 
   pub first_at : (entries : List Members) (n : ℕ) (before : List Members) (ms : Members) (back : List Members) (q : ScenarioReason)
-      → entries ≡ before ++ ms ∷ back → n ≡ length before + 1 → AreFree Against before → IsFirstReason (Against before ms) q
+      → entries ≡ before ++ ms ∷ back → n ≡ length before + 1 → AreFaultFree Against before → IsFirstScenarioReason (Against before ms) q
       → IsFirstEntry Against entries n q
   first_at entries n before ms back q whole number free first = record {
     before = before;

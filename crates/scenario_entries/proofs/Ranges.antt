@@ -3,10 +3,10 @@ use Rattle.std.proofs.Common.{◌≡◌, true, false, List, [], ◌∷◌, Conta
 use Rattle.std.specs.List.{list_all}
 use Rattle.std.proofs.lemmas.Bool.{and_cases, and_parts, both_ways, cases_Bool, not-true, not_from_false}
 use Rattle.toml.specs.Data.{Members}
-use Rattle.scenario_toml.specs.Values.{TheRange, is_out, is_within_at}
+use Rattle.scenario_toml.specs.Values.{TheIntegerRange, is_out, is_within_at}
 use Rattle.scenario_entries.proofs.Lists.{none_in, there_cases, there_first, there_more}
 
-pub all_within : (ms : Members) (ranges : List TheRange) → list_all (is_within_at ms) ranges ≡ true → (r : TheRange) → Contains ranges r
+pub all_within : (ms : Members) (ranges : List TheIntegerRange) → list_all (is_within_at ms) ranges ≡ true → (r : TheIntegerRange) → Contains ranges r
     → is_out ms r ≡ true → ⊥
 all_within ms [] e r h out = none_in r h
 all_within ms (x ∷ xs) e r h out =
@@ -16,8 +16,8 @@ all_within ms (x ∷ xs) e r h out =
       | inr more ↦ all_within ms xs both.1 r more out
     ]
 
-pub one_out : (ms : Members) (ranges : List TheRange) → list_all (is_within_at ms) ranges ≡ false
-    → (r : TheRange) × Contains ranges r × (is_out ms r ≡ true)
+pub one_out : (ms : Members) (ranges : List TheIntegerRange) → list_all (is_within_at ms) ranges ≡ false
+    → (r : TheIntegerRange) × Contains ranges r × (is_out ms r ≡ true)
 one_out ms [] e = absurd cc
 one_out ms (x ∷ xs) e = elim (cases_Bool (is_out ms x)) [
   | inl out ↦ (x, there_first x xs, out)

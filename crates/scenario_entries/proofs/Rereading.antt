@@ -6,16 +6,16 @@ use Rattle.std.specs.Prelude.{slice_get}
 use Rattle.std.proofs.lemmas.List.{length-take-le, map-append, take_more}
 use Rattle.std.proofs.lemmas.List.Elements.{All-push, Contains-append_left, Contains-push, Contains-push_cases}
 use Rattle.std.proofs.lemmas.Option.{same_Some, slice_get_within}
-use Rattle.mrpc_table.specs.Valid.{Ascends}
+use Rattle.mrpc_table.specs.Valid.{IsAscendingBy}
 use Rattle.mrpc_table.specs.declared.policy_lines.RuleReason.{RuleReason}
 use Rattle.mrpc_table.specs.declared.table.Table.{Table}
 use Rattle.run_plan.specs.declared.application.OwnPolicy.{OwnPolicy}
 use Rattle.toml.specs.Data.{Members}
-use Rattle.scenario.specs.Keys.{kind_of}
-use Rattle.scenario.specs.Policies.{KindSays, LinesFail}
-use Rattle.scenario.specs.Reasons.{IsSoFar, earlier, of_rule, order_of}
+use Rattle.scenario.specs.Keys.{entry_kind}
+use Rattle.scenario.specs.Policies.{IsPolicyOfKind, HasFaultyLine}
+use Rattle.scenario.specs.Reasons.{IsSoFar, lower_ranked, reason_of_policy_line, scenario_reason_rank}
 use Rattle.scenario.specs.declared.fault.ScenarioReason.{ScenarioReason}
-use Rattle.scenario_entries.specs.Marking.{AreReadAgain, HasRead, IsReadAgain, MarkedFails}
+use Rattle.scenario_entries.specs.Marking.{AreReadAgain, HasReadMarked, IsReadAgain, HasMarkedFault}
 use Rattle.scenario_entries.proofs.FirstPolicyReason.{Either, joined, same_reasons}
 use Rattle.scenario_entries.proofs.PolicyLists.{none_in, there_cases, there_first, there_more}
 
@@ -37,13 +37,13 @@ push_here : (xs : List Bool) → slice_get (xs ++ true ∷ []) (length xs) ≡ S
 push_here [] = refl
 push_here (y ∷ ys) = push_here ys
 
-ascends_push : {X : Type 0} (R : X → X → Type 0) (xs : List X) (y : X) → Ascends R xs → ((x : X) → Contains xs x → R x y) → Ascends R (xs ++ y ∷ [])
+ascends_push : {X : Type 0} (R : X → X → Type 0) (xs : List X) (y : X) → IsAscendingBy R xs → ((x : X) → Contains xs x → R x y) → IsAscendingBy R (xs ++ y ∷ [])
 ascends_push R [] y a below = tt
 ascends_push R (x ∷ []) y a below = (below x (there_first x []), tt)
 ascends_push R (x ∷ z ∷ xs) y a below = (a.0, ascends_push R (z ∷ xs) y a.1 (λ w h. below w (there_more x (z ∷ xs) w h)))
 
 module _ (entries tenants : List Members) (own : Table) (marks : List Bool) where
-  moved : (x : Bool) (q : ScenarioReason) → MarkedFails entries own marks q → MarkedFails entries own (marks ++ x ∷ []) q
+  moved : (x : Bool) (q : ScenarioReason) → HasMarkedFault entries own marks q → HasMarkedFault entries own (marks ++ x ∷ []) q
   moved x q h = record {
     place = h.place;
     marked = push_kept marks x h.place h.marked;
@@ -56,31 +56,31 @@ module _ (entries tenants : List Members) (own : Table) (marks : List Bool) wher
 
   -- an index that isn't marked, or whose policy has no fault
   fine_more : (x : Bool) (f : Option ScenarioReason)
-      → ((entry : Members) (why : RuleReason) → x ≡ true → slice_get entries (length marks) ≡ Some entry → LinesFail (kind_of entry) own entry why → ⊥)
-      → IsSoFar (MarkedFails entries own marks) f → IsSoFar (MarkedFails entries own (marks ++ x ∷ [])) f
-  fine_more x f fine so_far = same_reasons (MarkedFails entries own marks) (MarkedFails entries own (marks ++ x ∷ [])) f so_far (moved x)
+      → ((entry : Members) (why : RuleReason) → x ≡ true → slice_get entries (length marks) ≡ Some entry → HasFaultyLine (entry_kind entry) own entry why → ⊥)
+      → IsSoFar (HasMarkedFault entries own marks) f → IsSoFar (HasMarkedFault entries own (marks ++ x ∷ [])) f
+  fine_more x f fine so_far = same_reasons (HasMarkedFault entries own marks) (HasMarkedFault entries own (marks ++ x ∷ [])) f so_far (moved x)
       (λ q h. elim (push_cases marks x h.place h.marked) [
         | inl both ↦ absurd (fine h.entry h.why both.1 (ap (slice_get entries) (sym both.0) ∙ h.there) h.fails)
         | inr there ↦ record { place = h.place; marked = there; entry = h.entry; there = h.there; why = h.why; fails = h.fails; is = h.is }
       ])
 
-  pub unmarked_more : (f : Option ScenarioReason) → IsSoFar (MarkedFails entries own marks) f → IsSoFar (MarkedFails entries own (marks ++ false ∷ [])) f
+  pub unmarked_more : (f : Option ScenarioReason) → IsSoFar (HasMarkedFault entries own marks) f → IsSoFar (HasMarkedFault entries own (marks ++ false ∷ [])) f
   unmarked_more f so_far = fine_more false f (λ entry why is at fails. absurd cc) so_far
 
   module _ (entry : Members) (at : slice_get entries (length marks) ≡ Some entry) where
-    pub said_more : (f : Option ScenarioReason) → ((why : RuleReason) → LinesFail (kind_of entry) own entry why → ⊥)
-        → IsSoFar (MarkedFails entries own marks) f → IsSoFar (MarkedFails entries own (marks ++ true ∷ [])) f
+    pub said_more : (f : Option ScenarioReason) → ((why : RuleReason) → HasFaultyLine (entry_kind entry) own entry why → ⊥)
+        → IsSoFar (HasMarkedFault entries own marks) f → IsSoFar (HasMarkedFault entries own (marks ++ true ∷ [])) f
     said_more f none so_far = fine_more true f
-        (λ other why is here fails. none why (subst (λ (m : Members). LinesFail (kind_of m) own m why) (same_Some other entry (sym here ∙ at)) fails)) so_far
+        (λ other why is here fails. none why (subst (λ (m : Members). HasFaultyLine (entry_kind m) own m why) (same_Some other entry (sym here ∙ at)) fails)) so_far
 
-    pub fails_more : (f : Option ScenarioReason) (why : RuleReason) → LinesFail (kind_of entry) own entry why
-        → ((other : RuleReason) → LinesFail (kind_of entry) own entry other → other ≡ why) → IsSoFar (MarkedFails entries own marks) f
-        → IsSoFar (MarkedFails entries own (marks ++ true ∷ [])) (earlier f (Some (of_rule why)))
+    pub fails_more : (f : Option ScenarioReason) (why : RuleReason) → HasFaultyLine (entry_kind entry) own entry why
+        → ((other : RuleReason) → HasFaultyLine (entry_kind entry) own entry other → other ≡ why) → IsSoFar (HasMarkedFault entries own marks) f
+        → IsSoFar (HasMarkedFault entries own (marks ++ true ∷ [])) (lower_ranked f (Some (reason_of_policy_line why)))
     fails_more f why fails one so_far =
-        let Here : ScenarioReason → Type 0 = λ q. q ≡ of_rule why in
-        let new : IsSoFar Here (Some (of_rule why)) = record { stands = refl; first = λ q is. (let e = ap order_of is in omega (arith, e)) } in
-        same_reasons (Either (MarkedFails entries own marks) Here) (MarkedFails entries own (marks ++ true ∷ [])) (earlier f (Some (of_rule why)))
-        (joined (MarkedFails entries own marks) Here f (Some (of_rule why)) so_far new)
+        let Here : ScenarioReason → Type 0 = λ q. q ≡ reason_of_policy_line why in
+        let new : IsSoFar Here (Some (reason_of_policy_line why)) = record { stands = refl; first = λ q is. (let e = ap scenario_reason_rank is in omega (arith, e)) } in
+        same_reasons (Either (HasMarkedFault entries own marks) Here) (HasMarkedFault entries own (marks ++ true ∷ [])) (lower_ranked f (Some (reason_of_policy_line why)))
+        (joined (HasMarkedFault entries own marks) Here f (Some (reason_of_policy_line why)) so_far new)
         (λ q h. elim h [
           | inl before ↦ moved true q before
           | inr is ↦ record { place = length marks; marked = push_here marks; entry = entry; there = at; why = why; fails = fails; is = is }
@@ -88,8 +88,8 @@ module _ (entries tenants : List Members) (own : Table) (marks : List Bool) wher
         (λ q h. elim (push_cases marks true h.place h.marked) [
           | inl both ↦
               let same = same_Some h.entry entry (sym h.there ∙ ap (slice_get entries) both.0 ∙ at) in
-              let reason = one h.why (subst (λ (m : Members). LinesFail (kind_of m) own m h.why) same h.fails) in
-              inr (h.is ∙ ap of_rule reason)
+              let reason = one h.why (subst (λ (m : Members). HasFaultyLine (entry_kind m) own m h.why) same h.fails) in
+              inr (h.is ∙ ap reason_of_policy_line reason)
           | inr there ↦ inl (record { place = h.place; marked = there; entry = h.entry; there = h.there; why = h.why; fails = h.fails; is = h.is })
         ])
 
@@ -110,7 +110,7 @@ module _ (entries tenants : List Members) (own : Table) (marks : List Bool) wher
       ]
 
   pub read_one : (policies : List OwnPolicy) (p : OwnPolicy) (entry : Members) → p.place ≡ length marks → slice_get entries (length marks) ≡ Some entry
-      → KindSays own tenants entry p.policy → AreReadAgain entries tenants own marks policies
+      → IsPolicyOfKind own tenants entry p.policy → AreReadAgain entries tenants own marks policies
       → AreReadAgain entries tenants own (marks ++ true ∷ []) (policies ++ p ∷ [])
   read_one policies p entry is at says h = record {
     marked = λ place. (
@@ -125,7 +125,7 @@ module _ (entries tenants : List Members) (own : Table) (marks : List Bool) wher
       ]),
     );
     ascend = ascends_push (λ (a b : OwnPolicy). a.place < b.place) policies p h.ascend (λ o there. below o there);
-    read = All-push (λ o. (m : Members) × (slice_get entries o.place ≡ Some m) × KindSays own tenants m o.policy) policies p h.read
+    read = All-push (λ o. (m : Members) × (slice_get entries o.place ≡ Some m) × IsPolicyOfKind own tenants m o.policy) policies p h.read
         (entry, ap (slice_get entries) is ∙ at, says);
   }
     where
@@ -144,16 +144,16 @@ module _ (entries tenants : List Members) (own : Table) (marks : List Bool) wher
 -- ---- the next index
 
 module _ (entries tenants : List Members) (own : Table) (marks : List Bool) (i : ℕ) (within : i < length marks) (first : Option ScenarioReason)
-    (policies : List OwnPolicy) (h : HasRead entries tenants own (take i marks) first policies) where
+    (policies : List OwnPolicy) (h : HasReadMarked entries tenants own (take i marks) first policies) where
   count : length (take i marks) ≡ i
   count = length-take-le i marks (omega (arith, within))
 
   further : (b : Bool) → get_or marks i false ≡ b → (f : Option ScenarioReason) (ps : List OwnPolicy)
-      → HasRead entries tenants own (take i marks ++ b ∷ []) f ps → HasRead entries tenants own (take (i + 1) marks) f ps
+      → HasReadMarked entries tenants own (take i marks ++ b ∷ []) f ps → HasReadMarked entries tenants own (take (i + 1) marks) f ps
   further b is f ps r =
-      subst (λ (ms : List Bool). HasRead entries tenants own ms f ps) (sym (take_more marks i false within ∙ ap (λ (x : Bool). take i marks ++ x ∷ []) is)) r
+      subst (λ (ms : List Bool). HasReadMarked entries tenants own ms f ps) (sym (take_more marks i false within ∙ ap (λ (x : Bool). take i marks ++ x ∷ []) is)) r
 
-  pub skips : get_or marks i false ≡ false → HasRead entries tenants own (take (i + 1) marks) first policies
+  pub skips : get_or marks i false ≡ false → HasReadMarked entries tenants own (take (i + 1) marks) first policies
   skips is = further false is first policies (record {
     so_far = unmarked_more entries tenants own (take i marks) first h.so_far;
     read = λ none. read_skip entries tenants own (take i marks) policies (h.read none);
@@ -164,16 +164,16 @@ module _ (entries tenants : List Members) (own : Table) (marks : List Bool) (i :
     at = ap (slice_get entries) count ∙ there
 
     pub takes : (p : OwnPolicy) → p.place ≡ i → IsReadAgain own tenants entry (Ok p.policy)
-        → HasRead entries tenants own (take (i + 1) marks) first (policies ++ p ∷ [])
+        → HasReadMarked entries tenants own (take (i + 1) marks) first (policies ++ p ∷ [])
     takes p is says = further true marked first (policies ++ p ∷ []) (record {
       so_far = said_more entries tenants own (take i marks) entry at first says.1 h.so_far;
       read = λ none. read_one entries tenants own (take i marks) policies p entry (is ∙ sym count) at says.0 (h.read none);
     })
 
-    pub fails : (why : RuleReason) (q : ScenarioReason) → IsReadAgain own tenants entry (Err why) → earlier first (Some (of_rule why)) ≡ Some q
-        → HasRead entries tenants own (take (i + 1) marks) (Some q) policies
+    pub fails : (why : RuleReason) (q : ScenarioReason) → IsReadAgain own tenants entry (Err why) → lower_ranked first (Some (reason_of_policy_line why)) ≡ Some q
+        → HasReadMarked entries tenants own (take (i + 1) marks) (Some q) policies
     fails why q says is = further true marked (Some q) policies (record {
-      so_far = subst (λ (o : Option ScenarioReason). IsSoFar (MarkedFails entries own (take i marks ++ true ∷ [])) o) is
+      so_far = subst (λ (o : Option ScenarioReason). IsSoFar (HasMarkedFault entries own (take i marks ++ true ∷ [])) o) is
           (fails_more entries tenants own (take i marks) entry at first why says.0 says.1 h.so_far);
       read = λ none. absurd (let e : Some q ≡ None = none in cc);
     })

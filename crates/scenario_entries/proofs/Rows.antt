@@ -8,9 +8,9 @@ use Rattle.engine_core.specs.declared.policy.Policy.TheVariants as policy
 use Rattle.run_plan.specs.declared.application.OwnPolicy.{OwnPolicy}
 use Rattle.toml.specs.Data.{string, array, table, no_items, item, Members, no_members, member}
 use Rattle.scenario.specs.Applications.{HasTable, policy_tables}
-use Rattle.scenario.specs.Scenarios.{OwnPolicySays, place_of}
+use Rattle.scenario.specs.Scenarios.{IsOwnPolicyMeaning, policy_entry_index}
 use Rattle.scenario.specs.declared.fault.ScenarioReason.TheVariants.{Name, Unknown, Word}
-use Rattle.scenario_entries.specs.Owning.{AreOwn, IsNamed, NamedFails, NamesAgainst, no_name, no_policy}
+use Rattle.scenario_entries.specs.Owning.{AreOwn, HasOneOfNames, HasNamedFault, IsNamesFault, no_name, no_policy}
 use Rattle.scenario_entries.proofs.PolicyLists.{none_in, there_cases, there_first}
 
 abbrev count : List ℕ → Members
@@ -50,10 +50,10 @@ missing h = elim (there_cases (codes "b") (codes "c" ∷ codes "r" ∷ []) (code
   ]
 ]
 
-is_missing : NamesAgainst (policy_tables all) names Unknown
+is_missing : IsNamesFault (policy_tables all) names Unknown
 is_missing = no_policy (codes "x") (1, lit< tt, refl) missing refl
 
-is_nameless : NamesAgainst (policy_tables all) (codes "a b" ∷ []) Name
+is_nameless : IsNamesFault (policy_tables all) (codes "a b" ∷ []) Name
 is_nameless = no_name (codes "a b") (0, lit< tt, refl) (λ h. absurd (let e = h.form in cc)) refl
 
 -- ---- policies under an application's own table
@@ -62,10 +62,10 @@ abbrev read : List OwnPolicy
 read = record { place = 1; policy = policy.Count } ∷ []
 
 abbrev IsPlace : List ℕ → ℕ → Type 0
-IsPlace name place = place_of all name ≡ Some place
+IsPlace name place = policy_entry_index all name ≡ Some place
 
 -- of the two names one is that of a policy
-second : (place : ℕ) → IsNamed all names place → Contains (1 ∷ []) place
+second : (place : ℕ) → HasOneOfNames all names place → Contains (1 ∷ []) place
 second place h = elim (there_cases (codes "c") (codes "x" ∷ []) h.0 h.1) [
   | inl is ↦
       let e : Some 1 ≡ Some place = subst (λ (n : List ℕ). IsPlace n place) (sym is) h.2 in
@@ -76,7 +76,7 @@ second place h = elim (there_cases (codes "c") (codes "x" ∷ []) h.0 h.1) [
   ]
 ]
 
-at_first : (own : Table) (k : ℕ) (p : OwnPolicy) → k < 1 → OwnPolicySays all own (get_or read k p)
+at_first : (own : Table) (k : ℕ) (p : OwnPolicy) → k < 1 → IsOwnPolicyMeaning all own (get_or read k p)
 at_first own zero p within = record { entry = count (codes "c"); there = refl; policy = refl }
 at_first own (suc k) p within = absurd (omega (arith, within))
 
@@ -94,7 +94,7 @@ are_own own = record {
 }
 
 -- the lines of a named policy fail under each table that the schema has
-fails : (own : Table) → HasTable (codes "a") own → NamedFails all app (Contains (codes "r" ∷ [])) Word
+fails : (own : Table) → HasTable (codes "a") own → HasNamedFault all app (Contains (codes "r" ∷ [])) Word
 fails own has = (
   rule.Word,
   record {

@@ -6,49 +6,49 @@ use Rattle.std.proofs.lemmas.Option.{same_Some}
 use Rattle.mrpc_table.specs.Valid.{AreDistinct}
 use Rattle.mrpc_table.specs.declared.memory.Memory.{Memory}
 use Rattle.mrpc_table.specs.declared.table.Table.{Table}
-use Rattle.policy_declarations.specs.Declarations.{Declared, policy_names, policy_place}
-use Rattle.policy_declarations.specs.declared.item.NamedPolicy.{NamedPolicy}
+use Rattle.policy_declarations.specs.Declarations.{Declared, policy_names, policy_index}
+use Rattle.policy_declarations.specs.declared.declaration.NamedPolicy.{NamedPolicy}
 use Rattle.run_plan.specs.declared.application.OwnPolicy.{OwnPolicy}
 use Rattle.toml.specs.Data.{Members}
 use Rattle.scenario_lines.specs.Programs.{Each}
 use Rattle.scenario_toml.specs.Values.{text_at}
 use Rattle.scenario.specs.Applications.{HasTable, policy_tables, tenant_tables}
-use Rattle.scenario.specs.Keys.{kind_of}
-use Rattle.scenario.specs.Policies.{LinesFail, PolicyAgainst, PolicySays, is_known, name_of, names_of}
-use Rattle.scenario.specs.Reasons.{IsFirstReason}
-use Rattle.scenario.specs.Scenarios.{place_of}
+use Rattle.scenario.specs.Keys.{entry_kind}
+use Rattle.scenario.specs.Policies.{HasFaultyLine, IsPolicyFault, IsPolicyMeaning, is_known, entry_name, entry_names}
+use Rattle.scenario.specs.Reasons.{IsFirstScenarioReason}
+use Rattle.scenario.specs.Scenarios.{policy_entry_index}
 use Rattle.scenario.specs.declared.fault.ScenarioReason.{ScenarioReason}
 use Rattle.scenario.specs.declared.fault.ScenarioReason.TheVariants.{Known}
-use Rattle.scenario_entries.specs.Entries.{AreFree}
-use Rattle.scenario_entries.specs.Marking.{AreMarked, AreReadAgain, IsMarkedRead, MarkedFails}
-use Rattle.scenario_entries.specs.Owning.{AreOwn, NamedFails}
+use Rattle.scenario_entries.specs.Entries.{AreFaultFree}
+use Rattle.scenario_entries.specs.Marking.{AreMarked, AreReadAgain, IsMarkedRead, HasMarkedFault}
+use Rattle.scenario_entries.specs.Owning.{AreOwn, HasNamedFault}
 use Rattle.scenario_entries.proofs.Declaring.{policies_named}
 use Rattle.scenario_entries.proofs.Distinct.{distinct_from, distinct_same, get_there, some_from, there_map}
 use Rattle.scenario_entries.proofs.PolicyLists.{position_map}
 use Rattle.scenario_entries.proofs.PolicyNaming as naming
 
-pub place_same : (d : Declared) (entries : List Members) (name : List ℕ) → policy_names d ≡ names_of entries
-    → policy_place d name ≡ position (λ ms. bytes_eq (name_of ms) name) entries
+pub place_same : (d : Declared) (entries : List Members) (name : List ℕ) → policy_names d ≡ entry_names entries
+    → policy_index d name ≡ position (λ ms. bytes_eq (entry_name ms) name) entries
 place_same d entries name same =
     position_map (λ (p : NamedPolicy). p.name) (λ (n : List ℕ). bytes_eq n name) d.policies
     ∙ ap (position (λ (n : List ℕ). bytes_eq n name)) same
-    ∙ sym (position_map name_of (λ (n : List ℕ). bytes_eq n name) entries)
+    ∙ sym (position_map entry_name (λ (n : List ℕ). bytes_eq n name) entries)
 
-pub policies_distinct : (T : Table) (tenants entries : List Members) → AreFree (PolicyAgainst T tenants) entries → AreDistinct (names_of entries)
-policies_distinct T tenants entries free = distinct_from name_of [] entries
+pub policies_distinct : (T : Table) (tenants entries : List Members) → AreFaultFree (IsPolicyFault T tenants) entries → AreDistinct (entry_names entries)
+policies_distinct T tenants entries free = distinct_from entry_name [] entries
     (λ before ms back e there. free before ms (length before + 1) Known (record { back = back; whole = e; is_number = refl }) (is_known there refl))
 
 module _ (all app : Members) (text : List ℕ) (own shared : Table) (d : Declared) (names : List (List ℕ)) (marks : List Bool)
     (schema : text_at (codes "schema") app ≡ Some text) (has : HasTable text own) (one : (T : Table) → HasTable text T → T ≡ own)
-    (free : AreFree (PolicyAgainst shared (tenant_tables all)) (policy_tables all))
-    (says : Each (PolicySays shared (tenant_tables all)) (policy_tables all) d.policies) (marked : AreMarked d names marks) where
-  place : (name : List ℕ) → policy_place d name ≡ place_of all name
+    (free : AreFaultFree (IsPolicyFault shared (tenant_tables all)) (policy_tables all))
+    (says : Each (IsPolicyMeaning shared (tenant_tables all)) (policy_tables all) d.policies) (marked : AreMarked d names marks) where
+  place : (name : List ℕ) → policy_index d name ≡ policy_entry_index all name
   place name = place_same d (policy_tables all) name (policies_named shared (tenant_tables all) (policy_tables all) d says)
 
-  fails_from : (q : ScenarioReason) → MarkedFails (policy_tables all) own marks q → NamedFails all app (Contains names) q
+  fails_from : (q : ScenarioReason) → HasMarkedFault (policy_tables all) own marks q → HasNamedFault all app (Contains names) q
   fails_from q h =
       let named = marked.named h.place h.marked in
-      let at = naming.place_is name_of named.0 (policy_tables all) h.place (sym (place named.0) ∙ named.2) in
+      let at = naming.place_is entry_name named.0 (policy_tables all) h.place (sym (place named.0) ∙ named.2) in
       let is = same_Some at.item h.entry (sym at.at ∙ h.there) in (
         h.why,
         record {
@@ -58,22 +58,22 @@ module _ (all app : Members) (text : List ℕ) (own shared : Table) (d : Declare
           of_text = has;
           policy = h.entry;
           there = get_there (policy_tables all) h.place h.entry h.there;
-          named = subst (λ (n : List ℕ). Contains names n) (sym at.same ∙ ap name_of is) named.1;
+          named = subst (λ (n : List ℕ). Contains names n) (sym at.same ∙ ap entry_name is) named.1;
           fails = h.fails;
         },
         h.is,
       )
 
-  fails_to : (q : ScenarioReason) → NamedFails all app (Contains names) q → MarkedFails (policy_tables all) own marks q
+  fails_to : (q : ScenarioReason) → HasNamedFault all app (Contains names) q → HasMarkedFault (policy_tables all) own marks q
   fails_to q h =
       let f = h.1 in
       let same_text = same_Some f.text text (sym f.own ∙ schema) in
       let same_table = one f.table (subst (λ (t : List ℕ). HasTable t f.table) same_text f.of_text) in
-      let name = name_of f.policy in
-      let found = naming.found name_of name (policy_tables all) (there_map name_of (policy_tables all) f.policy f.there) in
-      let p = some_from (place_of all name) found in
-      let at = naming.place_is name_of name (policy_tables all) p.0 p.1 in
-      let is = distinct_same name_of (policy_tables all) at.item f.policy (policies_distinct shared (tenant_tables all) (policy_tables all) free)
+      let name = entry_name f.policy in
+      let found = naming.found entry_name name (policy_tables all) (there_map entry_name (policy_tables all) f.policy f.there) in
+      let p = some_from (policy_entry_index all name) found in
+      let at = naming.place_is entry_name name (policy_tables all) p.0 p.1 in
+      let is = distinct_same entry_name (policy_tables all) at.item f.policy (policies_distinct shared (tenant_tables all) (policy_tables all) free)
       (get_there (policy_tables all) p.0 at.item at.at) f.there at.same in
       record {
         place = p.0;
@@ -81,7 +81,7 @@ module _ (all app : Members) (text : List ℕ) (own shared : Table) (d : Declare
         entry = f.policy;
         there = at.at ∙ ap (λ (m : Members). Some m) is;
         why = h.0;
-        fails = subst (λ (T : Table). LinesFail (kind_of f.policy) T f.policy h.0) same_table f.fails;
+        fails = subst (λ (T : Table). HasFaultyLine (entry_kind f.policy) T f.policy h.0) same_table f.fails;
         is = h.2;
       }
 
@@ -96,14 +96,14 @@ module _ (all app : Members) (text : List ℕ) (own shared : Table) (d : Declare
   }
 
   own_read : (r : Result (List OwnPolicy) ScenarioReason) → IsMarkedRead (policy_tables all) (tenant_tables all) own marks r
-      → MatchResult r (λ policies. AreOwn all own names policies × ((q : ScenarioReason) → NamedFails all app (Contains names) q → ⊥))
-      (IsFirstReason (NamedFails all app (Contains names)))
+      → MatchResult r (λ policies. AreOwn all own names policies × ((q : ScenarioReason) → HasNamedFault all app (Contains names) q → ⊥))
+      (IsFirstScenarioReason (HasNamedFault all app (Contains names)))
   own_read (Ok policies) h = (own_from policies h.0, λ q f. h.1 q (fails_to q f))
   own_read (Err q) h = record { stands = fails_from q h.stands; first = λ other f. h.first other (fails_to other f) }
 
   pub own_ok : (r : Result (Result (List OwnPolicy) ScenarioReason) Memory) → IfOk r (IsMarkedRead (policy_tables all) (tenant_tables all) own marks)
       → IfOk r (λ x. MatchResult x
-      (λ policies. AreOwn all own names policies × ((q : ScenarioReason) → NamedFails all app (Contains names) q → ⊥))
-      (IsFirstReason (NamedFails all app (Contains names))))
+      (λ policies. AreOwn all own names policies × ((q : ScenarioReason) → HasNamedFault all app (Contains names) q → ⊥))
+      (IsFirstScenarioReason (HasNamedFault all app (Contains names))))
   own_ok (Ok x) h = own_read x h
   own_ok (Err m) h = tt

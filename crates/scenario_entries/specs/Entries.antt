@@ -6,9 +6,9 @@ use Rattle.std.specs.declared.alloc.Global.{Global}
 use Rattle.toml.specs.Data.{Members}
 use Rattle.toml.specs.View.{table_view}
 use Rattle.toml.specs.declared.value.Value.{Value}
-use Rattle.scenario.specs.Reasons.{IsFirstReason}
-use Rattle.scenario.specs.Scenarios.{StandsAt}
-use Rattle.scenario.specs.declared.fault.Entry.{Entry}
+use Rattle.scenario.specs.Reasons.{IsFirstScenarioReason}
+use Rattle.scenario.specs.Scenarios.{IsEntryAt}
+use Rattle.scenario.specs.declared.fault.FaultyEntry.{FaultyEntry}
 use Rattle.scenario.specs.declared.fault.ScenarioFault.{ScenarioFault}
 use Rattle.scenario.specs.declared.fault.ScenarioFault.TheVariants as fault
 use Rattle.scenario.specs.declared.fault.ScenarioReason.{ScenarioReason}
@@ -20,23 +20,23 @@ views entries = map (λ t. table_view t.now) entries
 -- the entry has no fault, and means this; or this is the first reason of its faults
 abbrev pub IsEntryRead : {X : Type 0} → (ScenarioReason → Type 0) → (X → Type 0) → Result X ScenarioReason → Type 0
 IsEntryRead Against Says (Ok x) = ((q : ScenarioReason) → Against q → ⊥) × Says x
-IsEntryRead Against Says (Err q) = IsFirstReason Against q
+IsEntryRead Against Says (Err q) = IsFirstScenarioReason Against q
 
 -- none of the entries has a fault
-abbrev pub AreFree : (List Members → Members → ScenarioReason → Type 0) → List Members → Type 0
-AreFree Against entries =
-    (before : List Members) (ms : Members) (n : ℕ) (q : ScenarioReason) → StandsAt entries before ms n → Against before ms q → ⊥
+abbrev pub AreFaultFree : (List Members → Members → ScenarioReason → Type 0) → List Members → Type 0
+AreFaultFree Against entries =
+    (before : List Members) (ms : Members) (n : ℕ) (q : ScenarioReason) → IsEntryAt entries before ms n → Against before ms q → ⊥
 
 -- no entry before this one has a fault, and this is the first reason of its own
 pub record IsFirstEntry (Against : List Members → Members → ScenarioReason → Type 0) (entries : List Members) (n : ℕ)
     (reason : ScenarioReason) : Type 0 where
   pub before : List Members
   pub ms : Members
-  pub stands : StandsAt entries before ms n
-  pub free : AreFree Against before
-  pub first : IsFirstReason (Against before ms) reason
+  pub stands : IsEntryAt entries before ms n
+  pub free : AreFaultFree Against before
+  pub first : IsFirstScenarioReason (Against before ms) reason
 
 -- a fault is that of the first faulty entry
-abbrev pub IsFaultIn : (ℕ → Entry) → (List Members → Members → ScenarioReason → Type 0) → List Members → ScenarioFault → Type 0
-IsFaultIn place Against entries (fault.At at reason) = (n : ℕ) × (at ≡ place n) × IsFirstEntry Against entries n reason
-IsFaultIn place Against entries fault.Memory = Unit {0}
+abbrev pub IsListFault : (ℕ → FaultyEntry) → (List Members → Members → ScenarioReason → Type 0) → List Members → ScenarioFault → Type 0
+IsListFault place Against entries (fault.At at reason) = (n : ℕ) × (at ≡ place n) × IsFirstEntry Against entries n reason
+IsListFault place Against entries fault.Memory = Unit {0}

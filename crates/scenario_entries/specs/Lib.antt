@@ -1,6 +1,6 @@
 pub mod Entries
-pub mod Firsts
-pub mod Linking
+pub mod FirstReasons
+pub mod ChainEntries
 pub mod Marking
 pub mod Owning
-pub mod Ports
+pub mod AppConnections

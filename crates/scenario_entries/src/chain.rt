@@ -5,7 +5,7 @@ ghost use Rattle.std.specs.Str.{bytes_eq};
 ghost use Rattle.mrpc_table.specs.Lines.{in_64_bits};
 ghost use Rattle.engine_core.specs.Chains.{Chain as TheChain, IsChain};
 ghost use Rattle.engine_core.specs.declared.op.Op.TheVariants as op;
-ghost use Rattle.scenario_entries.specs.Linking.{IsChanged, IsKept};
+ghost use Rattle.scenario_entries.specs.ChainEntries.{IsChangeOrRefusal, AreEntriesOf};
 
 use engine_core::{MAX_ENGINES, Policy};
 use mrpc_table::{Decimal, Memory};
@@ -21,12 +21,12 @@ pub(crate) struct ChainEntry<'a> {
 
 /// The entries of a chain, in the order in which they judge.
 #[derive(Drop)]
-pub struct Chain<'a> {
+pub struct ChainOutline<'a> {
     entries: Vec<ChainEntry<'a>>,
 }
 
 // The position as an index into a chain with `entries` entries; `None` if it is out of range.
-fn place_in(position: Decimal, entries: usize) -> Option<usize>
+fn chain_position(position: Decimal, entries: usize) -> Option<usize>
     ensures place { (at : ℕ) → position ≡ in_64_bits at
         → MatchOption result (entries < at) (λ p. (p ≡ at) × (at ≤ entries)) }
     ensures within { IfSome result (λ p. p ≤ entries) }
@@ -43,27 +43,27 @@ fn place_in(position: Decimal, entries: usize) -> Option<usize>
     }
 }
 
-impl<'a> Chain<'a> {
+impl<'a> ChainOutline<'a> {
     /// An empty chain.
-    pub fn new(alloc: Global) -> Chain<'a>
+    pub fn new(alloc: Global) -> ChainOutline<'a>
         ensures { result.entries.items ≡ [] }
     {
-        Chain {
+        ChainOutline {
             entries: Vec::new(alloc),
         }
     }
 
     /// A copy of the chain.
-    pub fn copied(&self, alloc: Global) -> Result<Chain<'a>, Memory>
+    pub fn copied(&self, alloc: Global) -> Result<ChainOutline<'a>, Memory>
         ensures { IfOk result (λ chain. chain.entries.items ≡ self.now.entries.items) }
     {
-        Ok(Chain {
+        Ok(ChainOutline {
             entries: Vec::from_slice(alloc, self.entries.as_slice())?,
         })
     }
 
     // The position of the entry with a name.
-    fn place(&self, name: &[u8]) -> Option<usize>
+    fn position(&self, name: &[u8]) -> Option<usize>
         ensures { result ≡ position (λ e. bytes_eq e.name.now name.now) self.now.entries.items }
     {
         self.entries.iter().position(|entry| entry.name == name)
@@ -76,15 +76,15 @@ impl<'a> Chain<'a> {
         name: &'a [u8],
         policy: &'a Policy,
     ) -> Result<Option<ScenarioReason>, Memory>
-        ensures { (chain : TheChain) (at : ℕ) (label : List ℕ) → IsChain chain → IsKept self.old.entries.items chain
+        ensures { (chain : TheChain) (at : ℕ) (label : List ℕ) → IsChain chain → AreEntriesOf self.old.entries.items chain
             → position ≡ in_64_bits at
-            → IfOk result (IsChanged chain (op.Attach at name.entry.now label policy.entry.now) self.new.entries.items) }
+            → IfOk result (IsChangeOrRefusal chain (op.Attach at name.entry.now label policy.entry.now) self.new.entries.items) }
     {
-        if self.place(name).is_some() {
+        if self.position(name).is_some() {
             return Ok(Some(ScenarioReason::Taken));
         }
         let count = self.entries.len();
-        let Some(at) = place_in(position, count) else {
+        let Some(at) = chain_position(position, count) else {
             return Ok(Some(ScenarioReason::At));
         };
         if MAX_ENGINES <= count {
@@ -97,10 +97,10 @@ impl<'a> Chain<'a> {
     /// Removes the entry with a name from the chain. If the chain refuses it, returns the reason and leaves the chain
     /// unchanged.
     pub fn detach(&mut self, name: &[u8]) -> Option<ScenarioReason>
-        ensures { (chain : TheChain) → IsKept self.old.entries.items chain
-            → IsChanged chain (op.Detach name.now) self.new.entries.items result }
+        ensures { (chain : TheChain) → AreEntriesOf self.old.entries.items chain
+            → IsChangeOrRefusal chain (op.Detach name.now) self.new.entries.items result }
     {
-        match self.place(name) {
+        match self.position(name) {
             None => Some(ScenarioReason::NoSuch),
             Some(place) => {
                 self.entries.remove(place);
@@ -112,10 +112,10 @@ impl<'a> Chain<'a> {
     /// Replaces the policy of the entry with a name. If the chain refuses it, returns the reason and leaves the chain
     /// unchanged.
     pub fn upgrade(&mut self, name: &[u8], policy: &'a Policy) -> Option<ScenarioReason>
-        ensures { (chain : TheChain) (label : List ℕ) → IsChain chain → IsKept self.old.entries.items chain
-            → IsChanged chain (op.Upgrade name.now label policy.entry.now) self.new.entries.items result }
+        ensures { (chain : TheChain) (label : List ℕ) → IsChain chain → AreEntriesOf self.old.entries.items chain
+            → IsChangeOrRefusal chain (op.Upgrade name.now label policy.entry.now) self.new.entries.items result }
     {
-        match self.place(name) {
+        match self.position(name) {
             None => Some(ScenarioReason::NoSuch),
             Some(place) => {
                 let entry = self.entries[place];

@@ -23,12 +23,15 @@ mod policy_laws;
 mod program;
 mod tenants;
 
-pub use chain::Chain;
-pub use laws::{not_both, one_fault};
-pub use link::{Port, has_port, read_links};
-pub use names::{lacks_policy, names_reason};
+pub use chain::ChainOutline;
+pub use laws::{fault_is_unique, plan_excludes_fault};
+pub use link::{AppConnection, has_app_connection, read_links};
+pub use names::{has_undeclared_name, names_reason};
 pub use own::read_own_policies;
 pub use policies::read_policies;
-pub use policy_laws::{declared_is_sound, one_declaration, one_table, own_is_sound, same_names};
+pub use policy_laws::{
+    declaration_is_unique, declaration_is_valid, names_keep_index, own_schema_is_valid,
+    schema_table_is_unique,
+};
 pub use program::{read_program, submissions};
 pub use tenants::read_tenants;

@@ -6,15 +6,19 @@ ghost use Rattle.mrpc_table.specs.declared.table.Table.{Table as TheTable};
 ghost use Rattle.toml.specs.Data.{Members};
 ghost use Rattle.toml.specs.View.{table_view};
 ghost use Rattle.scenario_toml.specs.Values.{texts_at};
-ghost use Rattle.scenario.specs.declared.form.Kind.{Kind as TheKind};
-ghost use Rattle.scenario.specs.declared.form.Kind.TheVariants as of_kind;
-ghost use Rattle.scenario_entries.specs.Firsts.{IsLinesRead, IsRuled};
+ghost use Rattle.scenario.specs.declared.entry_words.PolicyKind.{PolicyKind as TheKind};
+ghost use Rattle.scenario.specs.declared.entry_words.PolicyKind.TheVariants as of_kind;
+ghost use Rattle.scenario_entries.specs.FirstReasons.{IsLinesRead, IsRuledResult};
 
 use engine_core::Policy;
 use mrpc_table::{Bytes, Lines, Memory, RuleFault, RuleReason, Table as Schema};
-use policy_access::{one_fault as one_access_fault, read_access, text_or_fault as access_or_fault};
-use policy_redact::{one_fault as one_redact_fault, read_redact, text_or_fault as redact_or_fault};
-use scenario::Kind;
+use policy_access::{
+    first_fault_is_unique as one_access_fault, read_access, text_or_fault as access_or_fault,
+};
+use policy_redact::{
+    first_fault_is_unique as one_redact_fault, read_redact, text_or_fault as redact_or_fault,
+};
+use scenario::PolicyKind;
 use scenario_toml::texts_at;
 use std::alloc::Global;
 use toml::Table;
@@ -38,7 +42,7 @@ pub(crate) fn access_in(
     entry: &Table,
 ) -> Result<Result<Policy, RuleReason>, Memory>
     requires { IsValid table.now }
-    ensures { IfOk result (IsRuled of_kind.Access table.now (table_view entry.now)) }
+    ensures { IfOk result (IsRuledResult of_kind.Access table.now (table_view entry.now)) }
 {
     one_access_fault();
     access_or_fault();
@@ -57,7 +61,7 @@ pub(crate) fn redact_in(
     entry: &Table,
 ) -> Result<Result<Policy, RuleReason>, Memory>
     requires { IsValid table.now }
-    ensures { IfOk result (IsRuled of_kind.Redact table.now (table_view entry.now)) }
+    ensures { IfOk result (IsRuledResult of_kind.Redact table.now (table_view entry.now)) }
 {
     one_redact_fault();
     redact_or_fault();
@@ -71,7 +75,7 @@ pub(crate) fn redact_in(
 
 // The result of reading lines, as that of a policy that may have none.
 fn lined_by(ruled: Result<Policy, RuleReason>) -> Result<Option<Policy>, RuleReason>
-    ensures { (k : TheKind) (T : TheTable) (ms : Members) → IsRuled k T ms ruled → IsLinesRead k T ms result }
+    ensures { (k : TheKind) (T : TheTable) (ms : Members) → IsRuledResult k T ms ruled → IsLinesRead k T ms result }
 {
     match ruled {
         Ok(policy) => Ok(Some(policy)),
@@ -84,15 +88,15 @@ fn lined_by(ruled: Result<Policy, RuleReason>) -> Result<Option<Policy>, RuleRea
 pub(crate) fn lined_policy(
     alloc: Global,
     table: &Schema,
-    kind: Kind,
+    kind: PolicyKind,
     entry: &Table,
 ) -> Result<Result<Option<Policy>, RuleReason>, Memory>
     requires { IsValid table.now }
     ensures { IfOk result (IsLinesRead kind table.now (table_view entry.now)) }
 {
     match kind {
-        Kind::Access => Ok(lined_by(access_in(alloc, table, entry)?)),
-        Kind::Redact => Ok(lined_by(redact_in(alloc, table, entry)?)),
-        Kind::Rate | Kind::Quota | Kind::Count => Ok(Ok(None)),
+        PolicyKind::Access => Ok(lined_by(access_in(alloc, table, entry)?)),
+        PolicyKind::Redact => Ok(lined_by(redact_in(alloc, table, entry)?)),
+        PolicyKind::Rate | PolicyKind::Quota | PolicyKind::Count => Ok(Ok(None)),
     }
 }

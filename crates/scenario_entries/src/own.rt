@@ -9,20 +9,20 @@ ghost use Rattle.toml.specs.View.{table_view};
 ghost use Rattle.scenario_lines.specs.Programs.{Each};
 ghost use Rattle.scenario_toml.specs.Values.{text_at};
 ghost use Rattle.scenario.specs.Applications.{HasTable, policy_tables, tenant_tables};
-ghost use Rattle.scenario.specs.Policies.{KindSays, PolicyAgainst, PolicySays};
-ghost use Rattle.scenario.specs.Reasons.{IsFirstReason};
-ghost use Rattle.scenario_entries.specs.Entries.{AreFree, views};
+ghost use Rattle.scenario.specs.Policies.{IsPolicyOfKind, IsPolicyFault, IsPolicyMeaning};
+ghost use Rattle.scenario.specs.Reasons.{IsFirstScenarioReason};
+ghost use Rattle.scenario_entries.specs.Entries.{AreFaultFree, views};
 ghost use Rattle.scenario.specs.declared.fault.ScenarioReason.{ScenarioReason as TheReason};
 ghost use Rattle.scenario_entries.specs.Marking.{AreMarked, IsMarkedRead, IsReadAgain};
-ghost use Rattle.scenario_entries.specs.Owning.{AreOwn, NamedFails};
+ghost use Rattle.scenario_entries.specs.Owning.{AreOwn, HasNamedFault};
 
 use crate::lines::{access_in, redact_in};
-use crate::policy_laws::one_table;
+use crate::policy_laws::schema_table_is_unique;
 use engine_core::Policy;
 use mrpc_table::{Memory, RuleReason, Sequence, Table as Schema};
 use policy_declarations::{Declarations, NamedPolicy};
 use run_plan::OwnPolicy;
-use scenario::{ScenarioReason, earliest, of_rule};
+use scenario::{ScenarioReason, first_with, reason_of_policy_line};
 use std::alloc::Global;
 use toml::Table;
 
@@ -54,7 +54,7 @@ fn read_again(
     entry: &Table,
 ) -> Result<Result<Policy, RuleReason>, Memory>
     requires { IsValid table.now }
-    ensures { (shared : TheTable) (tenants : List Members) → KindSays shared tenants (table_view entry.now) policy.now
+    ensures { (shared : TheTable) (tenants : List Members) → IsPolicyOfKind shared tenants (table_view entry.now) policy.now
         → IfOk result (IsReadAgain table.now tenants (table_view entry.now)) }
 {
     match policy {
@@ -76,7 +76,7 @@ fn read_marked(
     requires long { length entries.now ≡ length policies.now }
     requires marked { length marks.now ≡ length policies.now }
     ensures { (shared : TheTable) (tenants : List Members)
-        → Each (PolicySays shared tenants) (views entries.now) policies.now
+        → Each (IsPolicyMeaning shared tenants) (views entries.now) policies.now
         → IfOk result (IsMarkedRead (views entries.now) tenants table.now marks.now) }
 {
     let mut read = Sequence::new(alloc);
@@ -85,7 +85,7 @@ fn read_marked(
         if marks[place] {
             match read_again(alloc, table, &policies[place].policy, entries[place])? {
                 Ok(policy) => read.push(OwnPolicy { place, policy })?,
-                Err(why) => first = Some(earliest(first, of_rule(why))),
+                Err(why) => first = Some(first_with(first, reason_of_policy_line(why))),
             }
         }
     }
@@ -109,13 +109,13 @@ pub fn read_own_policies(
     requires long { length entries.now ≡ length declared.now.policies }
     ensures { (all app : Members) (text : List ℕ) (shared : TheTable) → text_at (codes "schema") app ≡ Some text
         → HasTable text table.now → views entries.now ≡ policy_tables all
-        → AreFree (PolicyAgainst shared (tenant_tables all)) (policy_tables all)
-        → Each (PolicySays shared (tenant_tables all)) (policy_tables all) declared.now.policies
+        → AreFaultFree (IsPolicyFault shared (tenant_tables all)) (policy_tables all)
+        → Each (IsPolicyMeaning shared (tenant_tables all)) (policy_tables all) declared.now.policies
         → IfOk result (λ r. MatchResult r (λ policies. AreOwn all table.now (map (λ n. n.now) names.now) policies
-        × ((q : TheReason) → NamedFails all app (Contains (map (λ n. n.now) names.now)) q → ⊥))
-        (IsFirstReason (NamedFails all app (Contains (map (λ n. n.now) names.now))))) }
+        × ((q : TheReason) → HasNamedFault all app (Contains (map (λ n. n.now) names.now)) q → ⊥))
+        (IsFirstScenarioReason (HasNamedFault all app (Contains (map (λ n. n.now) names.now))))) }
 {
-    one_table();
+    schema_table_is_unique();
     let marks = marks_of(alloc, declared, names)?;
     read_marked(alloc, table, declared.policies(), entries, marks.as_slice())
 }

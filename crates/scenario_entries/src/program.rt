@@ -2,14 +2,14 @@
 
 ghost use Rattle.std.specs.Prelude.{◌≡◌, ◌≤◌, IfOk, MatchResult, Some, length, map};
 ghost use Rattle.scenario.specs.Applications.{role_submits};
-ghost use Rattle.scenario.specs.Lines.{is_submit, submits_of};
-ghost use Rattle.scenario_lines.specs.Lines.{form_of};
-ghost use Rattle.scenario_lines.specs.Programs.{ProgramAgainst, ProgramSays};
-ghost use Rattle.scenario_lines.specs.Reasons.{IsFirst};
+ghost use Rattle.scenario.specs.Lines.{is_submit_form, submit_line_count};
+ghost use Rattle.scenario_lines.specs.Lines.{line_form_of};
+ghost use Rattle.scenario_lines.specs.Programs.{IsProgramFault, IsProgramMeaning};
+ghost use Rattle.scenario_lines.specs.Reasons.{IsFirstLineReason};
 ghost use Rattle.scenario_lines.specs.declared.form.ProgramRole.TheVariants as of;
 
 use app_program::Program;
-use mrpc_table::{Memory, cut, is_word};
+use mrpc_table::{Memory, is_word, split_once};
 use scenario::RoleWord;
 use scenario_lines::{LineReason, ProgramReader, ProgramRole};
 use std::alloc::Global;
@@ -21,8 +21,8 @@ pub fn read_program(
     heap: u32,
     lines: &[&[u8]],
 ) -> Result<Result<Program, LineReason>, Memory>
-    ensures { IfOk result (λ r. MatchResult r (ProgramSays role heap (map (λ t. t.now) lines.now))
-        (IsFirst (ProgramAgainst role heap (map (λ t. t.now) lines.now)))) }
+    ensures { IfOk result (λ r. MatchResult r (IsProgramMeaning role heap (map (λ t. t.now) lines.now))
+        (IsFirstLineReason (IsProgramFault role heap (map (λ t. t.now) lines.now)))) }
 {
     let mut reader = ProgramReader::new(alloc, role, heap);
     for line in lines {
@@ -33,9 +33,9 @@ pub fn read_program(
 
 // Whether a line of a client has the form of a submission.
 fn is_submission(line: &[u8]) -> bool
-    ensures { result ≡ is_submit (form_of of.Client line.now) }
+    ensures { result ≡ is_submit_form (line_form_of of.Client line.now) }
 {
-    match cut(line, b' ') {
+    match split_once(line, b' ') {
         Some((word, _)) => is_word(word, b"submit"),
         None => is_word(line, b"submit"),
     }
@@ -43,7 +43,7 @@ fn is_submission(line: &[u8]) -> bool
 
 // The number of a client's lines that have the form of a submission.
 fn submissions_in(lines: &[&[u8]]) -> u64
-    ensures count { result ≡ submits_of (map (λ t. t.now) lines.now) }
+    ensures count { result ≡ submit_line_count (map (λ t. t.now) lines.now) }
     ensures few { result ≤ length lines.now }
 {
     let mut count = 0;

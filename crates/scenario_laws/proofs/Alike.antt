@@ -4,14 +4,14 @@ use Rattle.std.proofs.Common.{◌++◌, length, map, filter, take, drop, Contain
 use Rattle.std.proofs.Common.{arith, bytes_eq}
 use Rattle.std.proofs.lemmas.Bool.{cases_Bool}
 use Rattle.std.proofs.lemmas.List.{length-map, map-append, take-map}
-use Rattle.engine_core.specs.Chains.{Chain, Changes, Entry, IsAgainst, IsChain, Refusal, Refuses, changed, names_of}
+use Rattle.engine_core.specs.Chains.{Chain, HasChanged, Entry, IsReasonToReject, IsChain, Refusal, IsRejection, changed, names_of}
 use Rattle.engine_core.specs.Chains as chains
 use Rattle.engine_core.specs.Policies.{is_same_kind}
 use Rattle.engine_core.specs.declared.op.Op.{Op}
 use Rattle.engine_core.specs.declared.op.Op.TheVariants as op
 use Rattle.engine_core.specs.declared.policy.Policy.{Policy}
-use Rattle.run_plan.specs.Chains.{Changing}
-use Rattle.scenario.specs.Applications.{FirstRefused}
+use Rattle.run_plan.specs.Chains.{IsChangedBy}
+use Rattle.scenario.specs.Applications.{IsFirstRefusedOp}
 use Rattle.scenario_lines.specs.Programs.{Each}
 use Rattle.scenario_laws.proofs.Lists.{there_map, there_unmap}
 use Rattle.scenario_laws.proofs.Sorts.{PolicySort, same_kinds, sort_of}
@@ -19,10 +19,10 @@ use Rattle.scenario_laws.proofs.Sorts.{PolicySort, same_kinds, sort_of}
 -- ---- the laws of chains in use
 
 pub record Laws : Type 0 where
-  pub either : (before : Chain) (o : Op) → IsChain before → ((after : Chain) × Changes before o after) ⊎ ((refusal : Refusal) × Refuses before o refusal)
-  pub stays : (before after : Chain) (o : Op) → IsChain before → Changes before o after → IsChain after
-  pub only : (before after : Chain) (o : Op) → IsChain before → Changes before o after → after ≡ changed o before
-  pub unless_refused : (before : Chain) (o : Op) → IsChain before → ((refusal : Refusal) → Refuses before o refusal → ⊥) → Changes before o (changed o before)
+  pub either : (before : Chain) (o : Op) → IsChain before → ((after : Chain) × HasChanged before o after) ⊎ ((refusal : Refusal) × IsRejection before o refusal)
+  pub stays : (before after : Chain) (o : Op) → IsChain before → HasChanged before o after → IsChain after
+  pub only : (before after : Chain) (o : Op) → IsChain before → HasChanged before o after → after ≡ changed o before
+  pub unless_refused : (before : Chain) (o : Op) → IsChain before → ((refusal : Refusal) → IsRejection before o refusal → ⊥) → HasChanged before o (changed o before)
 
 -- ---- a chain without its policies
 
@@ -146,7 +146,7 @@ module _ (c c' : Chain) (same : seen_of c.entries ≡ seen_of c'.entries) where
       (f.0, f.1, ap (λ (k : List ℕ × PolicySort). k.0) f.2, ap (λ (k : List ℕ × PolicySort). k.1) f.2)
 
   -- a refusal of the other operation is one of this operation
-  against_alike : (o o' : Op) (r : Refusal) → AreAlike o o' → IsAgainst c'.entries o' r → (q : Refusal) × IsAgainst c.entries o q
+  against_alike : (o o' : Op) (r : Refusal) → AreAlike o o' → IsReasonToReject c'.entries o' r → (q : Refusal) × IsReasonToReject c.entries o q
   against_alike o o' r (attaches at n l l' p p' sorts is is') h = elim h [
     | chains.detaches_none m e none why ↦ absurd (let no : op.Attach at n l' p' ≡ op.Detach m = sym is' ∙ e in cc)
     | chains.upgrades_none m k q e none why ↦ absurd (let no : op.Attach at n l' p' ≡ op.Upgrade m k q = sym is' ∙ e in cc)
@@ -191,7 +191,7 @@ module _ (c c' : Chain) (same : seen_of c.entries ≡ seen_of c'.entries) where
 
 module _ (laws : Laws) where
   -- operations of which none is refused all change the chain
-  pub walk : (start : Chain) (ops : List Op) → IsChain start → ((r : Refusal) → FirstRefused start ops r → ⊥) → (after : Chain) × Changing start ops after
+  pub walk : (start : Chain) (ops : List Op) → IsChain start → ((r : Refusal) → IsFirstRefusedOp start ops r → ⊥) → (after : Chain) × IsChangedBy start ops after
   walk start [] sound none = (start, refl)
   walk start (o ∷ ops) sound none = elim (laws.either start o sound) [
     | inl made ↦
@@ -209,12 +209,12 @@ module _ (laws : Laws) where
         absurd (none refused.0 (record { front = []; step = o; back = ops; whole = refl; before = start; change = refl; refuses = refused.1 }))
   ]
 
-  pub changing_sound : (a b : Chain) (xs : List Op) → IsChain a → Changing a xs b → IsChain b
+  pub changing_sound : (a b : Chain) (xs : List Op) → IsChain a → IsChangedBy a xs b → IsChain b
   changing_sound a b [] sound same = subst IsChain (sym same) sound
   changing_sound a b (x ∷ xs) sound h = changing_sound h.0 b xs (laws.stays a h.0 x sound h.1) h.2
 
   pub follow : (c c' : Chain) (ops ops' : List Op) (after : Chain) → IsChain c → IsChain c' → seen_of c.entries ≡ seen_of c'.entries
-      → Each AreAlike ops ops' → Changing c ops after → (after' : Chain) × Changing c' ops' after'
+      → Each AreAlike ops ops' → IsChangedBy c ops after → (after' : Chain) × IsChangedBy c' ops' after'
   follow c c' [] [] after sound sound' same alike change = (c', refl)
   follow c c' [] (o' ∷ ops') after sound sound' same alike change = absurd alike
   follow c c' (o ∷ ops) [] after sound sound' same alike change = absurd alike
@@ -228,6 +228,6 @@ module _ (laws : Laws) where
       alike.1 change.2 in
       (rest.0, (changed o' c', made, rest.1))
 
-pub changing_append : (a b c : Chain) (xs ys : List Op) → Changing a xs b → Changing b ys c → Changing a (xs ++ ys) c
-changing_append a b c [] ys h k = subst (λ (x : Chain). Changing x ys c) h k
+pub changing_append : (a b c : Chain) (xs ys : List Op) → IsChangedBy a xs b → IsChangedBy b ys c → IsChangedBy a (xs ++ ys) c
+changing_append a b c [] ys h k = subst (λ (x : Chain). IsChangedBy x ys c) h k
 changing_append a b c (x ∷ xs) ys h k = (h.0, h.1, changing_append h.0 b c xs ys h.2 k)

@@ -10,7 +10,7 @@ use Rattle.mrpc_table.specs.Valid.{IsValid}
 use Rattle.mrpc_table.specs.declared.table.Table.{Table}
 use Rattle.run_plan.specs.Plans.{IsApplication, IsInbound, IsOwnPolicy, IsOwnSchema}
 use Rattle.run_plan.specs.Plans as plans
-use Rattle.run_plan.specs.Ports.{IsPort}
+use Rattle.run_plan.specs.Links.{HasNumbersInRange}
 use Rattle.run_plan.specs.declared.application.Application.{Application}
 use Rattle.run_plan.specs.declared.application.OwnPolicy.{OwnPolicy}
 use Rattle.run_plan.specs.declared.application.OwnSchema.{OwnSchema}
@@ -18,13 +18,13 @@ use Rattle.run_plan.specs.declared.limits.TheConstants.{MAX_CONNECTIONS, MAX_RIN
 use Rattle.run_plan.specs.declared.plan.Plan.{Plan}
 use Rattle.mrpc_table.specs.declared.limits.TheConstants.{MIN_HEAP, MAX_HEAP}
 use Rattle.toml.specs.Data.{Members}
-use Rattle.scenario_toml.specs.Values.{TheRange, number_in, text_at}
-use Rattle.scenario.specs.Applications.{AppAgainst, HasTable, app_tables, names_in, chain_of, submissions, work}
+use Rattle.scenario_toml.specs.Values.{TheIntegerRange, number_or_default, text_at}
+use Rattle.scenario.specs.Applications.{IsAppFault, HasTable, app_tables, policies_named_in, chain_names, entry_submissions, work_of_entries}
 use Rattle.scenario.specs.Applications as against
 use Rattle.scenario.specs.Keys.{app_ranges, conn, heap, loads, receive, ring, weight}
 use Rattle.scenario.specs.Lines.{program_role}
-use Rattle.scenario.specs.Reasons.{of_line}
-use Rattle.scenario.specs.Scenarios.{AppSays, OwnPolicySays, OwnSays, Says, place_of}
+use Rattle.scenario.specs.Reasons.{reason_of_line}
+use Rattle.scenario.specs.Scenarios.{IsAppMeaning, IsOwnPolicyMeaning, IsOwnMeaning, IsPlanOfScenario, policy_entry_index}
 use Rattle.scenario.specs.declared.fault.ScenarioReason.{ScenarioReason}
 use Rattle.scenario.specs.declared.fault.ScenarioReason.TheVariants.{Number, Work}
 use Rattle.scenario_laws.proofs.Alike.{Laws}
@@ -38,16 +38,16 @@ use Rattle.scenario_laws.proofs.Programs.{has_program, submissions_same}
 pub table_valid : (text : List ℕ) (T : Table) → HasTable text T → IsValid T
 table_valid text T h = h.resolves.table.valid
 
-module _ (all : Members) (plan : Plan) (says : Says all plan)
-    (own_is : (own : Table) (read : List OwnPolicy) → All (OwnPolicySays all own) read
+module _ (all : Members) (plan : Plan) (says : IsPlanOfScenario all plan)
+    (own_is : (own : Table) (read : List OwnPolicy) → All (IsOwnPolicyMeaning all own) read
     → All (IsOwnPolicy plan.table plan.declared.policies own) read)
     (laws : Laws) where
-  module _ (ms : Members) (app : Application) (is : AppSays all ms app) (in_apps : Contains (app_tables all) ms) (before : List Members)
-      (free : (q : ScenarioReason) → AppAgainst all plan.declared.policies before ms q → ⊥) where
-    fine : (r : TheRange) → Contains app_ranges r → IsIn r.least r.most (number_in r ms)
+  module _ (ms : Members) (app : Application) (is : IsAppMeaning all ms app) (in_apps : Contains (app_tables all) ms) (before : List Members)
+      (free : (q : ScenarioReason) → IsAppFault all plan.declared.policies before ms q → ⊥) where
+    fine : (r : TheIntegerRange) → Contains app_ranges r → IsIn r.least r.most (number_or_default r ms)
     fine r there = within r ms (λ out. free Number (against.out_of_range r there out refl))
 
-    port : IsPort app
+    port : HasNumbersInRange app
     port = record {
       conn = subst (IsIn 1 MAX_CONNECTIONS) (sym is.conn) (fine conn (0, omega arith, refl));
       heap = subst (IsIn MIN_HEAP MAX_HEAP) (sym is.heap) (fine heap (1, omega arith, refl));
@@ -56,7 +56,7 @@ module _ (all : Members) (plan : Plan) (says : Says all plan)
       weight = subst (IsIn 1 MAX_WEIGHT) (sym is.weight) (fine weight (4, omega arith, refl));
     }
 
-    own_by : (text : Option (List ℕ)) (own : Option OwnSchema) → OwnSays all ms text own → IfSome own (IsOwnSchema plan)
+    own_by : (text : Option (List ℕ)) (own : Option OwnSchema) → IsOwnMeaning all ms text own → IfSome own (IsOwnSchema plan)
     own_by None None h = tt
     own_by None (Some own) h = absurd h
     own_by (Some text) None h = absurd h
@@ -67,13 +67,13 @@ module _ (all : Members) (plan : Plan) (says : Says all plan)
     }
 
     inbound_from : (o : Option ℕ) (text : Option (List ℕ)) → text_at (codes "inbound") ms ≡ text
-        → map Some (option_to_list o) ≡ map (place_of all) (option_to_list text) → IfSome o (IsInbound plan app)
+        → map Some (option_to_list o) ≡ map (policy_entry_index all) (option_to_list text) → IfSome o (IsInbound plan app)
     inbound_from None text e same = tt
     inbound_from (Some place) None e same = absurd cc
     inbound_from (Some place) (Some name) e same =
-        let here : place_of all name ≡ Some place = cc in
-        let named : Contains (names_in ms) name =
-        Contains-append_right (chain_of ms) (option_to_list (text_at (codes "inbound") ms)) name
+        let here : policy_entry_index all name ≡ Some place = cc in
+        let named : Contains (policies_named_in ms) name =
+        Contains-append_right (chain_names ms) (option_to_list (text_at (codes "inbound") ms)) name
         (subst (λ (o : Option (List ℕ)). Contains (option_to_list o) name) (sym e) (there_first name [])) in
         inbound_by all plan.table plan.declared.policies says.policies own_is plan ms app before refl is free place name e here named
 
@@ -81,7 +81,7 @@ module _ (all : Members) (plan : Plan) (says : Says all plan)
     is_application = record {
       port = port;
       program = has_program ms app.heap app.role is.heap is.role (λ r q word role_is of_role h.
-          free (of_line q) (against.in_program r q (ap (option_and_then program_role) role_is ∙ of_role) h refl));
+          free (reason_of_line q) (against.in_program r q (ap (option_and_then program_role) role_is ∙ of_role) h refl));
       own = own_by (text_at (codes "schema") ms) app.own is.own;
       inbound = inbound_from app.inbound (text_at (codes "inbound") ms) refl is.inbound;
       chain = never_refuses all plan says own_is ms app is laws in_apps before free;
@@ -89,8 +89,8 @@ module _ (all : Members) (plan : Plan) (says : Says all plan)
 
   one_application : (app : Application) → Contains plan.applications app → IsApplication plan app
   one_application app there =
-      let entry = each_right (AppSays all) (app_tables all) plan.applications app says.applications there in
-      let free = free_of (AppAgainst all plan.declared.policies) (app_tables all) (apps_free all plan says) entry.0 entry.1 in
+      let entry = each_right (IsAppMeaning all) (app_tables all) plan.applications app says.applications there in
+      let free = free_of (IsAppFault all plan.declared.policies) (app_tables all) (apps_free all plan says) entry.0 entry.1 in
       is_application entry.0 app entry.2 entry.1 free.0 free.1
 
   pub are_applications : All (IsApplication plan) plan.applications
@@ -102,21 +102,21 @@ last_of : {X : Type 0} (x : X) (xs : List X) → (front : List X) × (last : X) 
 last_of x [] = ([], x, refl)
 last_of {X = X} x (y ∷ ys) = (let r = last_of y ys in (x ∷ r.0, r.1, ap (λ (zs : List X). x ∷ zs) r.2))
 
-module _ (all : Members) (plan : Plan) (says : Says all plan) where
-  entries_work : (entries : List Members) → app_tables all ≡ entries → work all entries ≤ MAX_WORK
+module _ (all : Members) (plan : Plan) (says : IsPlanOfScenario all plan) where
+  entries_work : (entries : List Members) → app_tables all ≡ entries → work_of_entries all entries ≤ MAX_WORK
   entries_work [] e = omega arith
   entries_work (m ∷ entries) e =
       let last = last_of m entries in
-      elim (cases_lt MAX_WORK (work all (m ∷ entries))) [
+      elim (cases_lt MAX_WORK (work_of_entries all (m ∷ entries))) [
         | inl more ↦
             absurd (apps_free all plan says last.0 last.1 (length last.0 + 1) Work (record { back = []; whole = e ∙ last.2; is_number = refl })
-            (against.too_much (subst (λ (xs : List Members). MAX_WORK < work all xs) last.2 more) refl))
+            (against.too_much (subst (λ (xs : List Members). MAX_WORK < work_of_entries all xs) last.2 more) refl))
         | inr fine ↦ fine
       ]
 
   pub work_fine : plans.work plan.loads plan.applications ≤ MAX_WORK
   work_fine =
-      let submitted = each_map (AppSays all) submissions (λ (app : Application). plans.submissions app.role) (λ x y r. submissions_same x y.role r.role)
+      let submitted = each_map (IsAppMeaning all) entry_submissions (λ (app : Application). plans.submission_count app.role) (λ x y r. submissions_same x y.role r.role)
       (app_tables all) plan.applications says.applications in
-      subst (λ (n : ℕ). 2 * sum (map (λ (app : Application). plans.submissions app.role) plan.applications) * n ≤ MAX_WORK) (sym says.loads)
-      (subst (λ (ns : List ℕ). 2 * sum ns * number_in loads all ≤ MAX_WORK) submitted (entries_work (app_tables all) refl))
+      subst (λ (n : ℕ). 2 * sum (map (λ (app : Application). plans.submission_count app.role) plan.applications) * n ≤ MAX_WORK) (sym says.loads)
+      (subst (λ (ns : List ℕ). 2 * sum ns * number_or_default loads all ≤ MAX_WORK) submitted (entries_work (app_tables all) refl))

@@ -10,29 +10,29 @@ use Rattle.engine_core.specs.Chains.{Chain, IsChain}
 use Rattle.engine_core.specs.declared.op.Op.{Op}
 use Rattle.engine_core.specs.declared.op.Op.TheVariants as op
 use Rattle.engine_core.specs.declared.policy.Policy.{Policy}
-use Rattle.policy_declarations.specs.declared.item.NamedPolicy.{NamedPolicy}
-use Rattle.run_plan.specs.Chains.{Changing, NeverRefuses, chained, empty_chain, label_at, lines_on, op_of, operator_in, policy_of, steps_in, with_policy}
+use Rattle.policy_declarations.specs.declared.declaration.NamedPolicy.{NamedPolicy}
+use Rattle.run_plan.specs.Chains.{IsChangedBy, AreNeverRefused, attach_lines, empty_chain, policy_name_at, chain_lines, op_of, operator_in, app_policy, steps_of_operator, with_policy}
 use Rattle.run_plan.specs.Plans.{IsOwnPolicy}
 use Rattle.run_plan.specs.declared.application.Application.{Application}
 use Rattle.run_plan.specs.declared.application.OwnPolicy.{OwnPolicy}
 use Rattle.run_plan.specs.declared.operator.Operator.{Operator}
-use Rattle.run_plan.specs.declared.operator.Step.{Step}
+use Rattle.run_plan.specs.declared.operator.OperatorStep.{OperatorStep}
 use Rattle.run_plan.specs.declared.operator.StepLine.{StepLine}
 use Rattle.run_plan.specs.declared.operator.StepLine.TheVariants as step_line
 use Rattle.run_plan.specs.declared.plan.Plan.{Plan}
 use Rattle.toml.specs.Data.{Members}
 use Rattle.scenario_lines.specs.Programs.{Each}
-use Rattle.scenario_lines.specs.Steps.{StepSays as LineTells}
+use Rattle.scenario_lines.specs.StepLines.{IsStepTextMeaning as LineTells}
 use Rattle.scenario_lines.specs.declared.step.StepText.{StepText}
 use Rattle.scenario_lines.specs.declared.step.StepText.TheVariants as text
 use Rattle.scenario_toml.specs.Values.{text_at}
-use Rattle.scenario.specs.Applications.{AppAgainst, AreAttached, app_tables, chain_of, conn_of, names_in, operator_tables}
+use Rattle.scenario.specs.Applications.{IsAppFault, AreAttached, app_tables, chain_names, entry_conn, policies_named_in, operator_tables}
 use Rattle.scenario.specs.Applications as against_app
-use Rattle.scenario.specs.Lines.{policy_in}
-use Rattle.scenario.specs.Operators.{IsAttach, IsUpgrade, OperatorAgainst, Steps, steps_of}
+use Rattle.scenario.specs.Lines.{step_policy}
+use Rattle.scenario.specs.Operators.{IsAttach, IsUpgrade, IsOperatorFault, IsOpOfLine, step_lines_of}
 use Rattle.scenario.specs.Operators as against
-use Rattle.scenario.specs.Reasons.{of_refusal}
-use Rattle.scenario.specs.Scenarios.{AppSays, IsUsed, OperatorSays, OwnPolicySays, Says, StepLineSays, StepSays, by_app, by_step, place_of}
+use Rattle.scenario.specs.Reasons.{scenario_reason_of_refusal}
+use Rattle.scenario.specs.Scenarios.{IsAppMeaning, IsUsed, IsOperatorMeaning, IsOwnPolicyMeaning, IsPlanOfScenario, IsStepLineMeaning, IsStepMeaning, by_app, by_step, policy_entry_index}
 use Rattle.scenario.specs.declared.fault.ScenarioReason.{ScenarioReason}
 use Rattle.scenario_laws.proofs.Alike.{AreAlike, Laws, attaches, changing_append, changing_sound, detaches, follow, upgrades, walk}
 use Rattle.scenario_laws.proofs.Free.{operators_free}
@@ -44,12 +44,12 @@ empty_sound = record { few = omega arith; names = tt; attachments = tt; numbered
 
 -- ---- steps, by their text
 
-told_attach : (told : StepText) (at : ℕ) (name policy : List ℕ) → IsAttach told at name policy → policy_in told ≡ Some policy
+told_attach : (told : StepText) (at : ℕ) (name policy : List ℕ) → IsAttach told at name policy → step_policy told ≡ Some policy
 told_attach (text.Attach count d n p) at name policy h = ap (λ (x : List ℕ). Some x) h.2
 told_attach (text.Detach count n) at name policy h = absurd h
 told_attach (text.Upgrade count n p) at name policy h = absurd h
 
-told_upgrade : (told : StepText) (name policy : List ℕ) → IsUpgrade told name policy → policy_in told ≡ Some policy
+told_upgrade : (told : StepText) (name policy : List ℕ) → IsUpgrade told name policy → step_policy told ≡ Some policy
 told_upgrade (text.Attach count d n p) name policy h = absurd h
 told_upgrade (text.Detach count n) name policy h = absurd h
 told_upgrade (text.Upgrade count n p) name policy h = ap (λ (x : List ℕ). Some x) h.1
@@ -57,10 +57,10 @@ told_upgrade (text.Upgrade count n p) name policy h = ap (λ (x : List ℕ). Som
 unwrapped : (o : Option (List ℕ)) (word : List ℕ) → o ≡ Some word → unwrap_or o [] ≡ word
 unwrapped o word e = ap (λ (l : Option (List ℕ)). unwrap_or l []) e
 
-module _ (all : Members) (plan : Plan) (says : Says all plan)
-    (own_is : (own : Table) (read : List OwnPolicy) → All (OwnPolicySays all own) read
+module _ (all : Members) (plan : Plan) (says : IsPlanOfScenario all plan)
+    (own_is : (own : Table) (read : List OwnPolicy) → All (IsOwnPolicyMeaning all own) read
     → All (IsOwnPolicy plan.table plan.declared.policies own) read)
-    (ms : Members) (app : Application) (is : AppSays all ms app) where
+    (ms : Members) (app : Application) (is : IsAppMeaning all ms app) where
   abbrev D : List NamedPolicy
   D = plan.declared.policies
 
@@ -100,22 +100,22 @@ module _ (all : Members) (plan : Plan) (says : Says all plan)
     alike = each_append os a.own ps b.own a.alike b.alike;
   }
 
-  had : (name : List ℕ) (place : ℕ) → IsUsed all ms place → place_of all name ≡ Some place → IsHad D app.own place
+  had : (name : List ℕ) (place : ℕ) → IsUsed all ms place → policy_entry_index all name ≡ Some place → IsHad D app.own place
   had name place used e = is_had all plan.table D says.policies own_is ms app name place is used e
 
   -- the name of the policy at the index of a name
-  had_name : (name : List ℕ) (place : ℕ) (h : IsHad D app.own place) → place_of all name ≡ Some place → h.p.name ≡ name
+  had_name : (name : List ℕ) (place : ℕ) (h : IsHad D app.own place) → policy_entry_index all name ≡ Some place → h.p.name ≡ name
   had_name name place h e =
       let at = named_at all plan.table D says.policies own_is name place e in
       ap (λ (x : NamedPolicy). x.name) (same_Some h.p at.p (sym h.at ∙ at.there)) ∙ at.said.name ∙ at.named
 
-  labelled : (place : ℕ) (h : IsHad D app.own place) → label_at D place ≡ Some h.p.name
+  labelled : (place : ℕ) (h : IsHad D app.own place) → policy_name_at D place ≡ Some h.p.name
   labelled place h = ap (option_map (λ (p : NamedPolicy). p.name)) h.at
 
   op_with : (f : List ℕ → Policy → Op) (place : ℕ) (h : IsHad D app.own place)
-      → with_policy f (label_at D place) (policy_of plan app place) ≡ Some (f h.p.name h.judge)
+      → with_policy f (policy_name_at D place) (app_policy plan app place) ≡ Some (f h.p.name h.judge)
   op_with f place h =
-      ap (λ (l : Option (List ℕ)). with_policy f l (policy_of plan app place)) (labelled place h)
+      ap (λ (l : Option (List ℕ)). with_policy f l (app_policy plan app place)) (labelled place h)
       ∙ ap (with_policy f (Some h.p.name)) h.judges
 
   -- ---- its own attachments
@@ -123,50 +123,50 @@ module _ (all : Members) (plan : Plan) (says : Says all plan)
   record Attached (at : ℕ) (places : List ℕ) (names : List (List ℕ)) : Type 0 where
     ops : List Op
     attached : AreAttached D at names ops
-    lines : AreOps (chained D at places) ops
+    lines : AreOps (attach_lines D at places) ops
 
   module _ (at place : ℕ) (name : List ℕ) (h : IsHad D app.own place) (named : h.p.name ≡ name) where
     abbrev line_here : StepLine
-    line_here = step_line.Attach at (unwrap_or (label_at D place) []) place
+    line_here = step_line.Attach at (unwrap_or (policy_name_at D place) []) place
 
     attached_here : (p : NamedPolicy) × Contains D p × (p.name ≡ name) × (op.Attach at name name h.p.policy ≡ op.Attach at name name p.policy)
     attached_here = (h.p, get_there D place h.p h.at, named, refl)
 
-    alike_here : AreAlike (op.Attach at name name h.p.policy) (op.Attach at (unwrap_or (label_at D place) []) h.p.name h.judge)
+    alike_here : AreAlike (op.Attach at name name h.p.policy) (op.Attach at (unwrap_or (policy_name_at D place) []) h.p.name h.judge)
     alike_here =
         attaches at name name h.p.name h.p.policy h.judge h.sorts refl
-        (ap (λ (n : List ℕ). op.Attach at n h.p.name h.judge) (unwrapped (label_at D place) h.p.name (labelled place h) ∙ named))
+        (ap (λ (n : List ℕ). op.Attach at n h.p.name h.judge) (unwrapped (policy_name_at D place) h.p.name (labelled place h) ∙ named))
 
     more_attached : (places : List ℕ) (names : List (List ℕ)) → Attached (at + 1) places names → Attached at (place ∷ places) (name ∷ names)
     more_attached places names more = record {
       ops = op.Attach at name name h.p.policy ∷ more.ops;
       attached = (attached_here, more.attached);
-      lines = more_ops line_here (op.Attach at name name h.p.policy) (op.Attach at (unwrap_or (label_at D place) []) h.p.name h.judge)
-          (chained D (at + 1) places) more.ops (op_with (op.Attach at (unwrap_or (label_at D place) [])) place h) alike_here more.lines;
+      lines = more_ops line_here (op.Attach at name name h.p.policy) (op.Attach at (unwrap_or (policy_name_at D place) []) h.p.name h.judge)
+          (attach_lines D (at + 1) places) more.ops (op_with (op.Attach at (unwrap_or (policy_name_at D place) [])) place h) alike_here more.lines;
     }
 
-  attach_all : (at : ℕ) (places : List ℕ) (names : List (List ℕ)) → map Some places ≡ map (place_of all) names
-      → ((name : List ℕ) → Contains names name → Contains (names_in ms) name) → Attached at places names
+  attach_all : (at : ℕ) (places : List ℕ) (names : List (List ℕ)) → map Some places ≡ map (policy_entry_index all) names
+      → ((name : List ℕ) → Contains names name → Contains (policies_named_in ms) name) → Attached at places names
   attach_all at [] [] e used = record { ops = []; attached = tt; lines = none_ops }
   attach_all at [] (name ∷ names) e used = absurd cc
   attach_all at (place ∷ places) [] e used = absurd cc
   attach_all at (place ∷ places) (name ∷ names) e used =
-      let here : place_of all name ≡ Some place = cc in
-      let rest : map Some places ≡ map (place_of all) names = cc in
+      let here : policy_entry_index all name ≡ Some place = cc in
+      let rest : map Some places ≡ map (policy_entry_index all) names = cc in
       let h = had name place (by_app name (used name (there_first name names)) here) here in
       more_attached at place name h (had_name name place h here) places names
       (attach_all (at + 1) places names rest (λ n there. used n (there_more name names n there)))
 
   -- ---- the steps of its operator
 
-  module _ (operator : Members) (there : Contains (operator_tables all) operator) (on : conn_of operator ≡ conn_of ms) where
-    used_by : (line : List ℕ) (told : StepText) (policy : List ℕ) (place : ℕ) → Contains (steps_of operator) line → LineTells line told
-        → policy_in told ≡ Some policy → place_of all policy ≡ Some place → IsUsed all ms place
+  module _ (operator : Members) (there : Contains (operator_tables all) operator) (on : entry_conn operator ≡ entry_conn ms) where
+    used_by : (line : List ℕ) (told : StepText) (policy : List ℕ) (place : ℕ) → Contains (step_lines_of operator) line → LineTells line told
+        → step_policy told ≡ Some policy → policy_entry_index all policy ≡ Some place → IsUsed all ms place
     used_by line told policy place in_lines tells names e =
         by_step policy operator there on (record { line = line; there = in_lines; told = told; says = tells; policy = names }) e
 
-    step_by : (line : List ℕ) (told : StepText) (l : StepLine) → Contains (steps_of operator) line → LineTells line told → StepLineSays all told l
-        → (o : Op) × (o' : Op) × Steps D line o × (op_of plan app l ≡ Some o') × AreAlike o o'
+    step_by : (line : List ℕ) (told : StepText) (l : StepLine) → Contains (step_lines_of operator) line → LineTells line told → IsStepLineMeaning all told l
+        → (o : Op) × (o' : Op) × IsOpOfLine D line o × (op_of plan app l ≡ Some o') × AreAlike o o'
     step_by line told (step_line.Attach at name place) in_lines tells h =
         let used = used_by line told h.0 place in_lines tells (told_attach told at name h.0 h.1) h.2 in
         let p = had h.0 place used h.2 in
@@ -190,13 +190,13 @@ module _ (all : Members) (plan : Plan) (says : Says all plan)
           upgrades name p.p.name p.p.name p.p.policy p.judge p.sorts refl refl,
         )
 
-    record SteppedAll (lines : List (List ℕ)) (steps : List Step) : Type 0 where
+    record SteppedAll (lines : List (List ℕ)) (steps : List OperatorStep) : Type 0 where
       ops : List Op
-      each : Each (Steps D) lines ops
+      each : Each (IsOpOfLine D) lines ops
       are : AreOps (map (λ s. s.line) steps) ops
 
-    step_all : (lines : List (List ℕ)) (steps : List Step) → ((line : List ℕ) → Contains lines line → Contains (steps_of operator) line)
-        → Each (StepSays all) lines steps → SteppedAll lines steps
+    step_all : (lines : List (List ℕ)) (steps : List OperatorStep) → ((line : List ℕ) → Contains lines line → Contains (step_lines_of operator) line)
+        → Each (IsStepMeaning all) lines steps → SteppedAll lines steps
     step_all [] [] within e = record { ops = []; each = tt; are = none_ops }
     step_all [] (s ∷ steps) within e = absurd e
     step_all (line ∷ lines) [] within e = absurd e
@@ -211,43 +211,43 @@ module _ (all : Members) (plan : Plan) (says : Says all plan)
 
   -- ---- both together
 
-  module _ (laws : Laws) (in_apps : Contains (app_tables all) ms) (before : List Members) (free : (q : ScenarioReason) → AppAgainst all D before ms q → ⊥) where
-    first : Attached 0 app.chain (chain_of ms)
-    first = attach_all 0 app.chain (chain_of ms) is.chain (λ name there. Contains-append_left (chain_of ms) (option_to_list (text_at (codes "inbound") ms)) name there)
+  module _ (laws : Laws) (in_apps : Contains (app_tables all) ms) (before : List Members) (free : (q : ScenarioReason) → IsAppFault all D before ms q → ⊥) where
+    first : Attached 0 app.chain (chain_names ms)
+    first = attach_all 0 app.chain (chain_names ms) is.chain (λ name there. Contains-append_left (chain_names ms) (option_to_list (text_at (codes "inbound") ms)) name there)
 
-    begun : (start : Chain) × Changing empty_chain first.ops start
-    begun = walk laws empty_chain first.ops empty_sound (λ r f. free (of_refusal r) (against_app.is_refused first.ops r first.attached f refl))
+    begun : (start : Chain) × IsChangedBy empty_chain first.ops start
+    begun = walk laws empty_chain first.ops empty_sound (λ r f. free (scenario_reason_of_refusal r) (against_app.is_refused first.ops r first.attached f refl))
 
     start_sound : IsChain begun.0
     start_sound = changing_sound laws empty_chain begun.0 first.ops empty_sound begun.1
 
     -- operations with the plan's policies change the chain, so those with the connection's own do
-    never : (lines : List StepLine) (ops : List Op) (after : Chain) → AreOps lines ops → Changing empty_chain ops after → NeverRefuses plan app lines
+    never : (lines : List StepLine) (ops : List Op) (after : Chain) → AreOps lines ops → IsChangedBy empty_chain ops after → AreNeverRefused plan app lines
     never lines ops after are change =
         let own = follow laws empty_chain empty_chain ops are.own after empty_sound empty_sound refl are.alike change in
         record { ops = are.own; stand_for = are.stand_for; after = own.0; change = own.1 }
 
     with_operator : (operator : Operator) → Contains plan.operators operator → operator.conn ≡ app.conn
-        → NeverRefuses plan app (chained D 0 app.chain ++ map (λ s. s.line) operator.steps)
+        → AreNeverRefused plan app (attach_lines D 0 app.chain ++ map (λ s. s.line) operator.steps)
     with_operator operator there on =
-        let entry = each_right (OperatorSays all) (operator_tables all) plan.operators operator says.operators there in
-        let same : conn_of entry.0 ≡ conn_of ms = sym entry.2.conn ∙ on ∙ is.conn in
-        let steps = step_all entry.0 entry.1 same (steps_of entry.0) operator.steps (λ l h. h) entry.2.steps in
-        let none = free_of (OperatorAgainst all D) (operator_tables all) (operators_free all plan says) entry.0 entry.1 in
-        let rest = walk laws begun.0 steps.ops start_sound (λ r f. none.1 (of_refusal r)
+        let entry = each_right (IsOperatorMeaning all) (operator_tables all) plan.operators operator says.operators there in
+        let same : entry_conn entry.0 ≡ entry_conn ms = sym entry.2.conn ∙ on ∙ is.conn in
+        let steps = step_all entry.0 entry.1 same (step_lines_of entry.0) operator.steps (λ l h. h) entry.2.steps in
+        let none = free_of (IsOperatorFault all D) (operator_tables all) (operators_free all plan says) entry.0 entry.1 in
+        let rest = walk laws begun.0 steps.ops start_sound (λ r f. none.1 (scenario_reason_of_refusal r)
         (against.is_refused ms first.ops steps.ops begun.0 r in_apps (sym same) first.attached begun.1 steps.each f refl)) in
-        never (chained D 0 app.chain ++ map (λ s. s.line) operator.steps) (first.ops ++ steps.ops) rest.0
-        (append_ops (chained D 0 app.chain) (map (λ s. s.line) operator.steps) first.ops steps.ops first.lines steps.are)
+        never (attach_lines D 0 app.chain ++ map (λ s. s.line) operator.steps) (first.ops ++ steps.ops) rest.0
+        (append_ops (attach_lines D 0 app.chain) (map (λ s. s.line) operator.steps) first.ops steps.ops first.lines steps.are)
         (changing_append empty_chain begun.0 rest.0 first.ops steps.ops begun.1 rest.1)
 
     by_operator : (o : Option Operator) → operator_in plan.operators app.conn ≡ o
-        → NeverRefuses plan app (chained D 0 app.chain ++ map (λ s. s.line) (steps_in o))
+        → AreNeverRefused plan app (attach_lines D 0 app.chain ++ map (λ s. s.line) (steps_of_operator o))
     by_operator None e =
-        never (chained D 0 app.chain ++ []) (first.ops ++ []) begun.0 (append_ops (chained D 0 app.chain) [] first.ops [] first.lines none_ops)
+        never (attach_lines D 0 app.chain ++ []) (first.ops ++ []) begun.0 (append_ops (attach_lines D 0 app.chain) [] first.ops [] first.lines none_ops)
         (changing_append empty_chain begun.0 begun.0 first.ops [] begun.1 refl)
     by_operator (Some operator) e =
         let h = found_there (λ (o : Operator). o.conn == app.conn) plan.operators operator e in
         with_operator operator h.0 (eqb-true operator.conn app.conn h.1)
 
-    pub never_refuses : NeverRefuses plan app (lines_on plan app)
+    pub never_refuses : AreNeverRefused plan app (chain_lines plan app)
     never_refuses = by_operator (operator_in plan.operators app.conn) refl

@@ -9,8 +9,8 @@ use Rattle.std.proofs.lemmas.List.Quantifiers.{position-Some}
 use Rattle.std.proofs.lemmas.Option.{same_Some, slice_get-get_or}
 use Rattle.std.proofs.lemmas.Slice.Eq.{bytes_eq-Decides}
 use Rattle.toml.specs.Data.{Members, no_members}
-use Rattle.scenario.specs.Policies.{name_of, names_of}
-use Rattle.scenario.specs.Scenarios.{StandsAt}
+use Rattle.scenario.specs.Policies.{entry_name, entry_names}
+use Rattle.scenario.specs.Scenarios.{IsEntryAt}
 use Rattle.scenario.specs.declared.fault.ScenarioReason.{ScenarioReason}
 use Rattle.scenario_lines.specs.Programs.{Each}
 
@@ -82,37 +82,37 @@ get_there (y ∷ ys) (suc i) x e = there_more y ys x (get_there ys i x e)
 pub record IsNamedAt (entries : List Members) (name : List ℕ) (place : ℕ) : Type 0 where
   pub entry : Members
   pub at : slice_get entries place ≡ Some entry
-  pub named : name_of entry ≡ name
+  pub named : entry_name entry ≡ name
   pub within : place < length entries
 
 abbrev place_in : List Members → List ℕ → Option ℕ
-place_in entries name = position (λ ms. bytes_eq (name_of ms) name) entries
+place_in entries name = position (λ ms. bytes_eq (entry_name ms) name) entries
 
 pub named_at : (entries : List Members) (name : List ℕ) (place : ℕ) → place_in entries name ≡ Some place → IsNamedAt entries name place
 named_at entries name place e =
-    let h = position-Some (λ (ms : Members). bytes_eq (name_of ms) name) entries place no_members e in
+    let h = position-Some (λ (ms : Members). bytes_eq (entry_name ms) name) entries place no_members e in
     record {
       entry = get_or entries place no_members;
       at = slice_get-get_or entries place no_members h.0;
-      named = (bytes_eq-Decides (name_of (get_or entries place no_members)) name).0 h.1;
+      named = (bytes_eq-Decides (entry_name (get_or entries place no_members)) name).0 h.1;
       within = h.0;
     }
 
 -- the number of entries before the first one with the name
 abbrev in_front : List ℕ → List Members → ℕ
-in_front name entries = position_or_len (λ ms. bytes_eq (name_of ms) name) entries
+in_front name entries = position_or_len (λ ms. bytes_eq (entry_name ms) name) entries
 
-front_by : (name : List ℕ) (ms : Members) (entries : List Members) (b : Bool) → bytes_eq (name_of ms) name ≡ b
+front_by : (name : List ℕ) (ms : Members) (entries : List Members) (b : Bool) → bytes_eq (entry_name ms) name ≡ b
     → in_front name (ms ∷ entries) ≡ cond (not b) (1 + in_front name entries) 0
 front_by name ms entries b e = ap (λ (t : Bool). cond (not t) (1 + in_front name entries) 0) e
 
-front_within : (name : List ℕ) (entries : List Members) (k : ℕ) → k < length (names_of entries) → get_or (names_of entries) k name ≡ name
+front_within : (name : List ℕ) (entries : List Members) (k : ℕ) → k < length (entry_names entries) → get_or (entry_names entries) k name ≡ name
     → in_front name entries < length entries
 front_within name [] k within at = absurd (omega (arith, within))
 front_within name (ms ∷ entries) zero within at =
-    let here = front_by name ms entries true ((bytes_eq-Decides (name_of ms) name).1 at) in
+    let here = front_by name ms entries true ((bytes_eq-Decides (entry_name ms) name).1 at) in
     omega (arith, here)
-front_within name (ms ∷ entries) (suc k) within at = elim (cases_Bool (bytes_eq (name_of ms) name)) [
+front_within name (ms ∷ entries) (suc k) within at = elim (cases_Bool (bytes_eq (entry_name ms) name)) [
   | inl is ↦ (let here = front_by name ms entries true is in omega (arith, here))
   | inr isnt ↦
       let here = front_by name ms entries false isnt in
@@ -121,7 +121,7 @@ front_within name (ms ∷ entries) (suc k) within at = elim (cases_Bool (bytes_e
 ]
 
 -- a name that can't be missing has an index
-pub placed : (entries : List Members) (name : List ℕ) → CanBe (Contains (names_of entries) name) → (place : ℕ) × (place_in entries name ≡ Some place)
+pub placed : (entries : List Members) (name : List ℕ) → CanBe (Contains (entry_names entries) name) → (place : ℕ) × (place_in entries name ≡ Some place)
 placed entries name h = elim (cases_lt (in_front name entries) (length entries)) [
   | inl within ↦ (in_front name entries, ap (λ (b : Bool). cond b (Some (in_front name entries)) None) (lt-ltb _ _ within))
   | inr past ↦ absurd (h (λ there. let within = front_within name entries there.0 there.1 there.2 in absurd (omega (arith, past, within))))
@@ -132,7 +132,7 @@ placed entries name h = elim (cases_lt (in_front name entries) (length entries))
 -- none of the entries has a fault
 abbrev pub AreFree : (List Members → Members → ScenarioReason → Type 0) → List Members → Type 0
 AreFree Against entries =
-    (before : List Members) (ms : Members) (n : ℕ) (q : ScenarioReason) → StandsAt entries before ms n → Against before ms q → ⊥
+    (before : List Members) (ms : Members) (n : ℕ) (q : ScenarioReason) → IsEntryAt entries before ms n → Against before ms q → ⊥
 
 -- none has a fault after the earlier ones
 pub free_of : (Against : List Members → Members → ScenarioReason → Type 0) (entries : List Members) → AreFree Against entries → (ms : Members)

@@ -8,9 +8,9 @@ use Rattle.std.proofs.lemmas.List.Elements.{Contains-append_right, Contains-get_
 use Rattle.std.proofs.lemmas.Option.{same_Some}
 use Rattle.mrpc_table.specs.Valid.{AreDistinct}
 use Rattle.toml.specs.Data.{Members}
-use Rattle.scenario.specs.Scenarios.{StandsAt}
+use Rattle.scenario.specs.Scenarios.{IsEntryAt}
 use Rattle.scenario.specs.declared.fault.ScenarioReason.{ScenarioReason}
-use Rattle.scenario_entries.specs.Entries.{AreFree}
+use Rattle.scenario_entries.specs.Entries.{AreFaultFree}
 use Rattle.scenario_lines.specs.Programs.{Each}
 
 -- ---- what a list contains
@@ -203,12 +203,12 @@ module _ {X Y : Type 0} (R : X → Y → Type 0) where
 
 -- ---- entries
 
-stands : (entries : List Members) (ms : Members) → Contains entries ms → (before : List Members) × (n : ℕ) × StandsAt entries before ms n
+stands : (entries : List Members) (ms : Members) → Contains entries ms → (before : List Members) × (n : ℕ) × IsEntryAt entries before ms n
 stands entries ms there =
     let s = split_there entries ms there in
     (s.0, length s.0 + 1, record { back = s.1; whole = s.2; is_number = refl })
 
 -- an entry that follows the earlier ones has no fault
-pub free_of : (Against : List Members → Members → ScenarioReason → Type 0) (entries : List Members) → AreFree Against entries → (ms : Members)
+pub free_of : (Against : List Members → Members → ScenarioReason → Type 0) (entries : List Members) → AreFaultFree Against entries → (ms : Members)
     → Contains entries ms → (before : List Members) × ((q : ScenarioReason) → Against before ms q → ⊥)
 free_of Against entries free ms there = let s = stands entries ms there in (s.0, λ q h. free s.0 ms s.1 q s.2 h)

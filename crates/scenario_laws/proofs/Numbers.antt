@@ -6,16 +6,16 @@ use Rattle.std.proofs.lemmas.Map.Steps.{length-le_from_distinct_below}
 use Rattle.mrpc_table.specs.Valid.{AreDistinct}
 use Rattle.mrpc_table.specs.Lines.{IsIn}
 use Rattle.toml.specs.Data.{Members}
-use Rattle.scenario_toml.specs.Values.{TheRange, integer_in, is_out, is_within, natural, number_in}
+use Rattle.scenario_toml.specs.Values.{TheIntegerRange, integer_in, is_out, is_in_range, natural_or_zero, number_or_default}
 use Rattle.scenario_laws.proofs.Lists.{there_first, there_more}
 
-in_range : (least most : ℕ) (z : ℤ) → is_within least most z ≡ true → IsIn least most (natural z)
+in_range : (least most : ℕ) (z : ℤ) → is_in_range least most z ≡ true → IsIn least most (natural_or_zero z)
 in_range least most (pos n) e = let both = and_parts _ _ e in (leb-true _ _ both.0, leb-true _ _ both.1)
 in_range least most _ e = absurd cc
 
-pub within : (r : TheRange) (ms : Members) → (is_out ms r ≡ true → ⊥) → IsIn r.least r.most (number_in r ms)
+pub within : (r : TheIntegerRange) (ms : Members) → (is_out ms r ≡ true → ⊥) → IsIn r.least r.most (number_or_default r ms)
 within r ms fine =
-    in_range r.least r.most (integer_in r ms) (not-false (is_within r.least r.most (integer_in r ms)) (false_from_ne_true (is_out ms r) fine))
+    in_range r.least r.most (integer_in r ms) (not-false (is_in_range r.least r.most (integer_in r ms)) (false_from_ne_true (is_out ms r) fine))
 
 -- ---- distinct numbers below a bound are few
 

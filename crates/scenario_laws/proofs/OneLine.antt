@@ -7,33 +7,33 @@ use Rattle.mrpc_table.specs.declared.words.Decimal.{Decimal}
 use Rattle.mrpc_table.specs.declared.words.Decimal.TheVariants.{Small, Large}
 use Rattle.app_program.specs.declared.program.ProgramLine.{ProgramLine}
 use Rattle.app_program.specs.declared.program.ProgramLine.TheVariants as program
-use Rattle.script_grammar.specs.Lines.{AreSaid}
-use Rattle.script_grammar.specs.Sorts.{Meaning}
-use Rattle.script_grammar.specs.declared.sort.Sort.{Sort}
-use Rattle.run_plan.specs.declared.operator.Step.{Step}
+use Rattle.script_grammar.specs.Lines.{HaveMeanings}
+use Rattle.script_grammar.specs.WordKinds.{Meaning}
+use Rattle.script_grammar.specs.declared.word_kind.WordKind.{WordKind}
+use Rattle.run_plan.specs.declared.operator.OperatorStep.{OperatorStep}
 use Rattle.run_plan.specs.declared.operator.StepLine.{StepLine}
 use Rattle.run_plan.specs.declared.operator.StepLine.TheVariants as step_line
 use Rattle.toml.specs.Data.{Members}
-use Rattle.scenario_lines.specs.Forms.{sorts_of, step_sorts}
-use Rattle.scenario_lines.specs.Lines.{FormSays, LineSays, behind}
-use Rattle.scenario_lines.specs.Steps.{FormTells}
-use Rattle.scenario_lines.specs.Steps.{StepSays as LineTells}
-use Rattle.scenario_lines.specs.declared.form.LineForm.{LineForm}
-use Rattle.scenario_lines.specs.declared.form.LineForm.TheVariants as line
+use Rattle.scenario_lines.specs.Forms.{line_sorts, step_sorts}
+use Rattle.scenario_lines.specs.Lines.{IsFormMeaning, IsProgramLineMeaning, words_after_first}
+use Rattle.scenario_lines.specs.StepLines.{IsStepFormMeaning}
+use Rattle.scenario_lines.specs.StepLines.{IsStepTextMeaning as LineTells}
+use Rattle.scenario_lines.specs.declared.form.ProgramForm.{ProgramForm}
+use Rattle.scenario_lines.specs.declared.form.ProgramForm.TheVariants as line
 use Rattle.scenario_lines.specs.declared.form.ProgramRole.{ProgramRole}
 use Rattle.scenario_lines.specs.declared.form.StepForm.{StepForm}
 use Rattle.scenario_lines.specs.declared.form.StepForm.TheVariants as step
 use Rattle.scenario_lines.specs.declared.step.StepText.{StepText}
 use Rattle.scenario_lines.specs.declared.step.StepText.TheVariants as text
 use Rattle.scenario.specs.Lines.{count_in}
-use Rattle.scenario.specs.Scenarios.{StepLineSays, StepSays, place_of}
+use Rattle.scenario.specs.Scenarios.{IsStepLineMeaning, IsStepMeaning, policy_entry_index}
 
 abbrev pub OneMeaning : Type 0
-OneMeaning = (sorts : List Sort) (words : List (List ℕ)) (ms ns : List Meaning) → AreSaid sorts words ms → AreSaid sorts words ns → ms ≡ ns
+OneMeaning = (sorts : List WordKind) (words : List (List ℕ)) (ms ns : List Meaning) → HaveMeanings sorts words ms → HaveMeanings sorts words ns → ms ≡ ns
 
 -- ---- lines of programs
 
-says_one : (heap : ℕ) (f : LineForm) (ms : List Meaning) (l k : ProgramLine) → FormSays heap f ms l → FormSays heap f ms k → l ≡ k
+says_one : (heap : ℕ) (f : ProgramForm) (ms : List Meaning) (l k : ProgramLine) → IsFormMeaning heap f ms l → IsFormMeaning heap f ms k → l ≡ k
 says_one heap line.Store ms (program.Store p v) (program.Store q w) h j = cc
 says_one heap line.Store ms (program.Store p v) _ h j = absurd j
 says_one heap line.Store ms _ k h j = absurd h
@@ -70,7 +70,7 @@ AreTold (text.Detach c n) (text.Detach c' n') = (c ≡ c') × (n.now ≡ n'.now)
 AreTold (text.Upgrade c n p) (text.Upgrade c' n' p') = (c ≡ c') × (n.now ≡ n'.now) × (p.now ≡ p'.now)
 AreTold _ _ = ⊥
 
-tells_one : (f : StepForm) (ms : List Meaning) (a b : StepText) → FormTells f ms a → FormTells f ms b → AreTold a b
+tells_one : (f : StepForm) (ms : List Meaning) (a b : StepText) → IsStepFormMeaning f ms a → IsStepFormMeaning f ms b → AreTold a b
 tells_one step.Attach ms (text.Attach c d n p) (text.Attach c' d' n' p') h j = (h.0 ∙ sym j.0, h.1 ∙ sym j.1, h.2 ∙ sym j.2, h.3 ∙ sym j.3)
 tells_one step.Attach ms (text.Attach c d n p) _ h j = absurd j
 tells_one step.Attach ms _ b h j = absurd h
@@ -96,10 +96,10 @@ upgrade_same : (n n' : List ℕ) (p p' : ℕ) → n ≡ n' → p ≡ p' → step
 upgrade_same n n' p p' b d = cc
 
 module _ (all : Members) where
-  same_place : (n n' : List ℕ) (p p' : ℕ) → place_of all n ≡ Some p → place_of all n' ≡ Some p' → n ≡ n' → p ≡ p'
-  same_place n n' p p' e f same = same_Some p p' (sym e ∙ ap (place_of all) same ∙ f)
+  same_place : (n n' : List ℕ) (p p' : ℕ) → policy_entry_index all n ≡ Some p → policy_entry_index all n' ≡ Some p' → n ≡ n' → p ≡ p'
+  same_place n n' p p' e f same = same_Some p p' (sym e ∙ ap (policy_entry_index all) same ∙ f)
 
-  line_one : (a b : StepText) (l k : StepLine) → AreTold a b → StepLineSays all a l → StepLineSays all b k → IsBounded l → IsBounded k → l ≡ k
+  line_one : (a b : StepText) (l k : StepLine) → AreTold a b → IsStepLineMeaning all a l → IsStepLineMeaning all b k → IsBounded l → IsBounded k → l ≡ k
   line_one (text.Attach c d n p) (text.Attach c' d' n' p') (step_line.Attach at m place) (step_line.Attach at' m' place') same h j within within' =
       attach_same at at' m m' place place'
       (same_position at at' d h.1.0 (same.1 ∙ j.1.0) within within')
@@ -130,26 +130,26 @@ module _ (all : Members) where
   line_one (text.Upgrade c n p) (text.Upgrade c' n' p') (step_line.Detach m) k same h j within within' = absurd h
 
 module _ (one : OneMeaning) where
-  pub one_line : (r : ProgramRole) (heap : ℕ) (text : List ℕ) (l k : ProgramLine) → LineSays r heap text l → LineSays r heap text k → l ≡ k
+  pub one_line : (r : ProgramRole) (heap : ℕ) (text : List ℕ) (l k : ProgramLine) → IsProgramLineMeaning r heap text l → IsProgramLineMeaning r heap text k → l ≡ k
   one_line r heap text l k a b =
       let form : a.form ≡ b.form = same_Some a.form b.form (sym a.is_line.form ∙ b.is_line.form) in
-      let same = one (sorts_of b.form) (behind (words_of text)) a.meanings b.meanings
-      (subst (λ (f : LineForm). AreSaid (sorts_of f) (behind (words_of text)) a.meanings) form a.is_line.said) b.is_line.said in
+      let same = one (line_sorts b.form) (words_after_first (words_of text)) a.meanings b.meanings
+      (subst (λ (f : ProgramForm). HaveMeanings (line_sorts f) (words_after_first (words_of text)) a.meanings) form a.is_line.said) b.is_line.said in
       says_one heap b.form b.meanings l k
-      (subst (λ (ms : List Meaning). FormSays heap b.form ms l) same (subst (λ (f : LineForm). FormSays heap f a.meanings l) form a.says)) b.says
+      (subst (λ (ms : List Meaning). IsFormMeaning heap b.form ms l) same (subst (λ (f : ProgramForm). IsFormMeaning heap f a.meanings l) form a.says)) b.says
 
   one_told : (line : List ℕ) (a b : StepText) → LineTells line a → LineTells line b → AreTold a b
   one_told line a b p q =
       let form : p.form ≡ q.form = same_Some p.form q.form (sym p.is_form ∙ q.is_form) in
       let same = one (step_sorts q.form) (words_of line) p.meanings q.meanings
-      (subst (λ (f : StepForm). AreSaid (step_sorts f) (words_of line) p.meanings) form p.said) q.said in
+      (subst (λ (f : StepForm). HaveMeanings (step_sorts f) (words_of line) p.meanings) form p.said) q.said in
       tells_one q.form q.meanings a b
-      (subst (λ (ms : List Meaning). FormTells q.form ms a) same (subst (λ (f : StepForm). FormTells f p.meanings a) form p.tells)) q.tells
+      (subst (λ (ms : List Meaning). IsStepFormMeaning q.form ms a) same (subst (λ (f : StepForm). IsStepFormMeaning f p.meanings a) form p.tells)) q.tells
 
-  pub one_step : (all : Members) (line : List ℕ) (s t : Step) → StepSays all line s → StepSays all line t → IsBounded s.line → IsBounded t.line → s ≡ t
+  pub one_step : (all : Members) (line : List ℕ) (s t : OperatorStep) → IsStepMeaning all line s → IsStepMeaning all line t → IsBounded s.line → IsBounded t.line → s ≡ t
   one_step all line s t h j within within' =
       let told = one_told line h.0 j.0 h.1 j.1 in
       let count : s.count ≡ t.count = h.2 ∙ same_count h.0 j.0 told ∙ sym j.2 in
       let lines = line_one all h.0 j.0 s.line t.line told h.3 j.3 within within' in
-      let made : ℕ → StepLine → Step = λ n l. record { count = n; line = l } in
+      let made : ℕ → StepLine → OperatorStep = λ n l. record { count = n; line = l } in
       ap (λ (n : ℕ). made n s.line) count ∙ ap (made t.count) lines

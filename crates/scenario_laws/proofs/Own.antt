@@ -4,22 +4,22 @@ use Rattle.std.proofs.Common.{Option, Some, None, refl, sym, ◌∙◌, subst, i
 use Rattle.std.specs.Prelude.{codes}
 use Rattle.std.proofs.lemmas.Bool.{cases_eq}
 use Rattle.std.proofs.lemmas.List.Elements.{Contains-get_or}
-use Rattle.mrpc_table.specs.Valid.{Ascends}
+use Rattle.mrpc_table.specs.Valid.{IsAscendingBy}
 use Rattle.mrpc_table.specs.declared.policy_lines.RuleReason.{RuleReason}
 use Rattle.mrpc_table.specs.declared.table.Table.{Table}
-use Rattle.policy_declarations.specs.declared.item.NamedPolicy.{NamedPolicy}
+use Rattle.policy_declarations.specs.declared.declaration.NamedPolicy.{NamedPolicy}
 use Rattle.run_plan.specs.declared.application.OwnPolicy.{OwnPolicy}
 use Rattle.run_plan.specs.declared.application.OwnSchema.{OwnSchema}
 use Rattle.toml.specs.Data.{Members}
 use Rattle.scenario_toml.specs.Values.{text_at}
-use Rattle.scenario.specs.Applications.{AppAgainst, FailsUnderOwn, HasTable, app_tables, names_in, operator_tables, policy_tables, tenant_tables}
+use Rattle.scenario.specs.Applications.{IsAppFault, HasFaultUnderOwn, HasTable, app_tables, policies_named_in, operator_tables, policy_tables, tenant_tables}
 use Rattle.scenario.specs.Applications as against_app
-use Rattle.scenario.specs.Keys.{kind_of}
-use Rattle.scenario.specs.Operators.{NamesPolicy, OperatorAgainst, steps_of}
+use Rattle.scenario.specs.Keys.{entry_kind}
+use Rattle.scenario.specs.Operators.{HasPolicyName, IsOperatorFault, step_lines_of}
 use Rattle.scenario.specs.Operators as against_operator
-use Rattle.scenario.specs.Policies.{LinesFail, name_of}
-use Rattle.scenario.specs.Reasons.{of_rule}
-use Rattle.scenario.specs.Scenarios.{IsUsed, OwnPolicySays, OwnSays, OwnSchemaSays, by_app, by_step, place_of}
+use Rattle.scenario.specs.Policies.{HasFaultyLine, entry_name}
+use Rattle.scenario.specs.Reasons.{reason_of_policy_line}
+use Rattle.scenario.specs.Scenarios.{IsUsed, IsOwnPolicyMeaning, IsOwnMeaning, IsOwnSchemaMeaning, by_app, by_step, policy_entry_index}
 use Rattle.scenario.specs.declared.fault.ScenarioReason.{ScenarioReason}
 use Rattle.scenario.specs.declared.fault.ScenarioReason.TheVariants.{Schema}
 use Rattle.scenario_laws.proofs.FaultyLists.{AreFree, CanBe, free_of, get_there, named_at, none_in, there_cases, there_first, there_more}
@@ -31,7 +31,7 @@ abbrev places : List OwnPolicy → List ℕ
 places ps = map (λ p. p.place) ps
 
 abbrev Ascend : List OwnPolicy → Type 0
-Ascend ps = Ascends (λ p q. p.place < q.place) ps
+Ascend ps = IsAscendingBy (λ p q. p.place < q.place) ps
 
 ascend_more : (p : OwnPolicy) (ps : List OwnPolicy) → Ascend ps → ((n : ℕ) → Contains (places ps) n → p.place < n) → Ascend (p ∷ ps)
 ascend_more p [] ascend low = tt
@@ -102,22 +102,22 @@ module _ (Used : ℕ → Type 0) (Says : OwnPolicy → Type 0) (makes : (n : ℕ
 
 module _ (access : AccessOrFault) (redact : RedactOrFault) (all : Members) (declared : List NamedPolicy)
     (fine : (ms : Members) → Contains (policy_tables all) ms → IsFine (tenant_tables all) ms)
-    (operators : AreFree (OperatorAgainst all declared) (operator_tables all))
+    (operators : AreFree (IsOperatorFault all declared) (operator_tables all))
     (ms : Members) (in_apps : Contains (app_tables all) ms) (before : List Members)
-    (free : (q : ScenarioReason) → AppAgainst all declared before ms q → ⊥) where
+    (free : (q : ScenarioReason) → IsAppFault all declared before ms q → ⊥) where
   module _ (text : List ℕ) (own : text_at (codes "schema") ms ≡ Some text) (T : Table) (has : HasTable text T) where
     -- a policy at an index has a meaning if its lines don't fail under the own table
-    says_at : (name : List ℕ) (place : ℕ) → place_of all name ≡ Some place
-        → ((entry : Members) → Contains (policy_tables all) entry → name_of entry ≡ name → (why : RuleReason) → LinesFail (kind_of entry) T entry why → ⊥)
-        → (p : OwnPolicy) × (p.place ≡ place) × OwnPolicySays all T p
+    says_at : (name : List ℕ) (place : ℕ) → policy_entry_index all name ≡ Some place
+        → ((entry : Members) → Contains (policy_tables all) entry → entry_name entry ≡ name → (why : RuleReason) → HasFaultyLine (entry_kind entry) T entry why → ⊥)
+        → (p : OwnPolicy) × (p.place ≡ place) × IsOwnPolicyMeaning all T p
     says_at name place e none =
         let h = named_at (policy_tables all) name place e in
         let there = get_there (policy_tables all) place h.entry h.at in
         let p = kind_says access redact (tenant_tables all) T h.entry (fine h.entry there) (none h.entry there h.named) in
         (record { place = place; policy = p.0 }, refl, record { entry = h.entry; there = h.at; policy = p.1 })
 
-    fails_by : (Named : List ℕ → Type 0) (name : List ℕ) → Named name → (entry : Members) → Contains (policy_tables all) entry → name_of entry ≡ name
-        → (why : RuleReason) → LinesFail (kind_of entry) T entry why → FailsUnderOwn all ms Named why
+    fails_by : (Named : List ℕ → Type 0) (name : List ℕ) → Named name → (entry : Members) → Contains (policy_tables all) entry → entry_name entry ≡ name
+        → (why : RuleReason) → HasFaultyLine (entry_kind entry) T entry why → HasFaultUnderOwn all ms Named why
     fails_by Named name is entry there named why fails = record {
       text = text;
       own = own;
@@ -129,33 +129,33 @@ module _ (access : AccessOrFault) (redact : RedactOrFault) (all : Members) (decl
       fails = fails;
     }
 
-    used_says : (place : ℕ) → IsUsed all ms place → (p : OwnPolicy) × (p.place ≡ place) × OwnPolicySays all T p
+    used_says : (place : ℕ) → IsUsed all ms place → (p : OwnPolicy) × (p.place ≡ place) × IsOwnPolicyMeaning all T p
     used_says place (by_app name there e) = says_at name place e (λ entry in_policies named why fails.
-        free (of_rule why) (against_app.in_policy why (fails_by (Contains (names_in ms)) name there entry in_policies named why fails) refl))
+        free (reason_of_policy_line why) (against_app.in_policy why (fails_by (Contains (policies_named_in ms)) name there entry in_policies named why fails) refl))
     used_says place (by_step name operator there on names e) = says_at name place e (λ entry in_policies named why fails.
-        let o = free_of (OperatorAgainst all declared) (operator_tables all) operators operator there in
-        o.1 (of_rule why) (against_operator.in_policy ms why in_apps (sym on)
-        (fails_by (NamesPolicy (steps_of operator)) name names entry in_policies named why fails) refl))
+        let o = free_of (IsOperatorFault all declared) (operator_tables all) operators operator there in
+        o.1 (reason_of_policy_line why) (against_operator.in_policy ms why in_apps (sym on)
+        (fails_by (HasPolicyName (step_lines_of operator)) name names entry in_policies named why fails) refl))
 
     used_within : (place : ℕ) → IsUsed all ms place → place < length (policy_tables all)
     used_within place (by_app name there e) = (named_at (policy_tables all) name place e).within
     used_within place (by_step name operator there on names e) = (named_at (policy_tables all) name place e).within
 
-    own_schema : CanBe ((own : OwnSchema) × OwnSchemaSays all ms text own)
-    own_schema never = picked (IsUsed all ms) (OwnPolicySays all T) used_says (length (policy_tables all)) 0 (λ ps. never (
+    own_schema : CanBe ((own : OwnSchema) × IsOwnSchemaMeaning all ms text own)
+    own_schema never = picked (IsUsed all ms) (IsOwnPolicyMeaning all T) used_says (length (policy_tables all)) 0 (λ ps. never (
       record { table = T; policies = ps.0 },
       record {
         table = has;
         used = λ place. (ps.1.used place, λ is. let within = used_within place is in ps.1.there place is (omega arith) (omega (arith, within)));
         ascend = ps.1.ascend;
-        policies = all_by (OwnPolicySays all T) ps.0 ps.1.says;
+        policies = all_by (IsOwnPolicyMeaning all T) ps.0 ps.1.says;
       },
     ))
 
-  own_by : (o : Option (List ℕ)) → text_at (codes "schema") ms ≡ o → CanBe ((own : Option OwnSchema) × OwnSays all ms o own)
+  own_by : (o : Option (List ℕ)) → text_at (codes "schema") ms ≡ o → CanBe ((own : Option OwnSchema) × IsOwnMeaning all ms o own)
   own_by None e never = never (None, tt)
   own_by (Some text) e never =
       free Schema (against_app.no_table text e (λ T has. own_schema text e T has (λ own. never (Some own.0, own.1))) refl)
 
-  pub own_says : CanBe ((own : Option OwnSchema) × OwnSays all ms (text_at (codes "schema") ms) own)
+  pub own_says : CanBe ((own : Option OwnSchema) × IsOwnMeaning all ms (text_at (codes "schema") ms) own)
   own_says = own_by (text_at (codes "schema") ms) refl

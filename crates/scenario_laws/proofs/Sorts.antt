@@ -5,7 +5,7 @@ use Rattle.mrpc_table.specs.declared.table.Table.{Table}
 use Rattle.engine_core.specs.Policies.{IsAccess, is_same_kind}
 use Rattle.engine_core.specs.declared.policy.Policy.{Policy}
 use Rattle.engine_core.specs.declared.policy.Policy.TheVariants as policy
-use Rattle.run_plan.specs.Chains.{SaysTheSame}
+use Rattle.run_plan.specs.Chains.{HaveSameMeaning}
 
 pub data PolicySort : Type 0 where
   access : PolicySort
@@ -41,7 +41,7 @@ pub same_kinds : (p q r s : Policy) → sort_of p ≡ sort_of r → sort_of q �
 same_kinds p q r s one two =
     kind_is p q ∙ ap (λ (x : PolicySort). is_same x (sort_of q)) one ∙ ap (is_same (sort_of r)) two ∙ sym (kind_is r s)
 
-pub same_sort : (T : Table) (p : Policy) (U : Table) (q : Policy) → SaysTheSame T p U q → sort_of p ≡ sort_of q
+pub same_sort : (T : Table) (p : Policy) (U : Table) (q : Policy) → HaveSameMeaning T p U q → sort_of p ≡ sort_of q
 same_sort T (policy.Access p) U (policy.Access q) h = refl
 same_sort T (policy.Redact p) U (policy.Redact q) h = refl
 same_sort T _ U _ h = ap sort_of h

@@ -8,24 +8,24 @@ use Rattle.mrpc_table.specs.Lines.{IsIn}
 use Rattle.mrpc_table.specs.Names.{IsFullName, is_full_form, is_short_full}
 use Rattle.mrpc_table.specs.declared.limits.TheConstants.{MAX_LOADS}
 use Rattle.mrpc_table.specs.declared.table.Table.{Table}
-use Rattle.policy_declarations.specs.Declarations.{Declared, IsSound}
-use Rattle.policy_declarations.specs.declared.item.NamedPolicy.{NamedPolicy}
+use Rattle.policy_declarations.specs.Declarations.{Declared, AreValidDeclarations}
+use Rattle.policy_declarations.specs.declared.declaration.NamedPolicy.{NamedPolicy}
 use Rattle.run_plan.specs.Chains.{IsReadUnder}
 use Rattle.run_plan.specs.Plans.{HasWindow, IsApplication, IsOwnPolicy, IsPlan}
-use Rattle.run_plan.specs.Ports.{connections_of}
+use Rattle.run_plan.specs.Links.{connections_of}
 use Rattle.run_plan.specs.declared.application.Application.{Application}
 use Rattle.run_plan.specs.declared.application.OwnPolicy.{OwnPolicy}
 use Rattle.run_plan.specs.declared.limits.TheConstants.{MAX_CONNECTIONS, MAX_WORKERS}
 use Rattle.run_plan.specs.declared.plan.Plan.{Plan}
 use Rattle.toml.specs.Data.{Members}
 use Rattle.scenario_lines.specs.Programs.{Each}
-use Rattle.scenario_toml.specs.Values.{TheRange, number_in, word_at}
+use Rattle.scenario_toml.specs.Values.{TheIntegerRange, number_or_default, text_or_empty}
 use Rattle.scenario.specs.Applications.{policy_tables, tenant_tables}
 use Rattle.scenario.specs.Keys.{loads, top_ranges, workers}
-use Rattle.scenario.specs.Policies.{PolicyAgainst, PolicySays, TenantAgainst, TenantSays}
-use Rattle.scenario.specs.Scenarios.{OwnPolicySays, Says, no_name, out_of_range}
+use Rattle.scenario.specs.Policies.{IsPolicyFault, IsPolicyMeaning, IsTenantFault, IsTenantMeaning}
+use Rattle.scenario.specs.Scenarios.{IsOwnPolicyMeaning, IsPlanOfScenario, no_name, out_of_range}
 use Rattle.scenario.specs.declared.fault.ScenarioReason.TheVariants.{Name, Number}
-use Rattle.scenario_entries.specs.Entries.{AreFree}
+use Rattle.scenario_entries.specs.Entries.{AreFaultFree}
 use Rattle.scenario_laws.proofs.Alike.{Laws}
 use Rattle.scenario_laws.proofs.Applications.{are_applications, table_valid, work_fine}
 use Rattle.scenario_laws.proofs.Free.{policies_free, tenants_free, top_free}
@@ -36,14 +36,14 @@ use Rattle.scenario_laws.proofs.Pairs.{are_paired, conns_are_distinct}
 
 -- the declarations of entries without faults, and own policies, by the laws in use
 pub record Declaring : Type 0 where
-  pub sound : (T : Table) (tenants entries : List Members) (d : Declared) → AreFree TenantAgainst tenants → AreFree (PolicyAgainst T tenants) entries
-      → Each TenantSays tenants d.tenants → Each (PolicySays T tenants) entries d.policies → IsSound d
-  pub read : (T : Table) (tenants entries : List Members) (d : Declared) → AreFree TenantAgainst tenants → AreFree (PolicyAgainst T tenants) entries
-      → Each TenantSays tenants d.tenants → Each (PolicySays T tenants) entries d.policies → All (λ p. IsReadUnder T p.policy) d.policies
-  pub windows : (T : Table) (tenants entries : List Members) (d : Declared) → AreFree TenantAgainst tenants → AreFree (PolicyAgainst T tenants) entries
-      → Each TenantSays tenants d.tenants → Each (PolicySays T tenants) entries d.policies → All (λ p. HasWindow d.tenants p.policy) d.policies
+  pub sound : (T : Table) (tenants entries : List Members) (d : Declared) → AreFaultFree IsTenantFault tenants → AreFaultFree (IsPolicyFault T tenants) entries
+      → Each IsTenantMeaning tenants d.tenants → Each (IsPolicyMeaning T tenants) entries d.policies → AreValidDeclarations d
+  pub read : (T : Table) (tenants entries : List Members) (d : Declared) → AreFaultFree IsTenantFault tenants → AreFaultFree (IsPolicyFault T tenants) entries
+      → Each IsTenantMeaning tenants d.tenants → Each (IsPolicyMeaning T tenants) entries d.policies → All (λ p. IsReadUnder T p.policy) d.policies
+  pub windows : (T : Table) (tenants entries : List Members) (d : Declared) → AreFaultFree IsTenantFault tenants → AreFaultFree (IsPolicyFault T tenants) entries
+      → Each IsTenantMeaning tenants d.tenants → Each (IsPolicyMeaning T tenants) entries d.policies → All (λ p. HasWindow d.tenants p.policy) d.policies
   pub own : (all : Members) (shared own : Table) (policies : List NamedPolicy) (read : List OwnPolicy)
-      → Each (PolicySays shared (tenant_tables all)) (policy_tables all) policies → All (OwnPolicySays all own) read
+      → Each (IsPolicyMeaning shared (tenant_tables all)) (policy_tables all) policies → All (IsOwnPolicyMeaning all own) read
       → All (IsOwnPolicy shared policies own) read
 
 full_name : (word : List ℕ) → ((IsFullName word → ⊥) → ⊥) → IsFullName word
@@ -52,11 +52,11 @@ full_name word h = elim (cases_Bool (is_full_form word && is_short_full word)) [
   | inr bad ↦ absurd (h (λ name. both_ways _ bad (and_from (is_full_form word) (is_short_full word) name.form name.short)))
 ]
 
-module _ (laws : Laws) (declaring : Declaring) (all : Members) (plan : Plan) (says : Says all plan) where
-  fine : (r : TheRange) → Contains top_ranges r → IsIn r.least r.most (number_in r all)
+module _ (laws : Laws) (declaring : Declaring) (all : Members) (plan : Plan) (says : IsPlanOfScenario all plan) where
+  fine : (r : TheIntegerRange) → Contains top_ranges r → IsIn r.least r.most (number_or_default r all)
   fine r there = within r all (λ out. top_free all plan says Number (out_of_range r there out refl))
 
-  own_is : (own : Table) (read : List OwnPolicy) → All (OwnPolicySays all own) read → All (IsOwnPolicy plan.table plan.declared.policies own) read
+  own_is : (own : Table) (read : List OwnPolicy) → All (IsOwnPolicyMeaning all own) read → All (IsOwnPolicy plan.table plan.declared.policies own) read
   own_is own read h = declaring.own all plan.table own plan.declared.policies read says.policies h
 
   apps : All (IsApplication plan) plan.applications
@@ -75,7 +75,7 @@ module _ (laws : Laws) (declaring : Declaring) (all : Members) (plan : Plan) (sa
 
   pub said_is_sound : IsPlan plan
   said_is_sound = record {
-    service = subst IsFullName (sym says.service) (full_name (word_at (codes "service") all) (λ none. top_free all plan says Name (no_name none refl)));
+    service = subst IsFullName (sym says.service) (full_name (text_or_empty (codes "service") all) (λ none. top_free all plan says Name (no_name none refl)));
     loads = subst (IsIn 1 MAX_LOADS) (sym says.loads) (fine loads (1, omega arith, refl));
     workers = subst (IsIn 1 MAX_WORKERS) (sym says.workers) (fine workers (2, omega arith, refl));
     table = table_valid _ plan.table says.table;

@@ -13,5 +13,5 @@
 mod laws;
 mod totality;
 
-pub use laws::{a_said_plan_is_sound, one_scenario};
+pub use laws::{parsed_plan_is_valid, scenario_is_unique};
 pub use totality::plan_or_fault;

@@ -3,18 +3,18 @@ use Rattle.std.proofs.Common.{◌≡◌, true, false, [], ◌∷◌, codes, None
 use Rattle.mrpc_table.specs.declared.words.Decimal.TheVariants.{Small}
 use Rattle.app_program.specs.declared.program.ProgramLine.TheVariants as program
 use Rattle.script_grammar.specs.Lines.{miscounted}
-use Rattle.script_grammar.specs.Sorts.{number, unbounded}
+use Rattle.script_grammar.specs.WordKinds.{number, unbounded}
 use Rattle.script_grammar.specs.Values.{plain}
 use Rattle.script_grammar.specs.declared.fault.ScriptReason.TheVariants as script
-use Rattle.scenario_lines.specs.Lines.{LineAgainst, LineSays, form_of, no_form, no_place, in_words}
-use Rattle.scenario_lines.specs.Programs.{ProgramAgainst, in_line, ends_in_reply}
-use Rattle.scenario_lines.specs.declared.form.LineForm.TheVariants as line
+use Rattle.scenario_lines.specs.Lines.{IsProgramLineFault, IsProgramLineMeaning, line_form_of, no_form, no_place, in_words}
+use Rattle.scenario_lines.specs.Programs.{IsProgramFault, in_line, ends_in_reply}
+use Rattle.scenario_lines.specs.declared.form.ProgramForm.TheVariants as line
 use Rattle.scenario_lines.specs.declared.form.ProgramRole.TheVariants.{Client, Server}
 use Rattle.scenario_lines.specs.declared.reason.LineReason.TheVariants.{Word, Place}
 
 -- ---- lines with a meaning
 
-stores_a_word : LineSays Client 64 (codes "store 2 150") (program.Store 2 150)
+stores_a_word : IsProgramLineMeaning Client 64 (codes "store 2 150") (program.Store 2 150)
 stores_a_word = record {
   form = line.Store;
   meanings = unbounded (Small 2) ∷ number 150 ∷ [];
@@ -22,7 +22,7 @@ stores_a_word = record {
   says = (refl, record { from_one = lit≤ tt; in_heap = lit< tt }, refl);
 }
 
-submits_a_call : LineSays Client 64 (codes "submit 0 2") (program.Submit 0 2)
+submits_a_call : IsProgramLineMeaning Client 64 (codes "submit 0 2") (program.Submit 0 2)
 submits_a_call = record {
   form = line.Submit;
   meanings = number 0 ∷ number 2 ∷ [];
@@ -30,7 +30,7 @@ submits_a_call = record {
   says = (refl, refl);
 }
 
-gives_a_reply : LineSays Server 64 (codes "reply 2") (program.Reply 2)
+gives_a_reply : IsProgramLineMeaning Server 64 (codes "reply 2") (program.Reply 2)
 gives_a_reply = record {
   form = line.Reply;
   meanings = number 2 ∷ [];
@@ -40,25 +40,25 @@ gives_a_reply = record {
 
 -- ---- faulty lines
 
-misspelled : ProgramAgainst Client 64 (codes "stare 2 150" ∷ []) Word
+misspelled : IsProgramFault Client 64 (codes "stare 2 150" ∷ []) Word
 misspelled = in_line (codes "stare 2 150") (0, lit< tt, refl) (no_form refl refl)
 
-client_replies : form_of Client (codes "reply 2") ≡ None
+client_replies : line_form_of Client (codes "reply 2") ≡ None
 client_replies = refl
 
-server_submits : form_of Server (codes "submit 0 2") ≡ None
+server_submits : line_form_of Server (codes "submit 0 2") ≡ None
 server_submits = refl
 
-one_word_too_few : LineAgainst Client 64 (codes "store 2") Word
+one_word_too_few : IsProgramLineFault Client 64 (codes "store 2") Word
 one_word_too_few = in_words line.Store refl (script.Word, miscounted (λ e. omega (arith, e)) refl, refl)
 
-past_the_heap : LineAgainst Client 64 (codes "store 64 150") Place
+past_the_heap : IsProgramLineFault Client 64 (codes "store 64 150") Place
 past_the_heap =
     no_place line.Store (unbounded (Small 64) ∷ number 150 ∷ [])
     (record { form = refl; said = ((64, refl, refl), ((plain 150, refl, lit< tt, refl), tt)) })
     (λ p. let h = p.in_heap in omega (arith, h)) refl
 
-before_the_heap : LineAgainst Client 64 (codes "store 0 150") Place
+before_the_heap : IsProgramLineFault Client 64 (codes "store 0 150") Place
 before_the_heap =
     no_place line.Store (unbounded (Small 0) ∷ number 150 ∷ [])
     (record { form = refl; said = ((0, refl, refl), ((plain 150, refl, lit< tt, refl), tt)) })

@@ -5,5 +5,5 @@ pub mod Lines
 pub mod Programs
 pub mod Reading
 pub mod Reasons
-pub mod Steps
-pub mod Taking
+pub mod StepLines
+pub mod LineReading

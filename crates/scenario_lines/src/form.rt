@@ -1,10 +1,10 @@
 //! The forms of lines, by the word that names the action.
 
 ghost use Rattle.std.specs.Prelude.{◌≡◌, ◌≤◌, length};
-ghost use Rattle.scenario_lines.specs.Forms.{line_form, first_word, forms_of, sorts_of, step_form, step_sorts, step_word};
+ghost use Rattle.scenario_lines.specs.Forms.{line_form, first_word, forms_of, line_sorts, step_form, step_sorts, step_word};
 
 use app_program::MAX_STORES;
-use script_grammar::{Keyword, Sort};
+use script_grammar::{Keyword, WordKind};
 
 /// The role whose program a line belongs to.
 #[derive(Clone, Copy)]
@@ -15,7 +15,7 @@ pub enum ProgramRole {
 
 // A line of a program.
 #[derive(Clone, Copy)]
-pub enum LineForm {
+pub enum ProgramForm {
     // `store PLACE VALUE`
     Store,
     // `spin N PLACE V W`
@@ -40,61 +40,61 @@ pub enum StepForm {
 }
 
 // Any number of 64 bits.
-const ANY: Sort = Sort::Number {
+const ANY: WordKind = WordKind::Number {
     least: 0,
     most: u64::MAX,
 };
 
 // How often a line may store two values.
-const TIMES: Sort = Sort::Number {
+const TIMES: WordKind = WordKind::Number {
     least: 0,
     most: MAX_STORES / 2,
 };
 
-const METHOD: Sort = Sort::Number {
+const METHOD: WordKind = WordKind::Number {
     least: 0,
     most: 65535,
 };
 
 // The number of a block.
-const BLOCK: Sort = Sort::Number {
+const BLOCK: WordKind = WordKind::Number {
     least: 1,
     most: 1 << 63,
 };
 
 impl ProgramRole {
     // The forms of its lines.
-    fn forms(self) -> &'static [LineForm]
+    fn forms(self) -> &'static [ProgramForm]
         ensures { result.now ≡ forms_of self }
     {
         match self {
             ProgramRole::Client => &[
-                LineForm::Store,
-                LineForm::Spin,
-                LineForm::Submit,
-                LineForm::Reclaim,
+                ProgramForm::Store,
+                ProgramForm::Spin,
+                ProgramForm::Submit,
+                ProgramForm::Reclaim,
             ],
-            ProgramRole::Server => &[LineForm::Store, LineForm::Spin, LineForm::Reply],
+            ProgramRole::Server => &[ProgramForm::Store, ProgramForm::Spin, ProgramForm::Reply],
         }
     }
 }
 
-impl LineForm {
+impl ProgramForm {
     // The first word.
     fn first_word(self) -> &'static [u8]
         ensures { result.now ≡ first_word self }
     {
         match self {
-            LineForm::Store => b"store",
-            LineForm::Spin => b"spin",
-            LineForm::Submit => b"submit",
-            LineForm::Reclaim => b"reclaim",
-            LineForm::Reply => b"reply",
+            ProgramForm::Store => b"store",
+            ProgramForm::Spin => b"spin",
+            ProgramForm::Submit => b"submit",
+            ProgramForm::Reclaim => b"reclaim",
+            ProgramForm::Reply => b"reply",
         }
     }
 
     // The form of a role's line with this first word; `None` if no form has it.
-    pub(crate) fn of(role: ProgramRole, word: &[u8]) -> Option<LineForm>
+    pub(crate) fn of(role: ProgramRole, word: &[u8]) -> Option<ProgramForm>
         ensures { result ≡ line_form role word.now }
     {
         role.forms()
@@ -104,16 +104,16 @@ impl LineForm {
     }
 
     // The sorts of the words after the first one.
-    pub(crate) fn sorts(self) -> &'static [Sort]
-        ensures sorts { result.now ≡ sorts_of self }
+    pub(crate) fn word_kinds(self) -> &'static [WordKind]
+        ensures sorts { result.now ≡ line_sorts self }
         ensures few { length result.now ≤ 9 }
     {
         match self {
-            LineForm::Store => &[Sort::Unbounded, Sort::Value],
-            LineForm::Spin => &[TIMES, Sort::Unbounded, Sort::Value, Sort::Value],
-            LineForm::Submit => &[METHOD, ANY],
-            LineForm::Reclaim => &[BLOCK],
-            LineForm::Reply => &[ANY],
+            ProgramForm::Store => &[WordKind::Unbounded, WordKind::Value],
+            ProgramForm::Spin => &[TIMES, WordKind::Unbounded, WordKind::Value, WordKind::Value],
+            ProgramForm::Submit => &[METHOD, ANY],
+            ProgramForm::Reclaim => &[BLOCK],
+            ProgramForm::Reply => &[ANY],
         }
     }
 }
@@ -143,20 +143,25 @@ impl StepForm {
     }
 
     // The sorts of its words.
-    pub(crate) fn sorts(self) -> &'static [Sort]
+    pub(crate) fn word_kinds(self) -> &'static [WordKind]
         ensures sorts { result.now ≡ step_sorts self }
         ensures few { length result.now ≤ 9 }
     {
         match self {
             StepForm::Attach => &[
                 ANY,
-                Sort::Key(Keyword::Attach),
-                Sort::Unbounded,
-                Sort::Name,
-                Sort::Name,
+                WordKind::Key(Keyword::Attach),
+                WordKind::Unbounded,
+                WordKind::Name,
+                WordKind::Name,
             ],
-            StepForm::Detach => &[ANY, Sort::Key(Keyword::Detach), Sort::Name],
-            StepForm::Upgrade => &[ANY, Sort::Key(Keyword::Upgrade), Sort::Name, Sort::Name],
+            StepForm::Detach => &[ANY, WordKind::Key(Keyword::Detach), WordKind::Name],
+            StepForm::Upgrade => &[
+                ANY,
+                WordKind::Key(Keyword::Upgrade),
+                WordKind::Name,
+                WordKind::Name,
+            ],
         }
     }
 }

@@ -2,7 +2,7 @@
 //! and which fault comes first.
 //!
 //! `specs/Forms.antt` lists the forms of lines. `specs/Lines.antt` defines what a line of a program means and which
-//! faults it has. `specs/Steps.antt` does so for a line of an operator, and `specs/Programs.antt` for the lines of a
+//! faults it has. `specs/StepLines.antt` does so for a line of an operator, and `specs/Programs.antt` for the lines of a
 //! whole program, which a [`ProgramReader`] reads line by line. The crate depends on `mrpc_table`, on `app_program`
 //! for programs, and on `script_grammar` for words. The layers above use one contract: a line has one meaning, or one
 //! first reason why it is faulty.

@@ -1,18 +1,18 @@
 //! A reader of a program, line by line.
 
 ghost use Rattle.std.specs.Prelude.{◌≡◌, ◌≤◌, ◌++◌, ◌∷◌, ℕ, List, [], MatchResult, OnErr, OnOk};
-ghost use Rattle.scenario_lines.specs.Programs.{ProgramAgainst, ProgramSays, is_reply, most_stores};
+ghost use Rattle.scenario_lines.specs.Programs.{IsProgramFault, IsProgramMeaning, is_reply, most_stores};
 ghost use Rattle.scenario_lines.specs.declared.form.ProgramRole.{ProgramRole as TheRole};
-ghost use Rattle.scenario_lines.specs.Reasons.{IsFirst};
+ghost use Rattle.scenario_lines.specs.Reasons.{IsFirstLineReason};
 ghost use Rattle.scenario_lines.specs.Reading.{HasRead};
-ghost use Rattle.scenario_lines.specs.Taking.{Takes, added, earlier, first_reason, is_too_long, kept, lacks_reply, store_count, noted, reason_if};
+ghost use Rattle.scenario_lines.specs.LineReading.{HasTakenLine, added_stores, earlier_line_reason, first_reason, is_too_long, kept, lacks_reply, store_count, with_reply_noted, line_reason_if};
 
 use crate::form::ProgramRole;
 use crate::program_line::read_line;
 use crate::reason::LineReason;
 use app_program::{MAX_LINES, MAX_REQUEST_STORES, MAX_STORES, Program, ProgramLine};
 use mrpc_table::{Memory, is_word};
-use script_grammar::{first_word, one_judgement};
+use script_grammar::{first_word, meanings_or_reason};
 use std::alloc::Global;
 
 /// The state of reading a program: the lines without a fault, and the first reason of the others.
@@ -52,8 +52,8 @@ fn store_count(line: ProgramLine) -> u64
 }
 
 // The number of stores, plus those of a line. Saturates once it exceeds the limit of programs.
-fn added(stores: u64, line: ProgramLine) -> u64
-    ensures { result ≡ added stores line }
+fn added_stores(stores: u64, line: ProgramLine) -> u64
+    ensures { result ≡ added_stores stores line }
 {
     if stores > MAX_STORES {
         stores
@@ -63,8 +63,8 @@ fn added(stores: u64, line: ProgramLine) -> u64
 }
 
 // The first of two reasons.
-fn earlier(one: Option<LineReason>, other: Option<LineReason>) -> Option<LineReason>
-    ensures { result ≡ earlier one other }
+fn earlier_line_reason(one: Option<LineReason>, other: Option<LineReason>) -> Option<LineReason>
+    ensures { result ≡ earlier_line_reason one other }
 {
     match (one, other) {
         (Some(one), Some(other)) => Some(if one.order() <= other.order() {
@@ -99,19 +99,19 @@ impl ProgramReader {
         ensures refused { OnErr result (self.new ≡ self.old) }
     {
         self.lines.push(said)?;
-        self.stores = added(self.stores, said);
+        self.stores = added_stores(self.stores, said);
         Ok(())
     }
 
     // Keeps what a line means, or the first reason of its faults.
     fn take(&mut self, line: &[u8]) -> Result<(), Memory>
-        ensures taken { OnOk result (Takes self.old line.now self.new) }
+        ensures taken { OnOk result (HasTakenLine self.old line.now self.new) }
         ensures refused { OnErr result (self.new ≡ self.old) }
     {
         match read_line(self.role, self.heap, line) {
             Ok(said) => self.keep(said),
             Err(reason) => {
-                self.first = earlier(self.first, Some(reason));
+                self.first = earlier_line_reason(self.first, Some(reason));
                 Ok(())
             }
         }
@@ -119,7 +119,7 @@ impl ProgramReader {
 
     // Notes whether one more line has the form of a reply.
     fn note_reply(&mut self, replies: bool)
-        ensures { self.new ≡ noted self.old replies }
+        ensures { self.new ≡ with_reply_noted self.old replies }
     {
         self.ends = !self.replied && replies;
         self.replied = self.replied || replies;
@@ -135,7 +135,7 @@ impl ProgramReader {
             → HasRead role heap (lines ++ line.now ∷ []) self.new) }
         ensures refused { OnErr result (self.new ≡ self.old) }
     {
-        one_judgement();
+        meanings_or_reason();
         match self.take(line) {
             Ok(_) => {
                 self.note_reply(is_reply(line));
@@ -166,19 +166,22 @@ impl ProgramReader {
     fn first_reason(&self) -> Option<LineReason>
         ensures { result ≡ first_reason self.now }
     {
-        let counted = earlier(
+        let counted = earlier_line_reason(
             self.first,
-            reason_if(self.is_too_long(), LineReason::Number),
+            line_reason_if(self.is_too_long(), LineReason::Number),
         );
-        earlier(counted, reason_if(self.lacks_reply(), LineReason::Word))
+        earlier_line_reason(
+            counted,
+            line_reason_if(self.lacks_reply(), LineReason::Word),
+        )
     }
 
     /// The program of the lines, or the first reason of their faults.
     pub fn finish(self) -> Result<Program, LineReason>
         ensures { (role : TheRole) (heap : ℕ) (lines : List (List ℕ)) → HasRead role heap lines self
-            → MatchResult result (ProgramSays role heap lines) (IsFirst (ProgramAgainst role heap lines)) }
+            → MatchResult result (IsProgramMeaning role heap lines) (IsFirstLineReason (IsProgramFault role heap lines)) }
     {
-        one_judgement();
+        meanings_or_reason();
         match self.first_reason() {
             None => Ok(self.lines),
             Some(reason) => Err(reason),
@@ -187,8 +190,8 @@ impl ProgramReader {
 }
 
 // The reason, if it holds.
-fn reason_if(holds: bool, reason: LineReason) -> Option<LineReason>
-    ensures { result ≡ reason_if holds reason }
+fn line_reason_if(holds: bool, reason: LineReason) -> Option<LineReason>
+    ensures { result ≡ line_reason_if holds reason }
 {
     if holds { Some(reason) } else { None }
 }

@@ -1,7 +1,7 @@
 //! The reasons of faults in lines.
 
 ghost use Rattle.std.specs.Prelude.{◌≡◌};
-ghost use Rattle.scenario_lines.specs.Reasons.{order_of};
+ghost use Rattle.scenario_lines.specs.Reasons.{line_reason_rank};
 
 /// The reason of a fault in a line. Of several reasons, the first one of this list counts.
 #[derive(Clone, Copy)]
@@ -20,7 +20,7 @@ pub enum LineReason {
 impl LineReason {
     /// Its rank: of two reasons the one with the lower number counts.
     pub fn order(self) -> u8
-        ensures { result ≡ order_of self }
+        ensures { result ≡ line_reason_rank self }
     {
         self as u8
     }

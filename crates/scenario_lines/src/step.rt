@@ -2,14 +2,14 @@
 
 ghost use Rattle.std.specs.Prelude.{◌≡◌, MatchResult};
 ghost use Rattle.script_grammar.specs.Meanings.{meanings_of};
-ghost use Rattle.scenario_lines.specs.Reasons.{IsFirst};
-ghost use Rattle.scenario_lines.specs.Steps.{FormTells, StepAgainst, StepSays};
+ghost use Rattle.scenario_lines.specs.Reasons.{IsFirstLineReason};
+ghost use Rattle.scenario_lines.specs.StepLines.{IsStepFormMeaning, IsStepTextFault, IsStepTextMeaning};
 
 use crate::form::StepForm;
 use crate::reason::LineReason;
 use crate::words::judge_words;
 use mrpc_table::Decimal;
-use script_grammar::{Said, first_word, name_at, number_at, unbounded_at};
+use script_grammar::{WordValue, first_word, name_at, number_at, unbounded_at};
 
 /// What a line of an operator means, with its names as in the text. A step is due once the connection has taken
 /// `count` calls.
@@ -36,8 +36,8 @@ pub enum StepText<'a> {
 }
 
 // What the words of a form mean.
-fn told_by<'a>(form: StepForm, words: &[Said<'a>]) -> StepText<'a>
-    ensures { FormTells form (meanings_of words.now) result }
+fn step_of_form<'a>(form: StepForm, words: &[WordValue<'a>]) -> StepText<'a>
+    ensures { IsStepFormMeaning form (meanings_of words.now) result }
 {
     match form {
         StepForm::Attach => StepText::Attach {
@@ -61,7 +61,7 @@ fn told_by<'a>(form: StepForm, words: &[Said<'a>]) -> StepText<'a>
 /// What a line of an operator means, or the first reason of its faults. Doesn't allocate, and takes time in
 /// proportion to the line.
 pub fn read_step<'a>(line: &'a [u8]) -> Result<StepText<'a>, LineReason>
-    ensures { MatchResult result (StepSays line.now) (IsFirst (StepAgainst line.now)) }
+    ensures { MatchResult result (IsStepTextMeaning line.now) (IsFirstLineReason (IsStepTextFault line.now)) }
 {
     let (_, rest) = first_word(line);
     let Some(behind) = rest else {
@@ -71,6 +71,6 @@ pub fn read_step<'a>(line: &'a [u8]) -> Result<StepText<'a>, LineReason>
     let Some(form) = StepForm::of(word) else {
         return Err(LineReason::Word);
     };
-    let words = judge_words(form.sorts(), line)?;
-    Ok(told_by(form, words.as_slice()))
+    let words = judge_words(form.word_kinds(), line)?;
+    Ok(step_of_form(form, words.as_slice()))
 }

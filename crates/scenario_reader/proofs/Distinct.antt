@@ -3,7 +3,7 @@ use Rattle.std.proofs.Common.{◌≡◌, ◌+◌, List, [], ◌∷◌, ◌++◌,
 use Rattle.mrpc_table.specs.Valid.{AreDistinct}
 use Rattle.toml.specs.Data.{Members}
 use Rattle.scenario.specs.declared.fault.ScenarioReason.{ScenarioReason}
-use Rattle.scenario_entries.specs.Entries.{AreFree}
+use Rattle.scenario_entries.specs.Entries.{AreFaultFree}
 use Rattle.scenario_reader.proofs.Lists.{none_in, there_cases, there_first, there_more}
 
 module _ {Y : Type 0} (f : Members → Y) where
@@ -29,7 +29,7 @@ module _ {Y : Type 0} (f : Members → Y) where
 
   module _ (Against : List Members → Members → ScenarioReason → Type 0)
       (known : (before : List Members) (ms : Members) → Contains (map f before) (f ms) → (q : ScenarioReason) × Against before ms q)
-      (entries : List Members) (free : AreFree Against entries) where
+      (entries : List Members) (free : AreFaultFree Against entries) where
     from : (pre xs : List Members) → entries ≡ pre ++ xs → AreDistinct (map f xs)
     from pre [] e = tt
     from pre (x ∷ xs) e = (

@@ -6,22 +6,22 @@ use Rattle.mrpc_table.specs.Lines.{words_of}
 use Rattle.mrpc_table.specs.Valid.{AreDistinct}
 use Rattle.engine_core.specs.declared.op.Op.{Op}
 use Rattle.engine_core.specs.declared.op.Op.TheVariants as op
-use Rattle.policy_declarations.specs.Declarations.{Declared, policy_names, policy_place}
-use Rattle.policy_declarations.specs.declared.item.NamedPolicy.{NamedPolicy}
-use Rattle.script_grammar.specs.Lines.{AreSaid}
-use Rattle.script_grammar.specs.Sorts.{Meaning}
+use Rattle.policy_declarations.specs.Declarations.{Declared, policy_names, policy_index}
+use Rattle.policy_declarations.specs.declared.declaration.NamedPolicy.{NamedPolicy}
+use Rattle.script_grammar.specs.Lines.{HaveMeanings}
+use Rattle.script_grammar.specs.WordKinds.{Meaning}
 use Rattle.scenario.specs.Applications.{AreAttached}
-use Rattle.scenario.specs.Lines.{policy_in}
-use Rattle.scenario.specs.Operators.{IsAttach, IsDetach, IsUpgrade, NamesPolicy, Steps, attaches, detaches, upgrades}
+use Rattle.scenario.specs.Lines.{step_policy}
+use Rattle.scenario.specs.Operators.{IsAttach, IsDetach, IsUpgrade, HasPolicyName, IsOpOfLine, attaches, detaches, upgrades}
 use Rattle.scenario_lines.specs.Forms.{step_sorts}
 use Rattle.scenario_lines.specs.Programs.{Each}
-use Rattle.scenario_lines.specs.Steps.{FormTells, StepAgainst, StepSays}
+use Rattle.scenario_lines.specs.StepLines.{IsStepFormMeaning, IsStepTextFault, IsStepTextMeaning}
 use Rattle.scenario_lines.specs.declared.form.StepForm.{StepForm}
 use Rattle.scenario_lines.specs.declared.form.StepForm.TheVariants as step
 use Rattle.scenario_lines.specs.declared.reason.LineReason.{LineReason}
 use Rattle.scenario_lines.specs.declared.step.StepText.{StepText}
 use Rattle.scenario_lines.specs.declared.step.StepText.TheVariants as text
-use Rattle.scenario_reader.specs.Stepping.{SomeTell}
+use Rattle.scenario_reader.specs.StepLinesReading.{AreStepMeanings}
 use Rattle.scenario_reader.specs.Walking.{AreOpsOf, IsOpOf, named_in}
 use Rattle.scenario_reader.proofs.Lists.{none_in, there_cases, there_first, there_more}
 use Rattle.scenario_reader.proofs.Naming as naming
@@ -32,10 +32,10 @@ use Rattle.scenario_reader.proofs.Stepping.{Laws, told_fine}
 pub record Again (a b : StepText) : Type 0 where
   pub form : StepForm
   pub meanings : List Meaning
-  pub first : FormTells form meanings a
-  pub second : FormTells form meanings b
+  pub first : IsStepFormMeaning form meanings a
+  pub second : IsStepFormMeaning form meanings b
 
-policy_same : (f : StepForm) (ms : List Meaning) (a b : StepText) → FormTells f ms a → FormTells f ms b → policy_in a ≡ policy_in b
+policy_same : (f : StepForm) (ms : List Meaning) (a b : StepText) → IsStepFormMeaning f ms a → IsStepFormMeaning f ms b → step_policy a ≡ step_policy b
 policy_same step.Attach ms (text.Attach c d n p) (text.Attach e g m q) x y = ap (λ (w : List ℕ). Some w) (x.3 ∙ sym y.3)
 policy_same step.Attach ms (text.Attach c d n p) (text.Detach e m) x y = absurd y
 policy_same step.Attach ms (text.Attach c d n p) (text.Upgrade e m q) x y = absurd y
@@ -52,7 +52,7 @@ policy_same step.Upgrade ms (text.Upgrade c n p) (text.Attach e g m q) x y = abs
 policy_same step.Upgrade ms (text.Upgrade c n p) (text.Detach e m) x y = absurd y
 policy_same step.Upgrade ms (text.Upgrade c n p) (text.Upgrade e m q) x y = ap (λ (w : List ℕ). Some w) (x.2 ∙ sym y.2)
 
-attach_same : (f : StepForm) (ms : List Meaning) (a b : StepText) (at : ℕ) (n p : List ℕ) → FormTells f ms a → FormTells f ms b
+attach_same : (f : StepForm) (ms : List Meaning) (a b : StepText) (at : ℕ) (n p : List ℕ) → IsStepFormMeaning f ms a → IsStepFormMeaning f ms b
     → IsAttach a at n p → IsAttach b at n p
 attach_same step.Attach ms (text.Attach c d i j) (text.Attach e g k l) at n p x y h =
     (y.1 ∙ sym x.1 ∙ h.0, y.2 ∙ sym x.2 ∙ h.1, y.3 ∙ sym x.3 ∙ h.2)
@@ -63,7 +63,7 @@ attach_same step.Upgrade ms (text.Attach c d i j) b at n p x y h = absurd x
 attach_same f ms (text.Detach c i) b at n p x y h = absurd h
 attach_same f ms (text.Upgrade c i j) b at n p x y h = absurd h
 
-detach_same : (f : StepForm) (ms : List Meaning) (a b : StepText) (n : List ℕ) → FormTells f ms a → FormTells f ms b
+detach_same : (f : StepForm) (ms : List Meaning) (a b : StepText) (n : List ℕ) → IsStepFormMeaning f ms a → IsStepFormMeaning f ms b
     → IsDetach a n → IsDetach b n
 detach_same step.Detach ms (text.Detach c i) (text.Detach e k) n x y h = y.1 ∙ sym x.1 ∙ h
 detach_same step.Detach ms (text.Detach c i) (text.Attach e g k l) n x y h = absurd y
@@ -73,7 +73,7 @@ detach_same step.Upgrade ms (text.Detach c i) b n x y h = absurd x
 detach_same f ms (text.Attach c d i j) b n x y h = absurd h
 detach_same f ms (text.Upgrade c i j) b n x y h = absurd h
 
-upgrade_same : (f : StepForm) (ms : List Meaning) (a b : StepText) (n p : List ℕ) → FormTells f ms a → FormTells f ms b
+upgrade_same : (f : StepForm) (ms : List Meaning) (a b : StepText) (n p : List ℕ) → IsStepFormMeaning f ms a → IsStepFormMeaning f ms b
     → IsUpgrade a n p → IsUpgrade b n p
 upgrade_same step.Upgrade ms (text.Upgrade c i j) (text.Upgrade e k l) n p x y h = (y.1 ∙ sym x.1 ∙ h.0, y.2 ∙ sym x.2 ∙ h.1)
 upgrade_same step.Upgrade ms (text.Upgrade c i j) (text.Attach e g k l) n p x y h = absurd y
@@ -112,7 +112,7 @@ distinct_same {Y = Y} f (z ∷ zs) x y d h k e = elim (there_cases z zs x h) [
   ]
 ]
 
-named_by : (d : Declared) (name : List ℕ) (place : Option ℕ) (p : NamedPolicy) → place ≡ policy_place d name
+named_by : (d : Declared) (name : List ℕ) (place : Option ℕ) (p : NamedPolicy) → place ≡ policy_index d name
     → AreDistinct (policy_names d) → Contains d.policies p → p.name ≡ name → option_and_then (slice_get d.policies) place ≡ Some p
 named_by d name None p is distinct there same =
     absurd (naming.none_there (λ (q : NamedPolicy). q.name) name d.policies (sym is)
@@ -125,7 +125,7 @@ named_by d name (Some place) p is distinct there same =
 
 pub named_found : (d : Declared) (name : List ℕ) (p : NamedPolicy) → AreDistinct (policy_names d) → Contains d.policies p → p.name ≡ name
     → named_in d name ≡ Some p
-named_found d name p distinct there same = named_by d name (policy_place d name) p refl distinct there same
+named_found d name p distinct there same = named_by d name (policy_index d name) p refl distinct there same
 
 -- ---- attachments
 
@@ -164,21 +164,21 @@ attachments_are d at (name ∷ names) all =
 -- ---- the lines of an operator
 
 module _ (laws : Laws) where
-  again : (line : List ℕ) (a b : StepText) → StepSays line a → StepSays line b → Again a b
+  again : (line : List ℕ) (a b : StepText) → IsStepTextMeaning line a → IsStepTextMeaning line b → Again a b
   again line a b p q =
       let form : p.form ≡ q.form = same_Some _ _ (sym p.is_form ∙ q.is_form) in
-      let said = subst (λ (f : StepForm). AreSaid (step_sorts f) (words_of line) p.meanings) form p.said in
+      let said = subst (λ (f : StepForm). HaveMeanings (step_sorts f) (words_of line) p.meanings) form p.said in
       let same = laws.one (step_sorts q.form) (words_of line) p.meanings q.meanings said q.said in
       record {
         form = q.form;
         meanings = q.meanings;
-        first = subst (λ (ms : List Meaning). FormTells q.form ms a) same (subst (λ (f : StepForm). FormTells f p.meanings a) form p.tells);
+        first = subst (λ (ms : List Meaning). IsStepFormMeaning q.form ms a) same (subst (λ (f : StepForm). IsStepFormMeaning f p.meanings a) form p.tells);
         second = q.tells;
       }
 
   -- an operation on a chain, from the meaning of its line
-  pub op_told : (d : Declared) (line : List ℕ) (told : StepText) (o : Op) → AreDistinct (policy_names d) → StepSays line told
-      → Steps d.policies line o → IsOpOf d told o
+  pub op_told : (d : Declared) (line : List ℕ) (told : StepText) (o : Op) → AreDistinct (policy_names d) → IsStepTextMeaning line told
+      → IsOpOfLine d.policies line o → IsOpOf d told o
   op_told d line told o distinct says (attaches other at name p other_says is there e) =
       let two = again line other told other_says says in
       by_attach told (attach_same two.form two.meanings other told at name p.name two.first two.second is) where
@@ -214,7 +214,7 @@ module _ (laws : Laws) where
         }
 
   pub ops_told : (d : Declared) (lines : List (List ℕ)) (told : List StepText) (ops : List Op) → AreDistinct (policy_names d)
-      → Each StepSays lines told → Each (Steps d.policies) lines ops → Each (IsOpOf d) told ops
+      → Each IsStepTextMeaning lines told → Each (IsOpOfLine d.policies) lines ops → Each (IsOpOf d) told ops
   ops_told d [] [] [] distinct says steps = tt
   ops_told d [] [] (o ∷ ops) distinct says steps = absurd steps
   ops_told d [] (t ∷ told) ops distinct says steps = absurd says
@@ -224,17 +224,17 @@ module _ (laws : Laws) where
       (op_told d l t o distinct says.0 steps.0, ops_told d lines told ops distinct says.1 steps.1)
 
   -- if no line has a fault, each has a meaning
-  pub all_tell : (lines : List (List ℕ)) (told : List StepText) → SomeTell lines told
-      → ((line : List ℕ) (why : LineReason) → Contains lines line → StepAgainst line why → ⊥) → Each StepSays lines told
-  all_tell [] told t none = subst (λ (xs : List StepText). Each StepSays [] xs) (sym t) tt
+  pub all_tell : (lines : List (List ℕ)) (told : List StepText) → AreStepMeanings lines told
+      → ((line : List ℕ) (why : LineReason) → Contains lines line → IsStepTextFault line why → ⊥) → Each IsStepTextMeaning lines told
+  all_tell [] told t none = subst (λ (xs : List StepText). Each IsStepTextMeaning [] xs) (sym t) tt
   all_tell (l ∷ lines) told (inl (s, rest, says, is, more)) none =
-      subst (λ (xs : List StepText). Each StepSays (l ∷ lines) xs) (sym is)
+      subst (λ (xs : List StepText). Each IsStepTextMeaning (l ∷ lines) xs) (sym is)
       (says, all_tell lines rest more (λ line why h. none line why (there_more l lines line h)))
   all_tell (l ∷ lines) told (inr (fault, more)) none = absurd (none l fault.0 (there_first l lines) fault.1)
 
   -- ---- the names
 
-  add_named : (l : List ℕ) (lines : List (List ℕ)) (name : List ℕ) → NamesPolicy lines name → NamesPolicy (l ∷ lines) name
+  add_named : (l : List ℕ) (lines : List (List ℕ)) (name : List ℕ) → HasPolicyName lines name → HasPolicyName (l ∷ lines) name
   add_named l lines name h = record {
     line = h.line;
     there = there_more l lines h.line h.there;
@@ -243,10 +243,10 @@ module _ (laws : Laws) where
     policy = h.policy;
   }
 
-  from_told : (l : List ℕ) (lines : List (List ℕ)) (s : StepText) (rest : List StepText) (name : List ℕ) (o : Option (List ℕ)) → StepSays l s
-      → policy_in s ≡ o → Contains (filter_map policy_in (s ∷ rest)) name
-      → (Contains (filter_map policy_in rest) name → NamesPolicy (l ∷ lines) name) → NamesPolicy (l ∷ lines) name
-  from_told l lines (text.Attach c d i j) rest name o says is h back = elim (there_cases j.now (filter_map policy_in rest) name h) [
+  from_told : (l : List ℕ) (lines : List (List ℕ)) (s : StepText) (rest : List StepText) (name : List ℕ) (o : Option (List ℕ)) → IsStepTextMeaning l s
+      → step_policy s ≡ o → Contains (filter_map step_policy (s ∷ rest)) name
+      → (Contains (filter_map step_policy rest) name → HasPolicyName (l ∷ lines) name) → HasPolicyName (l ∷ lines) name
+  from_told l lines (text.Attach c d i j) rest name o says is h back = elim (there_cases j.now (filter_map step_policy rest) name h) [
     | inl same ↦ record {
       line = l;
       there = there_first l lines;
@@ -257,7 +257,7 @@ module _ (laws : Laws) where
     | inr more ↦ back more
   ]
   from_told l lines (text.Detach c i) rest name o says is h back = back h
-  from_told l lines (text.Upgrade c i j) rest name o says is h back = elim (there_cases j.now (filter_map policy_in rest) name h) [
+  from_told l lines (text.Upgrade c i j) rest name o says is h back = elim (there_cases j.now (filter_map step_policy rest) name h) [
     | inl same ↦ record {
       line = l;
       there = there_first l lines;
@@ -268,42 +268,42 @@ module _ (laws : Laws) where
     | inr more ↦ back more
   ]
 
-  pub named_from : (lines : List (List ℕ)) (told : List StepText) (name : List ℕ) → SomeTell lines told
-      → Contains (filter_map policy_in told) name → NamesPolicy lines name
-  named_from [] told name t h = absurd (none_in name (subst (λ (xs : List StepText). Contains (filter_map policy_in xs) name) t h))
+  pub named_from : (lines : List (List ℕ)) (told : List StepText) (name : List ℕ) → AreStepMeanings lines told
+      → Contains (filter_map step_policy told) name → HasPolicyName lines name
+  named_from [] told name t h = absurd (none_in name (subst (λ (xs : List StepText). Contains (filter_map step_policy xs) name) t h))
   named_from (l ∷ lines) told name (inl (s, rest, says, is, more)) h =
-      from_told l lines s rest name (policy_in s) says refl (subst (λ (xs : List StepText). Contains (filter_map policy_in xs) name) is h)
+      from_told l lines s rest name (step_policy s) says refl (subst (λ (xs : List StepText). Contains (filter_map step_policy xs) name) is h)
       (λ k. add_named l lines name (named_from lines rest name more k))
   named_from (l ∷ lines) told name (inr (fault, more)) h = add_named l lines name (named_from lines told name more h)
 
-  to_told : (s : StepText) (rest : List StepText) (name : List ℕ) → policy_in s ≡ Some name → Contains (filter_map policy_in (s ∷ rest)) name
+  to_told : (s : StepText) (rest : List StepText) (name : List ℕ) → step_policy s ≡ Some name → Contains (filter_map step_policy (s ∷ rest)) name
   to_told (text.Attach c d i j) rest name e =
-      subst (λ (w : List ℕ). Contains (j.now ∷ filter_map policy_in rest) w) (same_Some j.now name e) (there_first j.now (filter_map policy_in rest))
+      subst (λ (w : List ℕ). Contains (j.now ∷ filter_map step_policy rest) w) (same_Some j.now name e) (there_first j.now (filter_map step_policy rest))
   to_told (text.Detach c i) rest name e = absurd cc
   to_told (text.Upgrade c i j) rest name e =
-      subst (λ (w : List ℕ). Contains (j.now ∷ filter_map policy_in rest) w) (same_Some j.now name e) (there_first j.now (filter_map policy_in rest))
+      subst (λ (w : List ℕ). Contains (j.now ∷ filter_map step_policy rest) w) (same_Some j.now name e) (there_first j.now (filter_map step_policy rest))
 
-  behind_told : (s : StepText) (rest : List StepText) (name : List ℕ) → Contains (filter_map policy_in rest) name
-      → Contains (filter_map policy_in (s ∷ rest)) name
-  behind_told (text.Attach c d i j) rest name h = there_more j.now (filter_map policy_in rest) name h
+  behind_told : (s : StepText) (rest : List StepText) (name : List ℕ) → Contains (filter_map step_policy rest) name
+      → Contains (filter_map step_policy (s ∷ rest)) name
+  behind_told (text.Attach c d i j) rest name h = there_more j.now (filter_map step_policy rest) name h
   behind_told (text.Detach c i) rest name h = h
-  behind_told (text.Upgrade c i j) rest name h = there_more j.now (filter_map policy_in rest) name h
+  behind_told (text.Upgrade c i j) rest name h = there_more j.now (filter_map step_policy rest) name h
 
-  named_to_by : (lines : List (List ℕ)) (told : List StepText) (name line : List ℕ) (t : StepText) → SomeTell lines told → Contains lines line
-      → StepSays line t → policy_in t ≡ Some name → Contains (filter_map policy_in told) name
+  named_to_by : (lines : List (List ℕ)) (told : List StepText) (name line : List ℕ) (t : StepText) → AreStepMeanings lines told → Contains lines line
+      → IsStepTextMeaning line t → step_policy t ≡ Some name → Contains (filter_map step_policy told) name
   named_to_by [] told name line t tell there says is = absurd (none_in line there)
   named_to_by (l ∷ lines) told name line t (inl (s, rest, says_s, e, more)) there says is =
-      subst (λ (xs : List StepText). Contains (filter_map policy_in xs) name) (sym e) (elim (there_cases l lines line there) [
+      subst (λ (xs : List StepText). Contains (filter_map step_policy xs) name) (sym e) (elim (there_cases l lines line there) [
         | inl same ↦
-            let two = again l s t says_s (subst (λ (x : List ℕ). StepSays x t) (sym same) says) in
+            let two = again l s t says_s (subst (λ (x : List ℕ). IsStepTextMeaning x t) (sym same) says) in
             to_told s rest name (policy_same two.form two.meanings s t two.first two.second ∙ is)
         | inr behind ↦ behind_told s rest name (named_to_by lines rest name line t more behind says is)
       ])
   named_to_by (l ∷ lines) told name line t (inr (fault, more)) there says is = elim (there_cases l lines line there) [
-    | inl same ↦ absurd (told_fine laws l t fault.0 (subst (λ (x : List ℕ). StepSays x t) (sym same) says) fault.1)
+    | inl same ↦ absurd (told_fine laws l t fault.0 (subst (λ (x : List ℕ). IsStepTextMeaning x t) (sym same) says) fault.1)
     | inr behind ↦ named_to_by lines told name line t more behind says is
   ]
 
-  pub named_to : (lines : List (List ℕ)) (told : List StepText) (name : List ℕ) → SomeTell lines told → NamesPolicy lines name
-      → Contains (filter_map policy_in told) name
+  pub named_to : (lines : List (List ℕ)) (told : List StepText) (name : List ℕ) → AreStepMeanings lines told → HasPolicyName lines name
+      → Contains (filter_map step_policy told) name
   named_to lines told name tell h = named_to_by lines told name h.line h.told tell h.there h.says h.policy

@@ -5,25 +5,25 @@ use Rattle.std.specs.Prelude.{filter_map, map}
 use Rattle.std.proofs.lemmas.List.{map-append}
 use Rattle.std.proofs.lemmas.List.Elements.{Contains-append_left, Contains-push, Contains-push_cases}
 use Rattle.toml.specs.Data.{Members}
-use Rattle.scenario.specs.Applications.{conn_of}
-use Rattle.scenario.specs.Lines.{policy_in}
-use Rattle.scenario.specs.Operators.{NamesPolicy, steps_of}
+use Rattle.scenario.specs.Applications.{entry_conn}
+use Rattle.scenario.specs.Lines.{step_policy}
+use Rattle.scenario.specs.Operators.{HasPolicyName, step_lines_of}
 use Rattle.scenario_lines.specs.declared.step.StepText.{StepText}
 use Rattle.scenario_reader.specs.Owning.{AreStepNames, IsUsedIn}
-use Rattle.scenario_reader.specs.Stepping.{SomeTell}
+use Rattle.scenario_reader.specs.StepLinesReading.{AreStepMeanings}
 use Rattle.scenario_reader.proofs.Lists.{there_cases, there_first, there_more}
 use Rattle.scenario_reader.proofs.Stepping.{Laws}
 use Rattle.scenario_reader.proofs.Telling.{named_from, named_to}
 
-pub names_are : Laws → (ms : Members) (lines names : List (List ℕ)) (told : List StepText) → lines ≡ steps_of ms → SomeTell lines told
-    → names ≡ filter_map policy_in told → AreStepNames ms names
+pub names_are : Laws → (ms : Members) (lines names : List (List ℕ)) (told : List StepText) → lines ≡ step_lines_of ms → AreStepMeanings lines told
+    → names ≡ filter_map step_policy told → AreStepNames ms names
 names_are laws ms lines names told same tell is = λ name. (
   λ h.
-      subst (λ (ls : List (List ℕ)). NamesPolicy ls name) same
+      subst (λ (ls : List (List ℕ)). HasPolicyName ls name) same
       (named_from laws lines told name tell (subst (λ (ns : List (List ℕ)). Contains ns name) is h)),
   λ h.
       subst (λ (ns : List (List ℕ)). Contains ns name) (sym is)
-      (named_to laws lines told name tell (subst (λ (ls : List (List ℕ)). NamesPolicy ls name) (sym same) h)),
+      (named_to laws lines told name tell (subst (λ (ls : List (List ℕ)). HasPolicyName ls name) (sym same) h)),
 )
 
 pub names_more : (xs ys zs all : List (Bor (List ℕ))) → ys ≡ zs → all ≡ xs ++ ys
@@ -52,15 +52,15 @@ module _ (operators : List Members) (operator ms : Members) (name : List ℕ) wh
   still_used (inr (o, there, same, named)) = inr (o, Contains-append_left operators (operator ∷ []) o there, same, named)
 
   used_cases : IsUsedIn (operators ++ operator ∷ []) ms name
-      → IsUsedIn operators ms name ⊎ ((conn_of operator ≡ conn_of ms) × NamesPolicy (steps_of operator) name)
+      → IsUsedIn operators ms name ⊎ ((entry_conn operator ≡ entry_conn ms) × HasPolicyName (step_lines_of operator) name)
   used_cases (inl h) = inl (inl h)
   used_cases (inr (o, there, same, named)) = elim (Contains-push_cases operators operator o there) [
     | inl before ↦ inl (inr (o, before, same, named))
-    | inr is ↦ inr (ap conn_of is ∙ same, subst (λ (m : Members). NamesPolicy (steps_of m) name) (sym is) named)
+    | inr is ↦ inr (ap entry_conn is ∙ same, subst (λ (m : Members). HasPolicyName (step_lines_of m) name) (sym is) named)
   ]
 
   module _ (names : List (List ℕ)) (so_far : Contains names name ↔ IsUsedIn operators ms name) where
-    pub used_apart : (conn_of operator ≡ conn_of ms → ⊥) → Contains names name ↔ IsUsedIn (operators ++ operator ∷ []) ms name
+    pub used_apart : (entry_conn operator ≡ entry_conn ms → ⊥) → Contains names name ↔ IsUsedIn (operators ++ operator ∷ []) ms name
     used_apart apart = (
       λ h. still_used (so_far.0 h),
       λ h. elim (used_cases h) [
@@ -69,7 +69,7 @@ module _ (operators : List Members) (operator ms : Members) (name : List ℕ) wh
       ],
     )
 
-    pub used_more : conn_of operator ≡ conn_of ms → (more : List (List ℕ)) → AreStepNames operator more
+    pub used_more : entry_conn operator ≡ entry_conn ms → (more : List (List ℕ)) → AreStepNames operator more
         → Contains (names ++ more) name ↔ IsUsedIn (operators ++ operator ∷ []) ms name
     used_more same more are = (
       λ h. elim (append_cases names more name h) [

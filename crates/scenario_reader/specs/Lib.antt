@@ -1,7 +1,7 @@
-pub mod Above
+pub mod AppContext
 pub mod Joining
 pub mod Operating
 pub mod Owning
-pub mod Stepping
+pub mod StepLinesReading
 pub mod Walking
-pub mod Whole
+pub mod TopLevel

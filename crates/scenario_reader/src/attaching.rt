@@ -6,11 +6,11 @@ ghost use Rattle.run_plan.specs.Chains.{empty_chain};
 ghost use Rattle.scenario_reader.specs.Walking.{AreOpsOf, IsRefusedFor, IsWalkedTo};
 
 use crate::walk::named_in;
-use engine_core::{one_change, stays_chain};
+use engine_core::{change_or_rejection, change_preserves_chain};
 use mrpc_table::{Decimal, Memory};
 use policy_declarations::Declarations;
 use scenario::ScenarioReason;
-use scenario_entries::Chain;
+use scenario_entries::ChainOutline;
 use std::alloc::Global;
 
 // The chain after the declared policies with these names are attached, each under its own name, or the reason of the
@@ -19,14 +19,14 @@ pub(crate) fn attach_all<'a>(
     alloc: Global,
     declared: &'a Declarations,
     names: &[&'a [u8]],
-) -> Result<Result<Chain<'a>, ScenarioReason>, Memory>
+) -> Result<Result<ChainOutline<'a>, ScenarioReason>, Memory>
     ensures { (ops : List Op) → AreOpsOf declared.now 0 (map (λ n. n.now) names.now) ops
         → IfOk result (λ r. MatchResult r (λ chain. IsWalkedTo empty_chain ops chain.entries.items)
         (IsRefusedFor empty_chain ops)) }
 {
-    one_change();
-    stays_chain();
-    let mut chain = Chain::new(alloc);
+    change_or_rejection();
+    change_preserves_chain();
+    let mut chain = ChainOutline::new(alloc);
     let mut at = 0;
     for name in names {
         let Some(named) = named_in(declared, name) else {

@@ -7,7 +7,7 @@
 //! diagnostics of operators' steps.
 #![tactic(auto)]
 
-mod above;
+mod app_context;
 mod application;
 mod attaching;
 mod names;

@@ -1,9 +1,9 @@
 //! The policies that an application names.
 
 ghost use Rattle.std.specs.Prelude.{◌≡◌, IfOk, codes, filter_map, map, option_and_then};
-ghost use Rattle.policy_declarations.specs.Declarations.{policy_place};
+ghost use Rattle.policy_declarations.specs.Declarations.{policy_index};
 ghost use Rattle.toml.specs.View.{table_view};
-ghost use Rattle.scenario.specs.Applications.{names_in};
+ghost use Rattle.scenario.specs.Applications.{policies_named_in};
 ghost use Rattle.scenario_toml.specs.Values.{text_at};
 
 use mrpc_table::{Memory, Sequence};
@@ -14,7 +14,7 @@ use toml::Table;
 
 // The names of its chain, followed by that of the policy that judges deliveries.
 pub(crate) fn names_in<'a>(alloc: Global, entry: &'a Table) -> Result<Vec<&'a [u8]>, Memory>
-    ensures { IfOk result (λ names. map (λ n. n.now) names.items ≡ names_in (table_view entry.now)) }
+    ensures { IfOk result (λ names. map (λ n. n.now) names.items ≡ policies_named_in (table_view entry.now)) }
 {
     let mut names = texts_at(alloc, entry, "chain")?;
     match text_at(entry, "inbound") {
@@ -25,12 +25,12 @@ pub(crate) fn names_in<'a>(alloc: Global, entry: &'a Table) -> Result<Vec<&'a [u
 }
 
 // The indices of the names that are declared.
-pub(crate) fn places_in(
+pub(crate) fn policy_indices(
     alloc: Global,
     declared: &Declarations,
     names: &[&[u8]],
 ) -> Result<Sequence<usize>, Memory>
-    ensures { IfOk result (λ places. places ≡ filter_map (policy_place declared.now) (map (λ n. n.now) names.now)) }
+    ensures { IfOk result (λ places. places ≡ filter_map (policy_index declared.now) (map (λ n. n.now) names.now)) }
 {
     let mut places = Sequence::new(alloc);
     for name in names {
@@ -43,7 +43,7 @@ pub(crate) fn places_in(
 
 // The index of the policy that judges deliveries to an application, if it names a declared one.
 pub(crate) fn inbound_in(declared: &Declarations, entry: &Table) -> Option<usize>
-    ensures { result ≡ option_and_then (policy_place declared.now) (text_at (codes "inbound") (table_view entry.now)) }
+    ensures { result ≡ option_and_then (policy_index declared.now) (text_at (codes "inbound") (table_view entry.now)) }
 {
     match text_at(entry, "inbound") {
         Some(name) => declared.policy(name.as_bytes()),

@@ -8,10 +8,10 @@ ghost use Rattle.toml.specs.View.{table_view};
 ghost use Rattle.scenario.specs.Applications.{HasTable};
 ghost use Rattle.scenario_toml.specs.Values.{text_at};
 ghost use Rattle.scenario_entries.specs.Entries.{views};
-ghost use Rattle.scenario_reader.specs.Above.{IsAbove};
+ghost use Rattle.scenario_reader.specs.AppContext.{IsAppContext};
 ghost use Rattle.scenario_reader.specs.Owning.{AreStepNames, IsOwnRead, IsOwnUnder, IsUsedIn, IsValidOwn};
 
-use crate::above::Above;
+use crate::app_context::AppContext;
 use crate::names::names_in;
 use crate::steps::{add_names, read_steps};
 use mrpc_table::{Memory, Sequence, Table as Schema};
@@ -20,7 +20,7 @@ use scenario::keys::conn;
 use scenario::{ScenarioReason, table_in};
 use scenario_entries::read_own_policies;
 use scenario_toml::{text_at, texts_at};
-use script_grammar::one_judgement;
+use script_grammar::meanings_or_reason;
 use std::alloc::Global;
 use toml::Table;
 
@@ -28,7 +28,7 @@ use toml::Table;
 pub(crate) fn step_names<'a>(alloc: Global, entry: &'a Table) -> Result<Vec<&'a [u8]>, Memory>
     ensures { IfOk result (λ names. AreStepNames (table_view entry.now) (map (λ n. n.now) names.items)) }
 {
-    one_judgement();
+    meanings_or_reason();
     let lines = texts_at(alloc, entry, "steps")?;
     let steps = read_steps(alloc, lines.as_slice())?;
     let mut names = Vec::new(alloc);
@@ -61,13 +61,13 @@ fn used_names<'a>(
 // operator has the fault.
 fn own_policies(
     alloc: Global,
-    above: Above<'_, '_, '_>,
+    above: AppContext<'_, '_, '_>,
     table: &Schema,
     entry: &Table,
 ) -> Result<Result<Sequence<OwnPolicy>, ScenarioReason>, Memory>
     requires valid { IsValid table.now }
     requires long { length above.policies.now ≡ length above.declared.now.policies }
-    ensures { (all : Members) (T : TheTable) (text : List ℕ) → IsAbove all T above.entry
+    ensures { (all : Members) (T : TheTable) (text : List ℕ) → IsAppContext all T above.entry
         → text_at (codes "schema") (table_view entry.now) ≡ Some text → HasTable text table.now
         → IfOk result (IsOwnUnder all (table_view entry.now) table.now) }
 {
@@ -99,11 +99,12 @@ fn own_policies(
 // the application names. `None` if the application has no schema.
 pub(crate) fn own_in(
     alloc: Global,
-    above: Above<'_, '_, '_>,
+    above: AppContext<'_, '_, '_>,
     entry: &Table,
 ) -> Result<Result<Option<OwnSchema>, ScenarioReason>, Memory>
     requires { length above.policies.now ≡ length above.declared.now.policies }
-    ensures read { (all : Members) (T : TheTable) → IsAbove all T above.entry → IfOk result (IsOwnRead all (table_view entry.now)) }
+    ensures read { (all : Members) (T : TheTable) → IsAppContext all T above.entry
+        → IfOk result (IsOwnRead all (table_view entry.now)) }
     ensures valid { IfOk result (λ r. IfOk r IsValidOwn) }
 {
     let Some(text) = text_at(entry, "schema") else {

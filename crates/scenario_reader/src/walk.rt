@@ -5,18 +5,18 @@ ghost use Rattle.std.specs.Option.{option_copied};
 ghost use Rattle.mrpc_table.specs.Lines.{in_64_bits};
 ghost use Rattle.engine_core.specs.Chains.{Chain as TheChain, IsChain};
 ghost use Rattle.engine_core.specs.declared.op.Op.{Op};
-ghost use Rattle.policy_declarations.specs.Declarations.{policy_place};
-ghost use Rattle.scenario_entries.specs.Linking.{IsChanged, IsKept};
+ghost use Rattle.policy_declarations.specs.Declarations.{policy_index};
+ghost use Rattle.scenario_entries.specs.ChainEntries.{IsChangeOrRefusal, AreEntriesOf};
 ghost use Rattle.scenario_lines.specs.Programs.{Each};
 ghost use Rattle.scenario_reader.specs.Walking.{IsLineOf, IsOpOf, IsStepOf, IsWalked, named_in};
 
 use crate::steps::count_in;
-use engine_core::{one_change, stays_chain};
+use engine_core::{change_or_rejection, change_preserves_chain};
 use mrpc_table::{Decimal, Memory, Name, Sequence};
 use policy_declarations::{Declarations, NamedPolicy};
-use run_plan::{Step, StepLine};
+use run_plan::{OperatorStep, StepLine};
 use scenario::ScenarioReason;
-use scenario_entries::Chain;
+use scenario_entries::ChainOutline;
 use scenario_lines::StepText;
 use std::alloc::Global;
 
@@ -31,13 +31,13 @@ pub(crate) fn named_in<'a>(declared: &'a Declarations, name: &[u8]) -> Option<&'
 }
 
 // Applies one step. If the chain refuses it, returns the reason and leaves the chain unchanged.
-fn take_step<'a>(
-    chain: &mut Chain<'a>,
+fn apply_step<'a>(
+    chain: &mut ChainOutline<'a>,
     declared: &'a Declarations,
     step: StepText<'a>,
 ) -> Result<Option<ScenarioReason>, Memory>
-    ensures { (start : TheChain) (o : Op) → IsChain start → IsKept chain.old.entries.items start
-        → IsOpOf declared.now step.entry o → IfOk result (IsChanged start o chain.new.entries.items) }
+    ensures { (start : TheChain) (o : Op) → IsChain start → AreEntriesOf chain.old.entries.items start
+        → IsOpOf declared.now step.entry o → IfOk result (IsChangeOrRefusal start o chain.new.entries.items) }
 {
     match step {
         StepText::Attach {
@@ -58,18 +58,18 @@ fn take_step<'a>(
 }
 
 // Applies the steps in order, or returns the reason of the first refusal.
-pub(crate) fn take_all<'a>(
-    chain: &mut Chain<'a>,
+pub(crate) fn apply_all<'a>(
+    chain: &mut ChainOutline<'a>,
     declared: &'a Declarations,
     told: &[StepText<'a>],
 ) -> Result<Option<ScenarioReason>, Memory>
-    ensures { (start : TheChain) (ops : List Op) → IsChain start → IsKept chain.old.entries.items start
+    ensures { (start : TheChain) (ops : List Op) → IsChain start → AreEntriesOf chain.old.entries.items start
         → Each (IsOpOf declared.now) told.now ops → IfOk result (IsWalked start ops) }
 {
-    one_change();
-    stays_chain();
+    change_or_rejection();
+    change_preserves_chain();
     for step in told {
-        if let Some(reason) = take_step(chain, declared, *step)? {
+        if let Some(reason) = apply_step(chain, declared, *step)? {
             return Ok(Some(reason));
         }
     }
@@ -87,8 +87,8 @@ fn position_in(at: Decimal) -> u32
 }
 
 // The index of a declared policy; 0 if none has the name.
-fn place_in(declared: &Declarations, name: &[u8]) -> usize
-    ensures { (place : ℕ) → policy_place declared.now name.now ≡ Some place → result ≡ place }
+fn policy_index_or_zero(declared: &Declarations, name: &[u8]) -> usize
+    ensures { (place : ℕ) → policy_index declared.now name.now ≡ Some place → result ≡ place }
 {
     match declared.policy(name) {
         Some(place) => place,
@@ -109,14 +109,14 @@ fn line_of(alloc: Global, declared: &Declarations, step: &StepText<'_>) -> Resul
         } => Ok(StepLine::Attach {
             at: position_in(*at),
             name: Name::from_slice(alloc, name)?,
-            policy: place_in(declared, policy),
+            policy: policy_index_or_zero(declared, policy),
         }),
         StepText::Detach { name, .. } => Ok(StepLine::Detach {
             name: Name::from_slice(alloc, name)?,
         }),
         StepText::Upgrade { name, policy, .. } => Ok(StepLine::Upgrade {
             name: Name::from_slice(alloc, name)?,
-            policy: place_in(declared, policy),
+            policy: policy_index_or_zero(declared, policy),
         }),
     }
 }
@@ -126,13 +126,13 @@ pub(crate) fn plan_steps(
     alloc: Global,
     declared: &Declarations,
     told: &[StepText<'_>],
-) -> Result<Sequence<Step>, Memory>
+) -> Result<Sequence<OperatorStep>, Memory>
     ensures { IfOk result (Each (IsStepOf declared.now) told.now) }
 {
     let mut steps = Sequence::new(alloc);
     for step in told {
         let line = line_of(alloc, declared, step)?;
-        steps.push(Step {
+        steps.push(OperatorStep {
             count: count_in(step),
             line,
         })?;

@@ -2,10 +2,10 @@
 
 ghost use Rattle.std.specs.Prelude.{◌≡◌, is_some, string_bytes};
 ghost use Rattle.toml.specs.View.{view, table_view};
-ghost use Rattle.scenario_toml.specs.Values.{are_there, has_keys, has_shape, is_for, is_there};
+ghost use Rattle.scenario_toml.specs.Values.{has_required_keys, has_keys, has_value_type, is_for, is_there};
 ghost use Rattle.std.specs.List.{list_all, list_any};
 ghost use Rattle.toml.specs.Data.{as_str, as_table};
-ghost use Rattle.scenario_toml.specs.declared.key.Shape.TheVariants as shape;
+ghost use Rattle.scenario_toml.specs.declared.key.ValueType.TheVariants as shape;
 
 use crate::value::at;
 use std::marker::Model;
@@ -14,7 +14,7 @@ use toml::{Table, Value};
 
 /// The type of a key's value.
 #[derive(Clone, Copy)]
-pub enum Shape {
+pub enum ValueType {
     Text,
     Integer,
     Flag,
@@ -26,28 +26,28 @@ pub enum Shape {
 
 /// A key that a table must or may have.
 #[derive(Drop)]
-pub struct Key {
+pub struct TableKey {
     name: &'static str,
-    shape: Shape,
+    shape: ValueType,
     required: bool,
 }
 
-impl Model for Key {
-    ghost use Rattle.scenario_toml.specs.Values.{TheKey};
+impl Model for TableKey {
+    ghost use Rattle.scenario_toml.specs.Values.{TheTableKey};
 
-    ghost Value = { TheKey };
+    ghost Value = { TheTableKey };
 
     ghost view = { λ k. record { name = k.name.now; shape = k.shape; required = k.required } };
 }
 
-impl Key {
-    ghost use Rattle.scenario_toml.specs.Values.{a_key, may_be};
+impl TableKey {
+    ghost use Rattle.scenario_toml.specs.Values.{required_key, optional_key};
 
     /// A required key.
-    pub const fn required(name: &'static str, shape: Shape) -> Key
-        ensures { result ≡ a_key name.now shape }
+    pub const fn required(name: &'static str, shape: ValueType) -> TableKey
+        ensures { result ≡ required_key name.now shape }
     {
-        Key {
+        TableKey {
             name,
             shape,
             required: true,
@@ -55,10 +55,10 @@ impl Key {
     }
 
     /// An optional key.
-    pub const fn optional(name: &'static str, shape: Shape) -> Key
-        ensures { result ≡ may_be name.now shape }
+    pub const fn optional(name: &'static str, shape: ValueType) -> TableKey
+        ensures { result ≡ optional_key name.now shape }
     {
-        Key {
+        TableKey {
             name,
             shape,
             required: false,
@@ -80,17 +80,17 @@ impl Key {
     }
 }
 
-impl Shape {
+impl ValueType {
     // Whether a value has this type.
     fn is_of(self, value: &Value) -> bool
-        ensures { result ≡ has_shape self (view value.now) }
+        ensures { result ≡ has_value_type self (view value.now) }
     {
         match self {
-            Shape::Text => value.is_str(),
-            Shape::Integer => value.is_integer(),
-            Shape::Flag => value.is_bool(),
-            Shape::Texts => are_texts(value),
-            Shape::Tables => are_tables(value),
+            ValueType::Text => value.is_str(),
+            ValueType::Integer => value.is_integer(),
+            ValueType::Flag => value.is_bool(),
+            ValueType::Texts => are_texts(value),
+            ValueType::Tables => are_tables(value),
         }
     }
 }
@@ -111,7 +111,7 @@ fn all_tables(items: &Array) -> bool
 
 // Whether the value is a list of texts.
 fn are_texts(value: &Value) -> bool
-    ensures { result ≡ has_shape shape.Texts (view value.now) }
+    ensures { result ≡ has_value_type shape.Texts (view value.now) }
 {
     match value.as_array() {
         Some(items) => all_texts(items),
@@ -121,7 +121,7 @@ fn are_texts(value: &Value) -> bool
 
 // Whether the value is a list of tables.
 fn are_tables(value: &Value) -> bool
-    ensures { result ≡ has_shape shape.Tables (view value.now) }
+    ensures { result ≡ has_value_type shape.Tables (view value.now) }
 {
     match value.as_array() {
         Some(items) => all_tables(items),
@@ -130,14 +130,14 @@ fn are_tables(value: &Value) -> bool
 }
 
 // Whether one of the keys has this name, and the value has its type.
-fn is_known(keys: &[Key], name: &str, value: &Value) -> bool
+fn is_known(keys: &[TableKey], name: &str, value: &Value) -> bool
     ensures { result ≡ list_any (is_for name.now (view value.now)) keys.now }
 {
     keys.iter().any(|key| key.is_for(name, value))
 }
 
 // Whether each key of the table is one of these, with a value of its type.
-fn are_known(keys: &[Key], table: &Table) -> bool
+fn are_known(keys: &[TableKey], table: &Table) -> bool
     ensures { result ≡ list_all (λ e. list_any (is_for (string_bytes e.0) (view e.1)) keys.now) table.now.entries }
 {
     table
@@ -146,15 +146,15 @@ fn are_known(keys: &[Key], table: &Table) -> bool
 }
 
 // Whether the table has each required key.
-fn are_there(keys: &[Key], table: &Table) -> bool
-    ensures { result ≡ are_there keys.now (table_view table.now) }
+fn has_required_keys(keys: &[TableKey], table: &Table) -> bool
+    ensures { result ≡ has_required_keys keys.now (table_view table.now) }
 {
     keys.iter().all(|key| key.is_there(table))
 }
 
 /// Whether the table has all required keys and no keys but these, each with a value of its type.
-pub fn has_keys(keys: &[Key], table: &Table) -> bool
+pub fn has_keys(keys: &[TableKey], table: &Table) -> bool
     ensures { result ≡ has_keys keys.now (table_view table.now) }
 {
-    are_known(keys, table) && are_there(keys, table)
+    are_known(keys, table) && has_required_keys(keys, table)
 }

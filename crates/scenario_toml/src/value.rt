@@ -4,7 +4,7 @@ ghost use Rattle.std.specs.Prelude.{◌≡◌};
 ghost use Rattle.std.specs.Option.{option_map, option_copied};
 ghost use Rattle.toml.specs.Data.{get_member};
 ghost use Rattle.toml.specs.View.{view, table_view};
-ghost use Rattle.scenario_toml.specs.Values.{flag_at, text_at, word_at, integer_at};
+ghost use Rattle.scenario_toml.specs.Values.{flag_at, text_at, text_or_empty, integer_at};
 
 use toml::{Table, Value};
 
@@ -26,8 +26,8 @@ pub fn text_at<'a>(table: &'a Table, key: &str) -> Option<&'a str>
 }
 
 /// The text at a key; empty if there is none.
-pub fn word_at<'a>(table: &'a Table, key: &str) -> &'a [u8]
-    ensures { result.now ≡ word_at key.now (table_view table.now) }
+pub fn text_or_empty<'a>(table: &'a Table, key: &str) -> &'a [u8]
+    ensures { result.now ≡ text_or_empty key.now (table_view table.now) }
 {
     match text_at(table, key) {
         Some(text) => text.as_bytes(),

@@ -4,7 +4,7 @@ use Rattle.std.proofs.Common.{None, ◌⊎◌, inl, inr, refl, sym, ap, ◌∙�
 use Rattle.std.specs.Prelude.{slice_get}
 use Rattle.std.proofs.lemmas.Bool.{cases_order}
 use Rattle.std.proofs.lemmas.Option.{same_Some, none-some}
-use Rattle.schema_binding.specs.Agreement.{DifferAt}
+use Rattle.schema_binding.specs.Agreement.{AreFirstDifferentAt}
 
 -- ---- at most one index
 
@@ -16,10 +16,10 @@ same_before (x ∷ xs) [] m (suc n) same below = absurd cc
 same_before (x ∷ xs) (y ∷ ys) zero (suc n) same below = let e : x ≡ y = cc in ap Some e
 same_before (x ∷ xs) (y ∷ ys) (suc m) (suc n) same below = let e : take n xs ≡ take n ys = cc in same_before xs ys m n e (omega arith)
 
-never_earlier : {X : Type 0} (xs ys : List X) (m n : ℕ) (x y v w : Option X) → DifferAt xs ys m x y → DifferAt xs ys n v w → m < n → ⊥
+never_earlier : {X : Type 0} (xs ys : List X) (m n : ℕ) (x y v w : Option X) → AreFirstDifferentAt xs ys m x y → AreFirstDifferentAt xs ys n v w → m < n → ⊥
 never_earlier xs ys m n x y v w d e below = d.other (sym d.ours ∙ same_before xs ys m n e.same below ∙ d.theirs)
 
-pub one_place : {X : Type 0} (xs ys : List X) (m n : ℕ) (x y v w : Option X) → DifferAt xs ys m x y → DifferAt xs ys n v w → m ≡ n
+pub one_place : {X : Type 0} (xs ys : List X) (m n : ℕ) (x y v w : Option X) → AreFirstDifferentAt xs ys m x y → AreFirstDifferentAt xs ys n v w → m ≡ n
 one_place xs ys m n x y v w d e = elim (cases_order m n) [
   | inl equal ↦ equal
   | inr other ↦ elim other [
@@ -28,14 +28,14 @@ one_place xs ys m n x y v w d e = elim (cases_order m n) [
   ]
 ]
 
-pub one_left : {X : Type 0} (xs ys : List X) (m n : ℕ) (x y v w : Option X) → DifferAt xs ys m x y → DifferAt xs ys n v w → x ≡ v
+pub one_left : {X : Type 0} (xs ys : List X) (m n : ℕ) (x y v w : Option X) → AreFirstDifferentAt xs ys m x y → AreFirstDifferentAt xs ys n v w → x ≡ v
 one_left xs ys m n x y v w d e = sym d.ours ∙ ap (slice_get xs) (one_place xs ys m n x y v w d e) ∙ e.ours
 
-pub one_right : {X : Type 0} (xs ys : List X) (m n : ℕ) (x y v w : Option X) → DifferAt xs ys m x y → DifferAt xs ys n v w → y ≡ w
+pub one_right : {X : Type 0} (xs ys : List X) (m n : ℕ) (x y v w : Option X) → AreFirstDifferentAt xs ys m x y → AreFirstDifferentAt xs ys n v w → y ≡ w
 one_right xs ys m n x y v w d e = sym d.theirs ∙ ap (slice_get ys) (one_place xs ys m n x y v w d e) ∙ e.theirs
 
 -- equal lists differ nowhere
-pub equal_never_differ : {X : Type 0} (xs ys : List X) (at : ℕ) (x y : Option X) → xs ≡ ys → DifferAt xs ys at x y → ⊥
+pub equal_never_differ : {X : Type 0} (xs ys : List X) (at : ℕ) (x y : Option X) → xs ≡ ys → AreFirstDifferentAt xs ys at x y → ⊥
 equal_never_differ {X} xs ys at x y same d = d.other (sym d.ours ∙ ap (λ (zs : List X). slice_get zs at) same ∙ d.theirs)
 
 -- ---- there is one, unless they are equal
@@ -43,7 +43,7 @@ equal_never_differ {X} xs ys at x y same d = d.other (sym d.ours ∙ ap (λ (zs 
 either : (P : Type 0) → (P ⊎ (P → ⊥) → ⊥) → ⊥
 either P never = never (inr (λ p. never (inl p)))
 
-pub differ_or_equal : {X : Type 0} (xs ys : List X) → (xs ≡ ys → ⊥) → ((at : ℕ) (x y : Option X) → DifferAt xs ys at x y → ⊥) → ⊥
+pub differ_or_equal : {X : Type 0} (xs ys : List X) → (xs ≡ ys → ⊥) → ((at : ℕ) (x y : Option X) → AreFirstDifferentAt xs ys at x y → ⊥) → ⊥
 differ_or_equal [] [] other nowhere = other refl
 differ_or_equal [] (y ∷ ys) other nowhere = nowhere 0 None (Some y) (record { same = refl; ours = refl; theirs = refl; other = λ e. none-some y e })
 differ_or_equal (x ∷ xs) [] other nowhere = nowhere 0 (Some x) None (record { same = refl; ours = refl; theirs = refl; other = λ e. none-some x (sym e) })

@@ -6,27 +6,27 @@ use Rattle.std.specs.declared.cmp.Ordering.TheVariants.{Less, Greater}
 use Rattle.std.proofs.lemmas.Bool.{cases_order, cases_Bool, cond-true, cond-false, eqb-true, eq-eqb, ne_eqb}
 use Rattle.std.proofs.lemmas.Cmp.{nat_list_cmp_total}
 use Rattle.std.proofs.lemmas.Option.{slice_get-get_or, same_Some, none-some}
-use Rattle.mrpc_table.specs.Ascending.{FieldsAscend}
+use Rattle.mrpc_table.specs.Ascending.{AreFieldsAscending}
 use Rattle.mrpc_table.specs.Normal.{field_at}
 use Rattle.mrpc_table.specs.Text.{message_name}
-use Rattle.mrpc_table.specs.Valid.{Ascends, IsBelow, IsValid}
+use Rattle.mrpc_table.specs.Valid.{IsAscendingBy, IsBelow, IsValid}
 use Rattle.mrpc_table.specs.declared.table.Field.{Field}
 use Rattle.mrpc_table.specs.declared.table.Message.{Message}
 use Rattle.mrpc_table.specs.declared.table.Table.{Table}
 
 -- ---- lists that ascend
 
-ascends_tail : {X : Type 0} (R : X → X → Type 0) (x : X) (xs : List X) → Ascends R (x ∷ xs) → Ascends R xs
+ascends_tail : {X : Type 0} (R : X → X → Type 0) (x : X) (xs : List X) → IsAscendingBy R (x ∷ xs) → IsAscendingBy R xs
 ascends_tail R x [] up = tt
 ascends_tail R x (y ∷ ys) up = up.1
 
-above_first : {X : Type 0} (R : X → X → Type 0) → ((x y z : X) → R x y → R y z → R x z) → (x : X) (xs : List X) → Ascends R (x ∷ xs)
+above_first : {X : Type 0} (R : X → X → Type 0) → ((x y z : X) → R x y → R y z → R x z) → (x : X) (xs : List X) → IsAscendingBy R (x ∷ xs)
     → (k : ℕ) (d : X) → k < length xs → R x (get_or xs k d)
 above_first R trans x [] up k d within = absurd (omega arith)
 above_first R trans x (y ∷ ys) up zero d within = up.0
 above_first R trans x (y ∷ ys) up (suc k) d within = trans x y (get_or ys k d) up.0 (above_first R trans y ys up.1 k d (omega arith))
 
-pub rises : {X : Type 0} (R : X → X → Type 0) → ((x y z : X) → R x y → R y z → R x z) → (xs : List X) → Ascends R xs
+pub rises : {X : Type 0} (R : X → X → Type 0) → ((x y z : X) → R x y → R y z → R x z) → (xs : List X) → IsAscendingBy R xs
     → (i j : ℕ) (d : X) → i < j → j < length xs → R (get_or xs i d) (get_or xs j d)
 rises R trans [] up i j d below within = absurd (omega arith)
 rises R trans (x ∷ xs) up i zero d below within = absurd (omega arith)
@@ -81,10 +81,10 @@ place_of T valid m has i within named =
 number_trans : (f g h : Field) → f.number < g.number → g.number < h.number → f.number < h.number
 number_trans f g h a b = omega arith
 
-pub numbers_rise : (fs : List Field) → FieldsAscend fs → (i j : ℕ) (d : Field) → i < j → j < length fs → (get_or fs i d).number < (get_or fs j d).number
+pub numbers_rise : (fs : List Field) → AreFieldsAscending fs → (i j : ℕ) (d : Field) → i < j → j < length fs → (get_or fs i d).number < (get_or fs j d).number
 numbers_rise fs up i j d below within = rises (λ f g. f.number < g.number) number_trans fs up i j d below within
 
-field_found_at : (fs : List Field) → FieldsAscend fs → (f : Field) (k : ℕ) → k < length fs → get_or fs k f ≡ f → field_at fs f.number ≡ Some f
+field_found_at : (fs : List Field) → AreFieldsAscending fs → (f : Field) (k : ℕ) → k < length fs → get_or fs k f ≡ f → field_at fs f.number ≡ Some f
 field_found_at [] up f k within at = absurd (omega arith)
 field_found_at (g ∷ gs) up f zero within at =
     let hit : (g.number == f.number) ≡ true = eq-eqb g.number f.number (ap (λ (h : Field). h.number) at) in
@@ -95,7 +95,7 @@ field_found_at (g ∷ gs) up f (suc k) within at =
     let miss : (g.number == f.number) ≡ false = ne_eqb g.number f.number (λ e. omega arith) in
     cond-false (g.number == f.number) (Some g) (field_at gs f.number) miss ∙ field_found_at gs (ascends_tail (λ f g. f.number < g.number) g gs up) f k (omega arith) at
 
-pub field_found : (fs : List Field) → FieldsAscend fs → (f : Field) → Contains fs f → field_at fs f.number ≡ Some f
+pub field_found : (fs : List Field) → AreFieldsAscending fs → (f : Field) → Contains fs f → field_at fs f.number ≡ Some f
 field_found fs up f has = field_found_at fs up f has.0 has.1 has.2
 
 -- a field that is found is in the list, under the number

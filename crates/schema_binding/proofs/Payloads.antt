@@ -10,11 +10,11 @@ use Rattle.std.proofs.lemmas.List.Splits.{slice_split_none, slice_split_at, join
 use Rattle.mrpc_table.specs.Names.{IsFullName, is_name_start, is_name_byte, is_name_form, is_full_form, is_short_full, parts_of}
 use Rattle.mrpc_table.specs.Lines.{pieces_of}
 use Rattle.mrpc_table.specs.Text.{table_text}
-use Rattle.mrpc_table.specs.Valid.{IsValid, HaveOneTextEach}
+use Rattle.mrpc_table.specs.Valid.{IsValid, HasUniqueTexts}
 use Rattle.mrpc_table.specs.declared.table.Table.{Table}
-use Rattle.table_text.specs.Faults.{IsFirstFault}
+use Rattle.table_text.specs.Faults.{IsFirstTableFault}
 use Rattle.table_text.specs.declared.fault.TableReason.{TableReason}
-use Rattle.schema_binding.specs.Hello.{IsLine, IsTextOf, IsHello, IsBadAt, no_line_feed, no_full_name, no_table, IsFaultOf, IsFaultBehind, SaysOnce, IsBadOnce, NeverBoth, SaysOrIsBad}
+use Rattle.schema_binding.specs.Hello.{HasNoLineFeed, IsTextOf, IsHello, IsFirstFaultyLine, no_line_feed, no_full_name, no_table, IsHelloFaultOf, IsTableTextFaultOf, IsHelloUnique, IsFaultyLineUnique, IsHelloExclusive, IsHelloOrFaulty}
 use Rattle.schema_binding.specs.declared.fault.HelloFault.{HelloFault}
 use Rattle.schema_binding.specs.declared.fault.HelloFault.TheVariants.{Bad, Memory}
 
@@ -24,10 +24,10 @@ use Rattle.schema_binding.specs.declared.fault.HelloFault.TheVariants.{Bad, Memo
 record Cut (bytes : List ℕ) : Type 0 where
   pub first : List ℕ
   pub behind : List ℕ
-  pub is_line : IsLine first
+  pub is_line : HasNoLineFeed first
   pub whole : bytes ≡ first ++ 10 ∷ behind
 
-line_or : (bytes : List ℕ) → IsLine bytes ⊎ Cut bytes
+line_or : (bytes : List ℕ) → HasNoLineFeed bytes ⊎ Cut bytes
 line_or [] = inl (All-nil (λ (b : ℕ). b ≢ 10))
 line_or (b ∷ bytes) = elim (cases_eq b 10) [
   | inl feed ↦ inr (record { first = []; behind = bytes; is_line = All-nil (λ (c : ℕ). c ≢ 10); whole = ap (λ (c : ℕ). c ∷ bytes) feed })
@@ -42,16 +42,16 @@ line_or (b ∷ bytes) = elim (cases_eq b 10) [
   ]
 ]
 
-no_feeds : (bytes : List ℕ) → IsLine bytes → All (λ (b : ℕ). (b == 10) ≡ false) bytes
+no_feeds : (bytes : List ℕ) → HasNoLineFeed bytes → All (λ (b : ℕ). (b == 10) ≡ false) bytes
 no_feeds [] h = All-nil (λ (b : ℕ). (b == 10) ≡ false)
 no_feeds (b ∷ bytes) h =
     let other : b ≢ 10 = All-head (λ (c : ℕ). c ≢ 10) b bytes h in
     All-cons (λ (c : ℕ). (c == 10) ≡ false) b bytes (grind (arith, nat_tests, other)) (no_feeds bytes (All-tail (λ (c : ℕ). c ≢ 10) b bytes h))
 
-pub pieces_of_line : (bytes : List ℕ) → IsLine bytes → pieces_of bytes ≡ bytes ∷ []
+pub pieces_of_line : (bytes : List ℕ) → HasNoLineFeed bytes → pieces_of bytes ≡ bytes ∷ []
 pieces_of_line bytes h = slice_split_none (λ (b : ℕ). b == 10) bytes (no_feeds bytes h)
 
-pub pieces_behind : (first behind : List ℕ) → IsLine first → pieces_of (first ++ 10 ∷ behind) ≡ first ∷ pieces_of behind
+pub pieces_behind : (first behind : List ℕ) → HasNoLineFeed first → pieces_of (first ++ 10 ∷ behind) ≡ first ∷ pieces_of behind
 pieces_behind first behind h = slice_split_at (λ (b : ℕ). b == 10) first 10 behind (no_feeds first h) refl
 
 -- a text is determined by its pieces
@@ -73,7 +73,7 @@ tail_of : {X : Type 0} (x y : X) (xs ys : List X) → x ∷ xs ≡ y ∷ ys → 
 tail_of x y xs ys e = cc
 
 -- bytes of one piece are a line
-pub line_of_pieces : (bytes : List ℕ) → pieces_of bytes ≡ bytes ∷ [] → IsLine bytes
+pub line_of_pieces : (bytes : List ℕ) → pieces_of bytes ≡ bytes ∷ [] → HasNoLineFeed bytes
 line_of_pieces bytes e = elim (line_or bytes) [
   | inl line ↦ line
   | inr cut ↦
@@ -82,7 +82,7 @@ line_of_pieces bytes e = elim (line_or bytes) [
 ]
 
 -- bytes whose first piece is known
-pub cut_of_pieces : (bytes first text : List ℕ) → pieces_of bytes ≡ first ∷ pieces_of text → IsLine first × (bytes ≡ first ++ 10 ∷ text)
+pub cut_of_pieces : (bytes first text : List ℕ) → pieces_of bytes ≡ first ∷ pieces_of text → HasNoLineFeed first × (bytes ≡ first ++ 10 ∷ text)
 cut_of_pieces bytes first text e = elim (line_or bytes) [
   | inl line ↦
       let both : bytes ∷ [] ≡ first ∷ pieces_of text = sym (pieces_of_line bytes line) ∙ e in
@@ -91,11 +91,11 @@ cut_of_pieces bytes first text e = elim (line_or bytes) [
       let both : cut.first ∷ pieces_of cut.behind ≡ first ∷ pieces_of text = sym (ap pieces_of cut.whole ∙ pieces_behind cut.first cut.behind cut.is_line) ∙ e in
       let same : cut.first ≡ first = head_of cut.first first (pieces_of cut.behind) (pieces_of text) both in
       let rest : cut.behind ≡ text = one_by_pieces cut.behind text (tail_of cut.first first (pieces_of cut.behind) (pieces_of text) both) in
-      (subst IsLine same cut.is_line, cut.whole ∙ (λ i. same i ++ 10 ∷ rest i))
+      (subst HasNoLineFeed same cut.is_line, cut.whole ∙ (λ i. same i ++ 10 ∷ rest i))
 ]
 
 -- the first line of a text, and the text after it, are unique
-pub one_first_line : (first other text more : List ℕ) → IsLine first → IsLine other → first ++ 10 ∷ text ≡ other ++ 10 ∷ more → (first ≡ other) × (text ≡ more)
+pub one_first_line : (first other text more : List ℕ) → HasNoLineFeed first → HasNoLineFeed other → first ++ 10 ∷ text ≡ other ++ 10 ∷ more → (first ≡ other) × (text ≡ more)
 one_first_line first other text more h k e =
     let both : first ∷ pieces_of text ≡ other ∷ pieces_of more = sym (pieces_behind first text h) ∙ ap pieces_of e ∙ pieces_behind other more k in (
       head_of first other (pieces_of text) (pieces_of more) both,
@@ -103,7 +103,7 @@ one_first_line first other text more h k e =
     )
 
 -- a line has no line feed
-pub no_feed_in_line : (first text : List ℕ) → IsLine (first ++ 10 ∷ text) → ⊥
+pub no_feed_in_line : (first text : List ℕ) → HasNoLineFeed (first ++ 10 ∷ text) → ⊥
 no_feed_in_line [] text h = All-head (λ (b : ℕ). b ≢ 10) 10 text h refl
 no_feed_in_line (b ∷ first) text h = no_feed_in_line first text (All-tail (λ (c : ℕ). c ≢ 10) b (first ++ 10 ∷ text) h)
 
@@ -123,19 +123,19 @@ no_feed_byte b h feed = let clash : false ≡ true = sym (ap is_name_byte feed) 
 no_feed_start : (b : ℕ) → is_name_start b ≡ true → b ≢ 10
 no_feed_start b h feed = let clash : false ≡ true = sym (ap is_name_start feed) ∙ h in cc
 
-line_of_bytes : (bytes : List ℕ) → list_all is_name_byte bytes ≡ true → IsLine bytes
+line_of_bytes : (bytes : List ℕ) → list_all is_name_byte bytes ≡ true → HasNoLineFeed bytes
 line_of_bytes [] h = All-nil (λ (b : ℕ). b ≢ 10)
 line_of_bytes (b ∷ bytes) h =
     All-cons (λ (c : ℕ). c ≢ 10) b bytes (no_feed_byte b (first_of_both (is_name_byte b) (list_all is_name_byte bytes) h))
     (line_of_bytes bytes (second_of_both (is_name_byte b) (list_all is_name_byte bytes) h))
 
-line_of_name : (name : List ℕ) → is_name_form name ≡ true → IsLine name
+line_of_name : (name : List ℕ) → is_name_form name ≡ true → HasNoLineFeed name
 line_of_name [] h = All-nil (λ (b : ℕ). b ≢ 10)
 line_of_name (b ∷ name) h =
     All-cons (λ (c : ℕ). c ≢ 10) b name (no_feed_start b (first_of_both (is_name_start b) (list_all is_name_byte name) h))
     (line_of_bytes name (second_of_both (is_name_start b) (list_all is_name_byte name) h))
 
-line_of_parts : (parts : List (List ℕ)) → list_all is_name_form parts ≡ true → IsLine (join_with_byte 46 parts)
+line_of_parts : (parts : List (List ℕ)) → list_all is_name_form parts ≡ true → HasNoLineFeed (join_with_byte 46 parts)
 line_of_parts [] h = All-nil (λ (b : ℕ). b ≢ 10)
 line_of_parts (x ∷ []) h = line_of_name x (first_of_both (is_name_form x) true h)
 line_of_parts (x ∷ y ∷ parts) h =
@@ -148,8 +148,8 @@ is_true true h = refl
 is_true false h = absurd cc
 
 -- a full name is a line
-pub line_of_full_name : (name : List ℕ) → IsFullName name → IsLine name
-line_of_full_name name h = subst IsLine (join_with_byte-slice_split 46 name) (line_of_parts (parts_of name) (is_true (list_all is_name_form (parts_of name)) h.form))
+pub line_of_full_name : (name : List ℕ) → IsFullName name → HasNoLineFeed name
+line_of_full_name name h = subst HasNoLineFeed (join_with_byte-slice_split 46 name) (line_of_parts (parts_of name) (is_true (list_all is_name_form (parts_of name)) h.form))
 
 name_or : (word : List ℕ) → IsFullName word ⊎ (IsFullName word → ⊥)
 name_or word = elim (cases_Bool (is_full_form word)) [
@@ -162,13 +162,13 @@ name_or word = elim (cases_Bool (is_full_form word)) [
 
 -- ---- the meaning of a payload, by its pieces
 
-pub bad_without_feed : (payload : List ℕ) → pieces_of payload ≡ payload ∷ [] → IsBadAt payload 1
+pub bad_without_feed : (payload : List ℕ) → pieces_of payload ≡ payload ∷ [] → IsFirstFaultyLine payload 1
 bad_without_feed payload e = no_line_feed (line_of_pieces payload e) refl
 
 pub says_nothing_without_feed : (payload service : List ℕ) (T : Table) → pieces_of payload ≡ payload ∷ [] → IsHello payload service T → ⊥
-says_nothing_without_feed payload service T e h = no_feed_in_line service (table_text T) (subst IsLine h.whole (line_of_pieces payload e))
+says_nothing_without_feed payload service T e h = no_feed_in_line service (table_text T) (subst HasNoLineFeed h.whole (line_of_pieces payload e))
 
-pub bad_name : (payload first text : List ℕ) → pieces_of payload ≡ first ∷ pieces_of text → (IsFullName first → ⊥) → IsBadAt payload 1
+pub bad_name : (payload first text : List ℕ) → pieces_of payload ≡ first ∷ pieces_of text → (IsFullName first → ⊥) → IsFirstFaultyLine payload 1
 bad_name payload first text e wrong =
     let cut = cut_of_pieces payload first text e in
     no_full_name first text cut.1 cut.0 wrong refl
@@ -194,57 +194,57 @@ said payload service text T e named is = record {
 }
 
 pub bad_behind : (payload service text : List ℕ) (fault : HelloFault) → pieces_of payload ≡ service ∷ pieces_of text → IsFullName service
-    → IsFaultBehind text fault → IsFaultOf payload fault
+    → IsTableTextFaultOf text fault → IsHelloFaultOf payload fault
 bad_behind payload service text (Bad line) e named h = no_table service text h.0 h.1 (cut_of_pieces payload service text e).1 named h.2 h.3
 bad_behind payload service text Memory e named h = tt
 
 -- ---- it has only one meaning
 
-pub says_once : HaveOneTextEach → SaysOnce
+pub says_once : HasUniqueTexts → IsHelloUnique
 says_once one payload service other T U h k =
     let same = one_first_line service other (table_text T) (table_text U) (line_of_full_name service h.named) (line_of_full_name other k.named) (sym h.whole ∙ k.whole) in
     (same.0, one T U h.valid k.valid same.1)
 
 -- a text has at most one first fault
 abbrev OneFault : Type 0
-OneFault = (text : List ℕ) (m n : ℕ) (r q : TableReason) → IsFirstFault text m r → IsFirstFault text n q → (m ≡ n) × (r ≡ q)
+OneFault = (text : List ℕ) (m n : ℕ) (r q : TableReason) → IsFirstTableFault text m r → IsFirstTableFault text n q → (m ≡ n) × (r ≡ q)
 
 -- and the text of a valid table none
 abbrev NoFault : Type 0
-NoFault = (T : Table) (line : ℕ) (reason : TableReason) → IsValid T → IsFirstFault (table_text T) line reason → ⊥
+NoFault = (T : Table) (line : ℕ) (reason : TableReason) → IsValid T → IsFirstTableFault (table_text T) line reason → ⊥
 
-pub bad_once : OneFault → IsBadOnce
+pub bad_once : OneFault → IsFaultyLineUnique
 bad_once one payload line other (no_line_feed is at) (no_line_feed is' at') = at ∙ sym at'
-bad_once one payload line other (no_line_feed is at) (no_full_name first text whole is' wrong at') = absurd (no_feed_in_line first text (subst IsLine whole is))
-bad_once one payload line other (no_line_feed is at) (no_table service text n reason whole named fault at') = absurd (no_feed_in_line service text (subst IsLine whole is))
-bad_once one payload line other (no_full_name first text whole is wrong at) (no_line_feed is' at') = absurd (no_feed_in_line first text (subst IsLine whole is'))
+bad_once one payload line other (no_line_feed is at) (no_full_name first text whole is' wrong at') = absurd (no_feed_in_line first text (subst HasNoLineFeed whole is))
+bad_once one payload line other (no_line_feed is at) (no_table service text n reason whole named fault at') = absurd (no_feed_in_line service text (subst HasNoLineFeed whole is))
+bad_once one payload line other (no_full_name first text whole is wrong at) (no_line_feed is' at') = absurd (no_feed_in_line first text (subst HasNoLineFeed whole is'))
 bad_once one payload line other (no_full_name first text whole is wrong at) (no_full_name first' text' whole' is' wrong' at') = at ∙ sym at'
 bad_once one payload line other (no_full_name first text whole is wrong at) (no_table service more n reason whole' named fault at') =
     let same = one_first_line first service text more is (line_of_full_name service named) (sym whole ∙ whole') in
     absurd (wrong (subst IsFullName (sym same.0) named))
-bad_once one payload line other (no_table service text n reason whole named fault at) (no_line_feed is' at') = absurd (no_feed_in_line service text (subst IsLine whole is'))
+bad_once one payload line other (no_table service text n reason whole named fault at) (no_line_feed is' at') = absurd (no_feed_in_line service text (subst HasNoLineFeed whole is'))
 bad_once one payload line other (no_table service text n reason whole named fault at) (no_full_name first more whole' is' wrong at') =
     let same = one_first_line service first text more (line_of_full_name service named) is' (sym whole ∙ whole') in
     absurd (wrong (subst IsFullName same.0 named))
 bad_once one payload line other (no_table service text n reason whole named fault at) (no_table service' text' n' reason' whole' named' fault' at') =
     let same = one_first_line service service' text text' (line_of_full_name service named) (line_of_full_name service' named') (sym whole ∙ whole') in
-    let lines = one text' n n' reason reason' (subst (λ (bs : List ℕ). IsFirstFault bs n reason) same.1 fault) fault' in
+    let lines = one text' n n' reason reason' (subst (λ (bs : List ℕ). IsFirstTableFault bs n reason) same.1 fault) fault' in
     at ∙ ap (λ (m : ℕ). m + 1) lines.0 ∙ sym at'
 
-pub never_both : NoFault → NeverBoth
-never_both none payload service T line h (no_line_feed is at) = no_feed_in_line service (table_text T) (subst IsLine h.whole is)
+pub never_both : NoFault → IsHelloExclusive
+never_both none payload service T line h (no_line_feed is at) = no_feed_in_line service (table_text T) (subst HasNoLineFeed h.whole is)
 never_both none payload service T line h (no_full_name first text whole is wrong at) =
     let same = one_first_line first service text (table_text T) is (line_of_full_name service h.named) (sym whole ∙ h.whole) in
     wrong (subst IsFullName (sym same.0) h.named)
 never_both none payload service T line h (no_table name text at reason whole named fault is) =
     let same = one_first_line name service text (table_text T) (line_of_full_name name named) (line_of_full_name service h.named) (sym whole ∙ h.whole) in
-    none T at reason h.valid (subst (λ (bs : List ℕ). IsFirstFault bs at reason) same.1 fault)
+    none T at reason h.valid (subst (λ (bs : List ℕ). IsFirstTableFault bs at reason) same.1 fault)
 
 -- a text is that of a valid table, or has a first fault
 abbrev TextOrFault : Type 0
-TextOrFault = (text : List ℕ) → ((T : Table) × IsValid T × (text ≡ table_text T)) ⊎ ((line : ℕ) × (reason : TableReason) × IsFirstFault text line reason)
+TextOrFault = (text : List ℕ) → ((T : Table) × IsValid T × (text ≡ table_text T)) ⊎ ((line : ℕ) × (reason : TableReason) × IsFirstTableFault text line reason)
 
-pub never_neither : TextOrFault → SaysOrIsBad
+pub never_neither : TextOrFault → IsHelloOrFaulty
 never_neither either payload = elim (line_or payload) [
   | inl line ↦ inr (1, no_line_feed line refl)
   | inr cut ↦ elim (name_or cut.first) [

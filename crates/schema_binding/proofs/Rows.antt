@@ -10,9 +10,9 @@ use Rattle.mrpc_table.specs.declared.table.Label.TheVariants.{Plain}
 use Rattle.mrpc_table.specs.declared.table.Field.{Field}
 use Rattle.mrpc_table.specs.declared.table.Message.{Message}
 use Rattle.mrpc_table.specs.declared.table.Table.{Table}
-use Rattle.schema_binding.specs.Agreement.{Signature, methods_of, Offers, FieldText, field_text, Prints, of_type}
-use Rattle.schema_binding.specs.Agreement.{BothReach, as_input, as_output, through, Differs, DiffersFirst, DifferAt}
-use Rattle.schema_binding.specs.Agreement.{Agree, by_fields, Refuses, no_service, other_text, other_field}
+use Rattle.schema_binding.specs.Agreement.{Signature, methods_of, HasMethodOf, FieldText, field_text, IsPrintedAs, message_kind_text}
+use Rattle.schema_binding.specs.Agreement.{IsReachedByBoth, as_input, as_output, through, IsDifference, IsFirstDifference, AreFirstDifferentAt}
+use Rattle.schema_binding.specs.Agreement.{AreInAgreement, by_fields, IsDisagreement, no_service, other_text, other_field}
 use Rattle.schema_binding.specs.declared.fault.AgreeFault.TheVariants.{NoService, Mismatch, Field as FieldFault}
 
 abbrev field_named : ℕ → List ℕ → Field
@@ -42,10 +42,10 @@ get = record { index = 0; name = codes "Get"; input = codes "M"; output = codes 
 
 -- ---- the service
 
-offers_S : (fields : List Field) → Offers (of_fields fields) (codes "S")
+offers_S : (fields : List Field) → HasMethodOf (of_fields fields) (codes "S")
 offers_S fields = (0, omega arith, refl)
 
-offers_no_T : (fields : List Field) → Offers (of_fields fields) (codes "T") → ⊥
+offers_no_T : (fields : List Field) → HasMethodOf (of_fields fields) (codes "T") → ⊥
 offers_no_T fields (zero, within, same) = let apart : 83 ≡ 84 = ap (λ (w : List ℕ). get_or w 0 0) same in omega (arith, apart)
 offers_no_T fields (suc k, within, same) = absurd (omega (arith, within))
 
@@ -56,28 +56,28 @@ no_methods_of_T : (fields : List Field) → methods_of (of_fields fields) (codes
 no_methods_of_T fields = refl
 
 -- of T neither table has a method
-refuses_T : Refuses (of_fields a_only) (of_fields a_only) (codes "T") 2 (NoService false false)
+refuses_T : IsDisagreement (of_fields a_only) (of_fields a_only) (codes "T") 2 (NoService false false)
 refuses_T =
-    let not_true : IsTrue false → Offers (of_fields a_only) (codes "T") = λ e. absurd cc in
-    let never : Offers (of_fields a_only) (codes "T") → IsTrue false = λ h. absurd (offers_no_T a_only h) in
+    let not_true : IsTrue false → HasMethodOf (of_fields a_only) (codes "T") = λ e. absurd cc in
+    let never : HasMethodOf (of_fields a_only) (codes "T") → IsTrue false = λ h. absurd (offers_no_T a_only h) in
     no_service false false (not_true, never) (not_true, never) (λ h k. absurd cc) refl
 
 -- ---- the texts
 
 -- they differ first in the name of the field
-other_name : DifferAt (table_text (of_fields a_only)) (table_text (of_fields b_only)) 31 (Some 97) (Some 98)
+other_name : AreFirstDifferentAt (table_text (of_fields a_only)) (table_text (of_fields b_only)) 31 (Some 97) (Some 98)
 unfolding digits
 other_name = record { same = refl; ours = refl; theirs = refl; other = λ e. let apart : 97 ≡ 98 = same_Some 97 98 e in omega (arith, apart) }
 
-refuses_b : Refuses (of_fields a_only) (of_fields b_only) (codes "S") 1 (Mismatch 31 (Some 97) (Some 98))
+refuses_b : IsDisagreement (of_fields a_only) (of_fields b_only) (codes "S") 1 (Mismatch 31 (Some 97) (Some 98))
 refuses_b = other_text 31 (Some 97) (Some 98) refl (offers_S a_only) (offers_S b_only) other_name refl
 
 -- if one table has a further field, they first differ in `m` of `method` against `f` of `field`
-further_field : DifferAt (table_text (of_fields a_only)) (table_text (of_fields a_and_b)) 33 (Some 109) (Some 102)
+further_field : AreFirstDifferentAt (table_text (of_fields a_only)) (table_text (of_fields a_and_b)) 33 (Some 109) (Some 102)
 unfolding digits
 further_field = record { same = refl; ours = refl; theirs = refl; other = λ e. let apart : 109 ≡ 102 = same_Some 109 102 e in omega (arith, apart) }
 
-refuses_further : Refuses (of_fields a_only) (of_fields a_and_b) (codes "S") 1 (Mismatch 33 (Some 109) (Some 102))
+refuses_further : IsDisagreement (of_fields a_only) (of_fields a_and_b) (codes "S") 1 (Mismatch 33 (Some 109) (Some 102))
 refuses_further = other_text 33 (Some 109) (Some 102) refl (offers_S a_only) (offers_S a_and_b) further_field refl
 
 -- ---- what both reach is M
@@ -102,7 +102,7 @@ one_field : (name : List ℕ) (f : Field) → Contains (field_named 1 name ∷ [
 one_field name f (zero, within, same) = same
 one_field name f (suc k, within, same) = absurd (omega (arith, within))
 
-only_field : (name type : List ℕ) (number : ℕ) (text : FieldText) → Prints (of_fields (field_named 1 name ∷ [])) type number text
+only_field : (name type : List ℕ) (number : ℕ) (text : FieldText) → IsPrintedAs (of_fields (field_named 1 name ∷ [])) type number text
     → (number ≡ 1) × (text ≡ record { label = codes "plain"; kind = codes "uint64"; name = name })
 only_field name type number text p =
     let m : message_of (field_named 1 name ∷ []) ≡ p.message = one_message (field_named 1 name ∷ []) p.message p.known in
@@ -112,21 +112,21 @@ only_field name type number text p =
       sym p.printed ∙ sym (λ i. field_text (of_fields (field_named 1 name ∷ [])) (m i) (f i)),
     )
 
-both_reach_M : (fields : List Field) → BothReach (of_fields a_only) (of_fields fields) (codes "S") (codes "M")
+both_reach_M : (fields : List Field) → IsReachedByBoth (of_fields a_only) (of_fields fields) (codes "S") (codes "M")
 both_reach_M fields = as_input get (0, omega arith, refl) (0, omega arith, refl)
 
-only_M : (fields : List Field) (type : List ℕ) → BothReach (of_fields a_only) (of_fields fields) (codes "S") type → codes "M" ≡ type
+only_M : (fields : List Field) (type : List ℕ) → IsReachedByBoth (of_fields a_only) (of_fields fields) (codes "S") type → codes "M" ≡ type
 only_M fields type (as_input s ours theirs) = ap (λ (g : Signature). g.input) (one_get s ours)
 only_M fields type (as_output s ours theirs) = ap (λ (g : Signature). g.output) (one_get s ours)
 only_M fields type (through outer inner number ours theirs reached prints other our_kind their_kind) =
     let text = only_field (codes "a") outer number ours prints in
-    let apart : codes "uint64" ≡ of_type type = sym (ap (λ (t : FieldText). t.kind) text.1) ∙ our_kind in
+    let apart : codes "uint64" ≡ message_kind_text type = sym (ap (λ (t : FieldText). t.kind) text.1) ∙ our_kind in
     let first : 117 ≡ 109 = ap (λ (w : List ℕ). get_or w 0 0) apart in
     absurd (omega (arith, first))
 
 -- ---- a field of another name
 
-a_prints : Prints (of_fields a_only) (codes "M") 1 a_text
+a_prints : IsPrintedAs (of_fields a_only) (codes "M") 1 a_text
 a_prints = record {
   message = message_of a_only;
   field = field_named 1 (codes "a");
@@ -137,7 +137,7 @@ a_prints = record {
   printed = refl;
 }
 
-b_prints : Prints (of_fields b_only) (codes "M") 1 b_text
+b_prints : IsPrintedAs (of_fields b_only) (codes "M") 1 b_text
 b_prints = record {
   message = message_of b_only;
   field = field_named 1 (codes "b");
@@ -151,22 +151,22 @@ b_prints = record {
 a_is_not_b : a_text ≢ b_text
 a_is_not_b e = let apart : 97 ≡ 98 = ap (λ (t : FieldText). get_or t.name 0 0) e in omega (arith, apart)
 
-a_differs : Differs (of_fields a_only) (of_fields b_only) (codes "S") (codes "M") 1
+a_differs : IsDifference (of_fields a_only) (of_fields b_only) (codes "S") (codes "M") 1
 a_differs = record { reached = both_reach_M b_only; ours = a_text; theirs = b_text; ours_prints = a_prints; theirs_prints = b_prints; other = a_is_not_b }
 
-a_differs_first : DiffersFirst (of_fields a_only) (of_fields b_only) (codes "S") (codes "M") 1
+a_differs_first : IsFirstDifference (of_fields a_only) (of_fields b_only) (codes "S") (codes "M") 1
 a_differs_first = record {
   differs = a_differs;
   least = λ type n d. let one : n ≡ 1 = (only_field (codes "a") type n d.ours d.ours_prints).0 in inr (only_M b_only type d.reached, omega arith);
 }
 
-refuses_a : Refuses (of_fields a_only) (of_fields b_only) (codes "S") 2 (FieldFault (codes "M") 1)
+refuses_a : IsDisagreement (of_fields a_only) (of_fields b_only) (codes "S") 2 (FieldFault (codes "M") 1)
 refuses_a = other_field (codes "M") 1 refl (offers_S a_only) (offers_S b_only) refl a_differs_first refl
 
 -- ---- a field that one side alone knows
 
 -- the print of the first field of M, if it has two
-first_text : (type : List ℕ) (text : FieldText) → Prints (of_fields a_and_b) type 1 text → text ≡ a_text
+first_text : (type : List ℕ) (text : FieldText) → IsPrintedAs (of_fields a_and_b) type 1 text → text ≡ a_text
 first_text type text p =
     let m : message_of a_and_b ≡ p.message = one_message a_and_b p.message p.known in
     let has : Contains a_and_b p.field = subst (λ (n : Message). Contains n.fields p.field) (sym m) p.has in
@@ -178,8 +178,8 @@ first_text type text p =
     first_field f one (suc zero, within, same) = let two : 2 ≡ f.number = ap (λ (g : Field). g.number) same in absurd (omega (arith, two, one))
     first_field f one (suc (suc k), within, same) = absurd (omega (arith, within))
 
-pub agree_a : Agree (of_fields a_only) (of_fields a_and_b) (codes "S") 2
+pub agree_a : AreInAgreement (of_fields a_only) (of_fields a_and_b) (codes "S") 2
 agree_a = by_fields refl (offers_S a_only) (offers_S a_and_b) refl (λ type number d.
     let ours = only_field (codes "a") type number d.ours d.ours_prints in
-    let theirs : d.theirs ≡ a_text = first_text type d.theirs (subst (λ n. Prints (of_fields a_and_b) type n d.theirs) ours.0 d.theirs_prints) in
+    let theirs : d.theirs ≡ a_text = first_text type d.theirs (subst (λ n. IsPrintedAs (of_fields a_and_b) type n d.theirs) ours.0 d.theirs_prints) in
     d.other (ours.1 ∙ sym theirs))

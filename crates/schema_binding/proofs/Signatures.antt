@@ -11,9 +11,9 @@ use Rattle.std.proofs.lemmas.Option.{slice_get_past, slice_get_within, same_Some
 use Rattle.std.proofs.lemmas.Slice.Eq.{bytes_eq-Decides}
 use Rattle.mrpc_table.specs.declared.table.Method.{Method}
 use Rattle.mrpc_table.specs.declared.table.Table.{Table}
-use Rattle.schema_binding.specs.Agreement.{Signature, signature, methods_of, Offers}
+use Rattle.schema_binding.specs.Agreement.{Signature, signature, methods_of, HasMethodOf}
 use Rattle.schema_binding.specs.Places.{method_at, signature_at}
-use Rattle.schema_binding.specs.Refusals.{DifferFrom}
+use Rattle.schema_binding.specs.Disagreement.{AreFirstDifferentFrom}
 
 -- ---- lists by index
 
@@ -67,8 +67,8 @@ heads_differ (Some s) None a xs ys other at_o at_p above_x above_y e =
 heads_differ (Some s) (Some t) a xs ys other at_o at_p above_x above_y e = other e
 
 -- one more element before both
-shift : (o p : Option Signature) (front xs ys : List Signature) → o ≡ p → DifferFrom xs ys (length front)
-    → DifferFrom (cons_option o xs) (cons_option p ys) (length (cons_option o front))
+shift : (o p : Option Signature) (front xs ys : List Signature) → o ≡ p → AreFirstDifferentFrom xs ys (length front)
+    → AreFirstDifferentFrom (cons_option o xs) (cons_option p ys) (length (cons_option o front))
 shift None None front xs ys same d = d
 shift None (Some t) front xs ys same d = absurd (none-some t same)
 shift (Some s) None front xs ys same d = absurd (none-some s (sym same))
@@ -77,7 +77,7 @@ shift (Some s) (Some t) front xs ys same d =
     (d.0, d.1, record { same = λ i. e i ∷ d.2.same i; ours = d.2.ours; theirs = d.2.theirs; other = d.2.other })
 
 differ_from : (g h : ℕ → Option Signature) → IsIndexed g → IsIndexed h → (i a n : ℕ) → i < n → ((k : ℕ) → k < i → g (a + k) ≡ h (a + k)) → g (a + i) ≢ h (a + i)
-    → DifferFrom (filter_map g (range_with_len a n)) (filter_map h (range_with_len a n)) (length (filter_map g (range_with_len a i)))
+    → AreFirstDifferentFrom (filter_map g (range_with_len a n)) (filter_map h (range_with_len a n)) (length (filter_map g (range_with_len a i)))
 differ_from g h is_g is_h i a zero below same other = absurd (omega (arith, below))
 differ_from g h is_g is_h zero a (suc n) below same other =
     let xs = filter_map g (range_with_len (a + 1) n) in
@@ -94,7 +94,7 @@ differ_from g h is_g is_h zero a (suc n) below same other =
     )
 differ_from g h is_g is_h (suc i) a (suc n) below same other =
     let first : g a ≡ h a = subst (λ b. g b ≡ h b) (add-zero a) (same 0 (omega arith)) in
-    let later : DifferFrom (filter_map g (range_with_len (a + 1) n)) (filter_map h (range_with_len (a + 1) n)) (length (filter_map g (range_with_len (a + 1) i))) =
+    let later : AreFirstDifferentFrom (filter_map g (range_with_len (a + 1) n)) (filter_map h (range_with_len (a + 1) n)) (length (filter_map g (range_with_len (a + 1) i))) =
     differ_from g h is_g is_h i (a + 1) n (omega arith)
     (λ k le. subst (λ b. g b ≡ h b) (let e : a + suc k ≡ a + 1 + k = omega arith in e) (same (suc k) (omega arith)))
     (subst (λ b. g b ≢ h b) (let e : a + suc i ≡ a + 1 + i = omega arith in e) other) in
@@ -206,14 +206,14 @@ given_below T service n = filter_map (signature_at T service) (range_with_len 0 
 
 pub methods_differ : (T U : Table) (service : List ℕ) (i n : ℕ) → i < n → length T.methods ≤ n → length U.methods ≤ n
     → ((k : ℕ) → k < i → signature_at T service k ≡ signature_at U service k) → signature_at T service i ≢ signature_at U service i
-    → DifferFrom (methods_of T service) (methods_of U service) (length (given_below T service i))
+    → AreFirstDifferentFrom (methods_of T service) (methods_of U service) (length (given_below T service i))
 methods_differ T U service i n below few_T few_U same other =
-    let d : DifferFrom (given_below T service n) (given_below U service n) (length (given_below T service i)) =
+    let d : AreFirstDifferentFrom (given_below T service n) (given_below U service n) (length (given_below T service i)) =
     differ_from (signature_at T service) (signature_at U service) (indexed T service) (indexed U service) i 0 n below
     (λ k le. subst (λ b. signature_at T service b ≡ signature_at U service b) (let e : k ≡ 0 + k = omega arith in e) (same k le))
     (subst (λ b. signature_at T service b ≢ signature_at U service b) (let e : i ≡ 0 + i = omega arith in e) other) in
-    subst (λ (xs : List Signature). DifferFrom xs (methods_of U service) (length (given_below T service i))) (sym (methods_by_place T service n few_T))
-    (subst (λ (ys : List Signature). DifferFrom (given_below T service n) ys (length (given_below T service i))) (sym (methods_by_place U service n few_U)) d)
+    subst (λ (xs : List Signature). AreFirstDifferentFrom xs (methods_of U service) (length (given_below T service i))) (sym (methods_by_place T service n few_T))
+    (subst (λ (ys : List Signature). AreFirstDifferentFrom (given_below T service n) ys (length (given_below T service i))) (sym (methods_by_place U service n few_U)) d)
 
 pub methods_equal : (T U : Table) (service : List ℕ) (n : ℕ) → length T.methods ≤ n → length U.methods ≤ n
     → ((k : ℕ) → k < n → signature_at T service k ≡ signature_at U service k) → methods_of T service ≡ methods_of U service
@@ -379,9 +379,9 @@ filtered_some service (m ∷ ms) some = elim (cases_Bool (bytes_eq m.service ser
       (suc later.0, omega arith, later.2)
 ]
 
-pub offers_some : (T : Table) (service : List ℕ) → Offers T service → 0 < length (methods_of T service)
+pub offers_some : (T : Table) (service : List ℕ) → HasMethodOf T service → 0 < length (methods_of T service)
 offers_some T service has = let some : 0 < length (filter (λ m. bytes_eq m.service service) T.methods) =
     some_filtered service T.methods has in omega (arith, some, as_many T service 0 T.methods)
 
-pub some_offers : (T : Table) (service : List ℕ) → 0 < length (methods_of T service) → Offers T service
+pub some_offers : (T : Table) (service : List ℕ) → 0 < length (methods_of T service) → HasMethodOf T service
 some_offers T service some = filtered_some service T.methods (omega (arith, some, as_many T service 0 T.methods))

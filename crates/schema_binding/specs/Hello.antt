@@ -5,7 +5,7 @@ use Rattle.mrpc_table.specs.Names.{IsFullName}
 use Rattle.mrpc_table.specs.Text.{table_text}
 use Rattle.mrpc_table.specs.Valid.{IsValid}
 use Rattle.mrpc_table.specs.declared.table.Table.{Table}
-use Rattle.table_text.specs.Faults.{IsFirstFault}
+use Rattle.table_text.specs.Faults.{IsFirstTableFault}
 use Rattle.table_text.specs.declared.fault.TableReason.{TableReason}
 use Rattle.schema_binding.specs.declared.fault.HelloFault.{HelloFault}
 use Rattle.schema_binding.specs.declared.fault.HelloFault.TheVariants.{Bad, Memory}
@@ -25,43 +25,46 @@ pub record IsHello (payload service : List ℕ) (T : Table) : Type 0 where
   pub whole : payload ≡ hello_payload service T
 
 -- the bytes have no line feed
-abbrev pub IsLine : List ℕ → Type 0
-IsLine bytes = All (λ byte. byte ≢ 10) bytes
+abbrev pub HasNoLineFeed : List ℕ → Type 0
+HasNoLineFeed bytes = All (λ byte. byte ≢ 10) bytes
 
 -- The first line at fault, counted from 1. It is line 1, which lacks its line feed or is no full name, or one of the
 -- lines of the table's text after it, or the line after them.
-pub data IsBadAt (payload : List ℕ) (line : ℕ) : Type 0 where
-  no_line_feed : IsLine payload → line ≡ 1 → IsBadAt payload line
-  no_full_name : (first text : List ℕ) → payload ≡ first ++ 10 ∷ text → IsLine first → (IsFullName first → ⊥)
-      → line ≡ 1 → IsBadAt payload line
+pub data IsFirstFaultyLine (payload : List ℕ) (line : ℕ) : Type 0 where
+  no_line_feed : HasNoLineFeed payload → line ≡ 1 → IsFirstFaultyLine payload line
+  no_full_name : (first text : List ℕ) → payload ≡ first ++ 10 ∷ text → HasNoLineFeed first → (IsFullName first → ⊥)
+      → line ≡ 1 → IsFirstFaultyLine payload line
   no_table : (service text : List ℕ) (at : ℕ) (reason : TableReason) → payload ≡ service ++ 10 ∷ text
       → IsFullName service
-      → IsFirstFault text at reason → line ≡ at + 1 → IsBadAt payload line
+      → IsFirstTableFault text at reason → line ≡ at + 1 → IsFirstFaultyLine payload line
 
 -- what a fault means of a payload; `Memory` can come with any payload
-abbrev pub IsFaultOf : List ℕ → HelloFault → Type 0
-IsFaultOf payload (Bad line) = IsBadAt payload line
-IsFaultOf payload Memory = Unit {0}
+abbrev pub IsHelloFaultOf : List ℕ → HelloFault → Type 0
+IsHelloFaultOf payload (Bad line) = IsFirstFaultyLine payload line
+IsHelloFaultOf payload Memory = Unit {0}
 
 -- the code's own: what a fault means of the text after the service
-abbrev pub IsFaultBehind : List ℕ → HelloFault → Type 0
-IsFaultBehind text (Bad line) = (at : ℕ) × (reason : TableReason) × IsFirstFault text at reason × (line ≡ at + 1)
-IsFaultBehind text Memory = Unit {0}
+abbrev pub IsTableTextFaultOf : List ℕ → HelloFault → Type 0
+IsTableTextFaultOf text (Bad line) = (at : ℕ) × (reason : TableReason) × IsFirstTableFault text at reason
+    × (line ≡ at + 1)
+IsTableTextFaultOf text Memory = Unit {0}
 
 -- a payload has at most one service and one table
-abbrev pub SaysOnce : Type 0
-SaysOnce = (payload service other : List ℕ) (T U : Table) → IsHello payload service T → IsHello payload other U
+abbrev pub IsHelloUnique : Type 0
+IsHelloUnique = (payload service other : List ℕ) (T U : Table) → IsHello payload service T → IsHello payload other U
     → (service ≡ other) × (T ≡ U)
 
 -- it has at most one first line at fault
-abbrev pub IsBadOnce : Type 0
-IsBadOnce = (payload : List ℕ) (line other : ℕ) → IsBadAt payload line → IsBadAt payload other → line ≡ other
+abbrev pub IsFaultyLineUnique : Type 0
+IsFaultyLineUnique = (payload : List ℕ) (line other : ℕ) → IsFirstFaultyLine payload line
+    → IsFirstFaultyLine payload other → line ≡ other
 
 -- it never has both
-abbrev pub NeverBoth : Type 0
-NeverBoth = (payload service : List ℕ) (T : Table) (line : ℕ) → IsHello payload service T → IsBadAt payload line → ⊥
+abbrev pub IsHelloExclusive : Type 0
+IsHelloExclusive = (payload service : List ℕ) (T : Table) (line : ℕ) → IsHello payload service T
+    → IsFirstFaultyLine payload line → ⊥
 
 -- and it has one of the two
-abbrev pub SaysOrIsBad : Type 0
-SaysOrIsBad = (payload : List ℕ)
-    → ((service : List ℕ) × (T : Table) × IsHello payload service T) ⊎ ((line : ℕ) × IsBadAt payload line)
+abbrev pub IsHelloOrFaulty : Type 0
+IsHelloOrFaulty = (payload : List ℕ)
+    → ((service : List ℕ) × (T : Table) × IsHello payload service T) ⊎ ((line : ℕ) × IsFirstFaultyLine payload line)

@@ -2,4 +2,4 @@ pub mod Agreement
 pub mod Hello
 pub mod Places
 pub mod Reach
-pub mod Refusals
+pub mod Disagreement

@@ -11,7 +11,7 @@ use Rattle.mrpc_table.specs.declared.table.Field.{Field}
 use Rattle.mrpc_table.specs.declared.table.Message.{Message}
 use Rattle.mrpc_table.specs.declared.table.Method.{Method}
 use Rattle.mrpc_table.specs.declared.table.Table.{Table}
-use Rattle.schema_binding.specs.Agreement.{Signature, signature, FieldText, field_text, of_type}
+use Rattle.schema_binding.specs.Agreement.{Signature, signature, FieldText, field_text, message_kind_text}
 
 -- the method at an index, if it is one of the service
 abbrev pub method_at : Table → List ℕ → ℕ → Option Method
@@ -22,12 +22,12 @@ abbrev pub signature_at : Table → List ℕ → ℕ → Option Signature
 signature_at T service index = option_map (λ m. signature T (index, m)) (method_at T service index)
 
 -- the print of the field with a number in a message
-abbrev pub print_in : Table → Message → ℕ → Option FieldText
-print_in T m number = option_map (field_text T m) (field_at m.fields number)
+abbrev pub printed_in : Table → Message → ℕ → Option FieldText
+printed_in T m number = option_map (field_text T m) (field_at m.fields number)
 
--- like `print_in`, for the message at an index
-abbrev pub print_at : Table → ℕ → ℕ → Option FieldText
-print_at T i number = option_and_then (λ m. print_in T m number) (slice_get T.messages i)
+-- like `printed_in`, for the message at an index
+abbrev pub printed_at : Table → ℕ → ℕ → Option FieldText
+printed_at T i number = option_and_then (λ m. printed_in T m number) (slice_get T.messages i)
 
 -- the messages at these indices have the same name
 pub record IsPair (T U : Table) (i j : ℕ) : Type 0 where
@@ -36,27 +36,27 @@ pub record IsPair (T U : Table) (i j : ℕ) : Type 0 where
   pub same : message_name T i ≡ message_name U j
 
 -- both know a number, and the texts print its fields differently
-pub record PrintOther (T U : Table) (i j number : ℕ) : Type 0 where
+pub record IsPrintedDifferently (T U : Table) (i j number : ℕ) : Type 0 where
   pub ours : FieldText
   pub theirs : FieldText
-  pub ours_prints : print_at T i number ≡ Some ours
-  pub theirs_prints : print_at U j number ≡ Some theirs
+  pub ours_prints : printed_at T i number ≡ Some ours
+  pub theirs_prints : printed_at U j number ≡ Some theirs
   pub other : ours ≢ theirs
 
 -- the field of a number that both know has this message type in both
-pub record LeadsTo (T U : Table) (i j : ℕ) (type : List ℕ) : Type 0 where
+pub record HasFieldOfType (T U : Table) (i j : ℕ) (type : List ℕ) : Type 0 where
   pub number : ℕ
   pub ours : FieldText
   pub theirs : FieldText
-  pub ours_prints : print_at T i number ≡ Some ours
-  pub theirs_prints : print_at U j number ≡ Some theirs
-  pub our_type : ours.kind ≡ of_type type
-  pub their_type : theirs.kind ≡ of_type type
+  pub ours_prints : printed_at T i number ≡ Some ours
+  pub theirs_prints : printed_at U j number ≡ Some theirs
+  pub our_type : ours.kind ≡ message_kind_text type
+  pub their_type : theirs.kind ≡ message_kind_text type
 
 -- two kinds are this message type
 pub record AreOfType (T U : Table) (k l : Kind) (type : List ℕ) : Type 0 where
-  pub ours : kind_text T k ≡ of_type type
-  pub theirs : kind_text U l ≡ of_type type
+  pub ours : kind_text T k ≡ message_kind_text type
+  pub theirs : kind_text U l ≡ message_kind_text type
 
 -- the field and the other message's field of its number have this message type
 pub record IsShared (T U : Table) (field : Field) (other : Message) (type : List ℕ) : Type 0 where
@@ -65,7 +65,7 @@ pub record IsShared (T U : Table) (field : Field) (other : Message) (type : List
   pub types : AreOfType T U field.kind known.kind type
 
 -- the other message's field of this field's number is printed differently
-pub record IsOther (T U : Table) (message : Message) (field : Field) (other : Message) : Type 0 where
+pub record IsOtherPrint (T U : Table) (message : Message) (field : Field) (other : Message) : Type 0 where
   pub known : Field
   pub is : field_at other.fields field.number ≡ Some known
   pub other_text : field_text T message field ≢ field_text U other known
@@ -77,6 +77,6 @@ IsLabel T oneofs (Member o) = o < length oneofs
 IsLabel T oneofs _ = Unit {0}
 
 -- the least number whose fields the texts print differently
-pub record IsLeastOther (T U : Table) (i j number : ℕ) : Type 0 where
-  pub here : PrintOther T U i j number
-  pub least : (n : ℕ) → PrintOther T U i j n → number ≤ n
+pub record IsLeastDifference (T U : Table) (i j number : ℕ) : Type 0 where
+  pub here : IsPrintedDifferently T U i j number
+  pub least : (n : ℕ) → IsPrintedDifferently T U i j n → number ≤ n

@@ -3,15 +3,15 @@
 ghost use Rattle.std.specs.Prelude.{◌≡◌, ◌⊎◌, ℕ, List, length, OnOk, IfOk, IfErr, MatchResult};
 ghost use Rattle.mrpc_table.specs.Text.{table_text};
 ghost use Rattle.mrpc_table.specs.Valid.{IsValid};
-ghost use Rattle.schema_binding.specs.Agreement.{Agree, Refuses, Differs, methods_of};
-ghost use Rattle.schema_binding.specs.Refusals.{HaveOtherTexts, HaveOtherMethods, HaveOtherFields};
+ghost use Rattle.schema_binding.specs.Agreement.{AreInAgreement, IsDisagreement, IsDifference, methods_of};
+ghost use Rattle.schema_binding.specs.Disagreement.{HaveDifferentTexts, HaveDifferentMethods, HaveDifferentFields};
 ghost use Rattle.schema_binding.specs.declared.fault.AgreeFault.{AgreeFault as TheFault};
 ghost use Rattle.schema_binding.specs.declared.fault.AgreeFault.TheVariants.{Memory as NoMemory};
 
 use crate::compare::first_byte;
 use crate::fault::AgreeFault;
 use crate::methods::{count_methods, first_method};
-use crate::reach::Reached;
+use crate::reach::ReachedPairs;
 use frame_transport::VERSION;
 use mrpc_table::{Name, Table};
 use std::alloc::Global;
@@ -39,15 +39,15 @@ pub fn agree(
     requires theirs { IsValid theirs.now }
     requires version { (version ≡ 1) ⊎ (version ≡ 2) }
     // They agree, and the service has this many methods.
-    ensures agreed { OnOk result (Agree ours.now theirs.now service.now version) }
+    ensures agreed { OnOk result (AreInAgreement ours.now theirs.now service.now version) }
     ensures methods { IfOk result (λ agreed. agreed.methods ≡ length (methods_of ours.now service.now)) }
     // The error is why they don't agree.
     ensures refused { IfErr result (λ fault. (fault ≡ NoMemory)
-        ⊎ Refuses ours.now theirs.now service.now version fault) }
+        ⊎ IsDisagreement ours.now theirs.now service.now version fault) }
     // If they agree, the only error is `Memory`. If they don't, the error is their first difference or `Memory`.
-    ensures agreed_only { Agree ours.now theirs.now service.now version
+    ensures agreed_only { AreInAgreement ours.now theirs.now service.now version
         → IfErr result (λ fault. fault ≡ NoMemory) }
-    ensures refused_only { (why : TheFault) → Refuses ours.now theirs.now service.now version why
+    ensures refused_only { (why : TheFault) → IsDisagreement ours.now theirs.now service.now version why
         → MatchResult result (λ _. ⊥) (λ fault. (fault ≡ NoMemory) ⊎ (fault ≡ why)) }
 {
     let methods = count_methods(ours, service);
@@ -72,7 +72,7 @@ fn same_text(alloc: Global, ours: &Table, theirs: &Table) -> Result<(), AgreeFau
     requires ours { IsValid ours.now }
     requires theirs { IsValid theirs.now }
     ensures same { OnOk result (table_text ours.now ≡ table_text theirs.now) }
-    ensures differ { IfErr result (λ fault. (fault ≡ NoMemory) ⊎ HaveOtherTexts ours.now theirs.now fault) }
+    ensures differ { IfErr result (λ fault. (fault ≡ NoMemory) ⊎ HaveDifferentTexts ours.now theirs.now fault) }
 {
     let our = table_text(alloc, ours)?;
     let their = table_text(alloc, theirs)?;
@@ -91,7 +91,7 @@ fn same_methods(ours: &Table, theirs: &Table, service: &Name) -> Result<(), Agre
     requires ours { IsValid ours.now }
     requires theirs { IsValid theirs.now }
     ensures same { OnOk result (methods_of ours.now service.now ≡ methods_of theirs.now service.now) }
-    ensures differ { IfErr result (HaveOtherMethods ours.now theirs.now service.now) }
+    ensures differ { IfErr result (HaveDifferentMethods ours.now theirs.now service.now) }
 {
     match first_method(ours, theirs, service) {
         None => Ok(()),
@@ -111,11 +111,11 @@ fn same_fields(
     requires theirs { IsValid theirs.now }
     requires same { methods_of ours.now service.now ≡ methods_of theirs.now service.now }
     ensures same { OnOk result ((type : List ℕ) (number : ℕ)
-        → Differs ours.now theirs.now service.now type number → ⊥) }
+        → IsDifference ours.now theirs.now service.now type number → ⊥) }
     ensures differ { IfErr result (λ fault. (fault ≡ NoMemory)
-        ⊎ HaveOtherFields ours.now theirs.now service.now fault) }
+        ⊎ HaveDifferentFields ours.now theirs.now service.now fault) }
 {
-    let reached = Reached::of(alloc, ours, theirs, service)?;
+    let reached = ReachedPairs::of(alloc, ours, theirs, service)?;
     for (our, message) in ours.messages.as_slice().iter().enumerate() {
         if let Some(number) = reached.differing_field(ours, our, theirs) {
             return Err(AgreeFault::Field {

@@ -3,7 +3,7 @@
 ghost use Rattle.std.specs.Prelude.{◌≡◌, ◌<◌, ◌↔◌, length, slice_get, IsTrue, MatchOption};
 ghost use Rattle.mrpc_table.specs.Text.{message_name, enum_name, kind_text, label_text};
 ghost use Rattle.mrpc_table.specs.Valid.{IsKnown, IsField};
-ghost use Rattle.schema_binding.specs.Agreement.{DifferAt, field_text};
+ghost use Rattle.schema_binding.specs.Agreement.{AreFirstDifferentAt, field_text};
 ghost use Rattle.schema_binding.specs.Places.{IsLabel};
 
 use mrpc_table::{Field, Kind, Label, Message, Names, Table};
@@ -11,7 +11,7 @@ use mrpc_table::{Field, Kind, Label, Message, Names, Table};
 // The first offset, from 0, at which two texts differ or only one has ended.
 pub(crate) fn first_byte(ours: &[u8], theirs: &[u8]) -> Option<usize>
     ensures { MatchOption result (ours.now ≡ theirs.now)
-        (λ at. DifferAt ours.now theirs.now at (slice_get ours.now at) (slice_get theirs.now at)) }
+        (λ at. AreFirstDifferentAt ours.now theirs.now at (slice_get ours.now at) (slice_get theirs.now at)) }
 {
     let shorter = ours.len().min(theirs.len());
     for at in 0..shorter {

@@ -10,12 +10,12 @@
 mod agreement;
 mod compare;
 mod fault;
-mod greeting;
+mod hello_form;
 mod laws;
 mod methods;
 mod reach;
 
 pub use agreement::{Agreed, agree};
 pub use fault::{AgreeFault, HelloFault};
-pub use greeting::{hello, on_hello};
-pub use laws::{one_agreement, one_hello};
+pub use hello_form::{hello, on_hello};
+pub use laws::{agreement_is_decided, hello_is_unique};

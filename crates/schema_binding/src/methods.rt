@@ -5,7 +5,7 @@ ghost use Rattle.std.specs.Option.{option_copied};
 ghost use Rattle.mrpc_table.specs.Valid.{IsValid, IsMethod};
 ghost use Rattle.schema_binding.specs.Agreement.{signature, methods_of};
 ghost use Rattle.schema_binding.specs.Places.{method_at, signature_at};
-ghost use Rattle.schema_binding.specs.Refusals.{DifferFrom};
+ghost use Rattle.schema_binding.specs.Disagreement.{AreFirstDifferentFrom};
 
 use crate::compare::is_same_message;
 use mrpc_table::{Method, Name, Table};
@@ -41,7 +41,7 @@ pub(crate) fn first_method(ours: &Table, theirs: &Table, service: &Name) -> Opti
     requires ours { IsValid ours.now }
     requires theirs { IsValid theirs.now }
     ensures { MatchOption result (methods_of ours.now service.now ≡ methods_of theirs.now service.now)
-        (DifferFrom (methods_of ours.now service.now) (methods_of theirs.now service.now)) }
+        (AreFirstDifferentFrom (methods_of ours.now service.now) (methods_of theirs.now service.now)) }
 {
     let mut at = 0;
     for index in 0..ours.methods.len().max(theirs.methods.len()) {

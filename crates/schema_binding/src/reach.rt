@@ -4,8 +4,8 @@ ghost use Rattle.std.specs.Prelude.{◌≡◌, ◌<◌, ◌↔◌, ℕ, List, []
 ghost use Rattle.mrpc_table.specs.Valid.{IsField, IsKnown, IsMessage, IsValid};
 ghost use Rattle.mrpc_table.specs.declared.table.Method.{Method as TheMethod};
 ghost use Rattle.schema_binding.specs.Agreement.{methods_of};
-ghost use Rattle.schema_binding.specs.Places.{method_at, AreOfType, IsLeastOther, IsOther, IsPair, IsShared, LeadsTo, PrintOther};
-ghost use Rattle.schema_binding.specs.Reach.{Gains, Grows, HasBoth, HasMethods, HasName, HasNext, IsClosed, IsInMethods, IsLeastIn, IsPaired, IsReached, IsReachedOnly, IsSameIn, Marks};
+ghost use Rattle.schema_binding.specs.Places.{method_at, AreOfType, IsLeastDifference, IsOtherPrint, IsPair, IsShared, HasFieldOfType, IsPrintedDifferently};
+ghost use Rattle.schema_binding.specs.Reach.{HasGained, HasGrown, HasMarkedBoth, HasMarkedMethods, HasMarkedName, HasMarkedNext, IsClosedUnderFields, IsInMethods, IsLeastIn, IsPaired, HasExactlyReached, HasOnlyReached, IsSameIn, HasMarked};
 
 use crate::compare::{is_same_field, is_same_message};
 use crate::methods::method_at;
@@ -14,40 +14,40 @@ use std::alloc::Global;
 
 // The pairs of messages, one of each table and with the same name, that both tables reach. Each pair is marked once.
 #[derive(Drop)]
-pub(crate) struct Reached {
+pub(crate) struct ReachedPairs {
     // For each of our messages the index of the peer's message, if the pair is marked.
     partners: Vec<Option<u32>>,
     // The marked pairs, in the order in which they were found.
     found: Vec<(u32, u32)>,
 }
 
-impl Reached {
+impl ReachedPairs {
     // The pairs that both reach from the methods of the service, which are the same in both tables.
     pub(crate) fn of(
         alloc: Global,
         ours: &Table,
         theirs: &Table,
         service: &Name,
-    ) -> Result<Reached, Memory>
+    ) -> Result<ReachedPairs, Memory>
         requires ours { IsValid ours.now }
         requires theirs { IsValid theirs.now }
         requires same { methods_of ours.now service.now ≡ methods_of theirs.now service.now }
-        ensures { IfOk result (IsReached ours.now theirs.now service.now) }
+        ensures { IfOk result (HasExactlyReached ours.now theirs.now service.now) }
     {
-        let mut reached = Reached::none(alloc, ours.messages.len())?;
+        let mut reached = ReachedPairs::none(alloc, ours.messages.len())?;
         reached.mark_methods(ours, theirs, service)?;
         reached.mark_further(ours, theirs)?;
         Ok(reached)
     }
 
     // No pair is marked, with room for this many messages.
-    fn none(alloc: Global, messages: usize) -> Result<Reached, Memory>
+    fn none(alloc: Global, messages: usize) -> Result<ReachedPairs, Memory>
         ensures partners { IfOk result (λ reached. reached.partners.items ≡ replicate messages None) }
         ensures found { IfOk result (λ reached. reached.found.items ≡ []) }
     {
         let partners = vec![in alloc; None; messages]?;
         let found = Vec::with_capacity(alloc, messages)?;
-        Ok(Reached { partners, found })
+        Ok(ReachedPairs { partners, found })
     }
 
     // Marks the inputs and outputs of the service's methods.
@@ -56,8 +56,8 @@ impl Reached {
         requires theirs { IsValid theirs.now }
         requires same { methods_of ours.now service.now ≡ methods_of theirs.now service.now }
         requires paired { IsPaired ours.now theirs.now self.old }
-        ensures gains { OnOk result (Gains ours.now theirs.now self.old self.new (IsInMethods ours.now service.now)) }
-        ensures methods { OnOk result (HasMethods ours.now service.now self.new) }
+        ensures gains { OnOk result (HasGained ours.now theirs.now self.old self.new (IsInMethods ours.now service.now)) }
+        ensures methods { OnOk result (HasMarkedMethods ours.now service.now self.new) }
     {
         for index in 0..ours.methods.len() {
             self.mark_method(ours, theirs, service, index)?;
@@ -77,9 +77,9 @@ impl Reached {
         requires theirs { IsValid theirs.now }
         requires same { methods_of ours.now service.now ≡ methods_of theirs.now service.now }
         requires paired { IsPaired ours.now theirs.now self.old }
-        ensures gains { OnOk result (Gains ours.now theirs.now self.old self.new (IsInMethods ours.now service.now)) }
+        ensures gains { OnOk result (HasGained ours.now theirs.now self.old self.new (IsInMethods ours.now service.now)) }
         ensures method { (method : TheMethod) → method_at ours.now service.now index ≡ Some method
-            → OnOk result (HasBoth ours.now self.new method) }
+            → OnOk result (HasMarkedBoth ours.now self.new method) }
     {
         let Some(our) = method_at(ours, service, index) else {
             return Ok(());
@@ -97,10 +97,10 @@ impl Reached {
         requires theirs { IsValid theirs.now }
         requires paired { IsPaired ours.now theirs.now self.old }
         ensures paired { OnOk result (IsPaired ours.now theirs.now self.new) }
-        ensures grows { OnOk result (Grows self.old self.new) }
-        ensures closed { OnOk result (IsClosed ours.now theirs.now self.new) }
-        ensures reached { (service : List ℕ) → IsReachedOnly ours.now theirs.now service self.old
-            → OnOk result (IsReachedOnly ours.now theirs.now service self.new) }
+        ensures grows { OnOk result (HasGrown self.old self.new) }
+        ensures closed { OnOk result (IsClosedUnderFields ours.now theirs.now self.new) }
+        ensures reached { (service : List ℕ) → HasOnlyReached ours.now theirs.now service self.old
+            → OnOk result (HasOnlyReached ours.now theirs.now service self.new) }
     {
         let mut next = 0;
         while next < self.found.len() {
@@ -123,9 +123,9 @@ impl Reached {
         requires theirs { IsValid theirs.now }
         requires pair { IsPair ours.now theirs.now our their }
         requires paired { IsPaired ours.now theirs.now self.old }
-        ensures gains { OnOk result (Gains ours.now theirs.now self.old self.new
-            (LeadsTo ours.now theirs.now our their)) }
-        ensures next { OnOk result (HasNext ours.now theirs.now self.new our their) }
+        ensures gains { OnOk result (HasGained ours.now theirs.now self.old self.new
+            (HasFieldOfType ours.now theirs.now our their)) }
+        ensures next { OnOk result (HasMarkedNext ours.now theirs.now self.new our their) }
     {
         let message = &ours.messages.as_slice()[our as usize];
         let other = &theirs.messages.as_slice()[their as usize];
@@ -146,10 +146,10 @@ impl Reached {
         requires field { IsKnown ours.now field.now.kind }
         requires other { IsMessage theirs.now other.now }
         requires paired { IsPaired ours.now theirs.now self.old }
-        ensures gains { OnOk result (Gains ours.now theirs.now self.old self.new
+        ensures gains { OnOk result (HasGained ours.now theirs.now self.old self.new
             (IsShared ours.now theirs.now field.now other.now)) }
         ensures marked { (type : List ℕ) → IsShared ours.now theirs.now field.now other.now type
-            → OnOk result (HasName ours.now self.new type) }
+            → OnOk result (HasMarkedName ours.now self.new type) }
     {
         match other.field(field.number) {
             Some(known) => self.mark_type(ours, field.kind, theirs, known.kind),
@@ -168,10 +168,10 @@ impl Reached {
         requires our { IsKnown ours.now our }
         requires their { IsKnown theirs.now their }
         requires paired { IsPaired ours.now theirs.now self.old }
-        ensures gains { OnOk result (Gains ours.now theirs.now self.old self.new
+        ensures gains { OnOk result (HasGained ours.now theirs.now self.old self.new
             (AreOfType ours.now theirs.now our their)) }
         ensures marked { (type : List ℕ) → AreOfType ours.now theirs.now our their type
-            → OnOk result (HasName ours.now self.new type) }
+            → OnOk result (HasMarkedName ours.now self.new type) }
     {
         let Kind::Message(left) = our else {
             return Ok(());
@@ -189,7 +189,7 @@ impl Reached {
     // Marks a pair, if it wasn't marked before.
     fn mark(&mut self, our: u32, their: u32) -> Result<(), Memory>
         requires { our < length self.old.partners.items }
-        ensures { OnOk result (Marks self.old our their self.new) }
+        ensures { OnOk result (HasMarked self.old our their self.new) }
     {
         if self.partners[our as usize].is_some() {
             return Ok(());
@@ -218,8 +218,8 @@ fn differing_field(ours: &Table, our: usize, theirs: &Table, their: u32) -> Opti
     requires ours { IsValid ours.now }
     requires theirs { IsValid theirs.now }
     requires pair { IsPair ours.now theirs.now our their }
-    ensures { MatchOption result ((number : ℕ) → PrintOther ours.now theirs.now our their number → ⊥)
-        (IsLeastOther ours.now theirs.now our their) }
+    ensures { MatchOption result ((number : ℕ) → IsPrintedDifferently ours.now theirs.now our their number → ⊥)
+        (IsLeastDifference ours.now theirs.now our their) }
 {
     let message = &ours.messages.as_slice()[our];
     let other = &theirs.messages.as_slice()[their as usize];
@@ -235,7 +235,7 @@ fn differing_field(ours: &Table, our: usize, theirs: &Table, their: u32) -> Opti
 fn differs(ours: &Table, message: &Message, field: &Field, theirs: &Table, other: &Message) -> bool
     requires field { IsField ours.now (length message.now.oneofs) field.now }
     requires other { IsMessage theirs.now other.now }
-    ensures { IsTrue result ↔ IsOther ours.now theirs.now message.now field.now other.now }
+    ensures { IsTrue result ↔ IsOtherPrint ours.now theirs.now message.now field.now other.now }
 {
     match other.field(field.number) {
         Some(known) => !is_same_field(ours, message, field, theirs, other, known),

@@ -1,8 +1,8 @@
 -- The first fault of a set is in one of its files.
 use Rattle.std.proofs.Common.{◌≡◌, ℕ, ◌<◌, List, length, sym, ◌∙◌, subst, arith}
 use Rattle.std.proofs.lemmas.Option.{slice_get_within, same_Some}
-use Rattle.proto_set.specs.Bundle.{File as PackedFile}
-use Rattle.schema_files.specs.Joined.{ReadsAs}
+use Rattle.proto_set.specs.Bundle.{BundledFile as PackedFile}
+use Rattle.schema_files.specs.Joined.{IsReadAs}
 use Rattle.schema_files.specs.Resolving.{HasFilesFault, unread, import_at_fault, unresolved}
 use Rattle.schema_files.specs.declared.fault.FilesReason.{FilesReason}
 use Rattle.schema_files.proofs.Lists.{some_at, zip_length}
@@ -13,7 +13,7 @@ fault_within files file line q (unread f r s at h before e) = slice_get_within f
 fault_within files file line q (import_at_fault members r s read h e) =
     omega (
       arith,
-      zip_length ReadsAs files members read,
+      zip_length IsReadAs files members read,
       slice_get_within members file h.import_at.member h.import_at.member_at,
     )
 fault_within files file line q (unresolved ps r s k joins first in_text at e) =

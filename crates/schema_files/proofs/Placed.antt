@@ -5,7 +5,7 @@ use Rattle.std.proofs.lemmas.Bool.{cases_lt}
 use Rattle.std.proofs.lemmas.List.{length_push}
 use Rattle.std.proofs.lemmas.Option.{slice_get_within, same_Some}
 use Rattle.mrpc_table.specs.Valid.{AreDistinct}
-use Rattle.schema_files.specs.Placing.{ArePlaces, ArePlaced}
+use Rattle.schema_files.specs.Placing.{AreOrderIndices, AreSomeIndices}
 use Rattle.schema_files.proofs.Lists.{get_push, get_set_same, get_set_other, once}
 
 -- ---- the indices of the first n files of an order
@@ -38,7 +38,7 @@ put_more order count n i places more distinct within at e h =
     })
 
 pub put_all : (order : List ℕ) (count n : ℕ) (places : List ℕ) → length order ≤ n → ArePut order count n places
-    → ArePlaces order count places
+    → AreOrderIndices order count places
 put_all order count n places l h = record {
   count_is = h.count_is;
   back = λ k i at. h.put k i (omega (arith, slice_get_within order k i at)) at;
@@ -71,5 +71,5 @@ placed_more places some n i k all more at place e h = subst (ArePlacedSo places 
 })
 
 pub placed_all : (places some : List ℕ) (n : ℕ) (all : List ℕ) → n ≡ length some → ArePlacedSo places some n all
-    → ArePlaced places some all
+    → AreSomeIndices places some all
 placed_all places some n all e h = record { same = h.same ∙ e; each = h.each }

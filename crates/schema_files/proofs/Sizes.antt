@@ -7,15 +7,15 @@ use Rattle.std.specs.Option.{option_map}
 use Rattle.std.proofs.lemmas.List.Sums.{sum_by-cons, sum_by-set, sum_by-take-le}
 use Rattle.std.proofs.lemmas.Option.{slice_get_within, get_or_from_slice_get, slice_get-map, same_Some}
 use Rattle.mrpc_table.specs.Valid.{AreDistinct}
-use Rattle.proto_set.specs.Bundle.{File as PackedFile}
-use Rattle.proto_set.specs.Packed.{files_of}
-use Rattle.proto_set.specs.declared.packed.Packed.{Packed}
-use Rattle.proto_set.specs.declared.set.Member.{Member}
-use Rattle.proto_set.specs.declared.set.Reach.{Reach}
-use Rattle.proto_set.specs.declared.part.Part.{Part}
+use Rattle.proto_set.specs.Bundle.{BundledFile as PackedFile}
+use Rattle.proto_set.specs.Named.{files_of}
+use Rattle.proto_set.specs.declared.named.Named.{Named}
+use Rattle.proto_set.specs.declared.set.ParsedFile.{ParsedFile}
+use Rattle.proto_set.specs.declared.set.ImportClosure.{ImportClosure}
+use Rattle.proto_set.specs.declared.linked_file.LinkedFile.{LinkedFile}
 use Rattle.proto_set.specs.Joining.{sizes_of}
 use Rattle.proto_set.specs.Texts.{IsInTextOf}
-use Rattle.schema_files.specs.Joined.{AreParts}
+use Rattle.schema_files.specs.Joined.{AreLinkedFiles}
 use Rattle.schema_files.proofs.Lists.{get_set_other, held, some_at}
 
 -- elements at distinct indices sum up to at most the sum of all elements
@@ -38,29 +38,29 @@ picked_most xs (i ∷ is) (s ∷ ss) d e h =
       get_or_from_slice_get xs i s 0 at,
     )
 
-texts_sum : (packed : List Packed)
-    → sum (map (λ (f : PackedFile). length f.1) (files_of packed)) ≡ sum_by (λ (f : Packed). length f.text.now) packed
+texts_sum : (packed : List Named)
+    → sum (map (λ (f : PackedFile). length f.1) (files_of packed)) ≡ sum_by (λ (f : Named). length f.text.now) packed
 texts_sum [] = refl
 texts_sum (p ∷ ps) = omega (
   arith,
   sum_by-cons (λ x. x) (length p.text.now) (map (λ (f : PackedFile). length f.1) (files_of ps)),
-  sum_by-cons (λ (f : Packed). length f.text.now) p ps,
+  sum_by-cons (λ (f : Named). length f.text.now) p ps,
   texts_sum ps,
 )
 
 -- the linked files of a set have at most the size of all its texts
-pub parts_most : (packed : List Packed) (members : List Member) (reach : Reach) (ps : List Part)
-    → AreDistinct reach.order → AreParts (files_of packed) members reach ps
+pub parts_most : (packed : List Named) (members : List ParsedFile) (reach : ImportClosure) (ps : List LinkedFile)
+    → AreDistinct reach.order → AreLinkedFiles (files_of packed) members reach ps
     → sum (sizes_of ps) ≤ sum_by (λ f. length f.text.now) packed
 parts_most packed members reach ps d h =
     let sizes : List ℕ = map (λ (f : PackedFile). length f.1) (files_of packed) in
-    let most = picked_most sizes reach.order (sizes_of ps) d (length-map ps (λ (p : Part). p.size) ∙ h.count)
+    let most = picked_most sizes reach.order (sizes_of ps) d (length-map ps (λ (p : LinkedFile). p.size) ∙ h.count)
     (λ j i s a b.
     let p = some_at ps j (omega (arith, h.count, slice_get_within reach.order j i a)) in
     let P = h.each j p.0 p.1 in
     let same : P.i ≡ i = same_Some P.i i (sym P.at ∙ a) in
     let size : p.0.size ≡ s = same_Some p.0.size s
-    (sym (slice_get-map (λ (p : Part). p.size) ps j ∙ ap (option_map (λ (p : Part). p.size)) p.1) ∙ b) in
+    (sym (slice_get-map (λ (p : LinkedFile). p.size) ps j ∙ ap (option_map (λ (p : LinkedFile). p.size)) p.1) ∙ b) in
     slice_get-map (λ (f : PackedFile). length f.1) (files_of packed) i
     ∙ ap (option_map (λ (f : PackedFile). length f.1)) (ap (slice_get (files_of packed)) (sym same) ∙ P.packed_at)
     ∙ ap Some (sym P.size ∙ size)) in
@@ -70,15 +70,15 @@ pub in_all : (sizes : List ℕ) (k place : ℕ) → IsInTextOf sizes k place →
 in_all sizes k place h = omega (arith, h.below, sum_by-take-le (λ x. x) sizes (k + 1))
 
 -- the sizes of the first linked files
-pub sizes_more : (ps : List Part) (k : ℕ) (d : Part) (old new : List ℕ) → k < length ps → old ≡ take k (sizes_of ps)
+pub sizes_more : (ps : List LinkedFile) (k : ℕ) (d : LinkedFile) (old new : List ℕ) → k < length ps → old ≡ take k (sizes_of ps)
     → new ≡ old ++ (get_or ps k d).size ∷ [] → new ≡ take (k + 1) (sizes_of ps)
 sizes_more ps k d old new l h e =
     let at : (get_or ps k d).size ≡ get_or (sizes_of ps) k d.size =
-    sym (get_or-map (λ (x : Part). x.size) ps k d d.size l) in
+    sym (get_or-map (λ (x : LinkedFile). x.size) ps k d d.size l) in
     e ∙ ap (λ (xs : List ℕ). xs ++ (get_or ps k d).size ∷ []) h
     ∙ ap (λ (n : ℕ). take k (sizes_of ps) ++ n ∷ []) at
-    ∙ sym (take_more (sizes_of ps) k d.size (omega (arith, length-map ps (λ (x : Part). x.size))))
+    ∙ sym (take_more (sizes_of ps) k d.size (omega (arith, length-map ps (λ (x : LinkedFile). x.size))))
 
-pub sizes_all : (ps : List Part) (k : ℕ) (all : List ℕ) → length ps ≤ k → all ≡ take k (sizes_of ps) → all ≡ sizes_of ps
+pub sizes_all : (ps : List LinkedFile) (k : ℕ) (all : List ℕ) → length ps ≤ k → all ≡ take k (sizes_of ps) → all ≡ sizes_of ps
 sizes_all ps k all l h =
-    h ∙ take_all k (sizes_of ps) (omega (arith, length-map ps (λ (x : Part). x.size)))
+    h ∙ take_all k (sizes_of ps) (omega (arith, length-map ps (λ (x : LinkedFile). x.size)))

@@ -1,8 +1,8 @@
 -- The code's own: what a fault means for one text of a set, and for the contents of a set.
 use Rattle.std.specs.Prelude.{◌≡◌, ℕ, List}
-use Rattle.proto_set.specs.Bundle.{File as PackedFile}
+use Rattle.proto_set.specs.Bundle.{BundledFile as PackedFile}
 use Rattle.proto_ast.specs.declared.file.Span.{Span}
-use Rattle.proto_schema.specs.Faults.{HasFault as HasTextFault}
+use Rattle.proto_schema.specs.Faults.{HasProtoFault as HasTextFault}
 use Rattle.proto_grammar.specs.declared.fault.ProtoReason.{ProtoReason}
 use Rattle.schema_files.specs.Resolving.{HasFilesFault}
 use Rattle.schema_files.specs.declared.fault.FilesReason.{FilesReason}
@@ -21,7 +21,7 @@ IsUnread f place (fault.Path file) = ⊥
 IsUnread f place fault.Memory = Unit {0}
 
 -- what a fault means for files with valid paths
-abbrev pub IsFaultIn : List PackedFile → FilesFault → Type 0
-IsFaultIn files (fault.At file line reason) = HasFilesFault files file line reason
-IsFaultIn files (fault.Path file) = ⊥
-IsFaultIn files fault.Memory = Unit {0}
+abbrev pub IsContentFault : List PackedFile → FilesFault → Type 0
+IsContentFault files (fault.At file line reason) = HasFilesFault files file line reason
+IsContentFault files (fault.Path file) = ⊥
+IsContentFault files fault.Memory = Unit {0}

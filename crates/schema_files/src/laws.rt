@@ -2,83 +2,86 @@
 
 ghost use Rattle.std.specs.Prelude.{◌≡◌, ℕ, ◌<◌, List, length};
 ghost use Rattle.mrpc_table.specs.declared.table.Table.{Table};
-ghost use Rattle.proto_set.specs.Bundle.{File as PackedFile};
-ghost use Rattle.proto_set.specs.Sound.{AreSound};
-ghost use Rattle.proto_set.specs.declared.part.Part.{Part};
-ghost use Rattle.schema_files.specs.Resolving.{AreJoined, FilesResolve, HasFilesFault, IsFirstFault};
+ghost use Rattle.proto_set.specs.Bundle.{BundledFile as PackedFile};
+ghost use Rattle.proto_set.specs.WellPlaced.{AreWellPlaced};
+ghost use Rattle.proto_set.specs.declared.linked_file.LinkedFile.{LinkedFile};
+ghost use Rattle.schema_files.specs.Resolving.{AreJoinedAs, AreResolvedTo, HasFilesFault, IsFirstFilesFault};
 ghost use Rattle.schema_files.specs.declared.fault.FilesFault.{FilesFault};
 ghost use Rattle.schema_files.specs.declared.fault.FilesReason.{FilesReason};
 
 use proto_schema::{
-    file_is_ordered, file_is_within, file_or_fault, one_fault as one_text_fault, one_file,
+    file_is_ordered, file_is_unique, file_is_within, file_or_fault,
+    text_fault_is_unique as one_text_fault,
 };
 use proto_set::{
-    joined_is_ordered, one_fault as one_import_fault, one_reach, one_refused, places_apart,
-    reach_or_fault,
+    import_closure_is_unique, import_closure_or_fault, import_fault_is_unique as one_import_fault,
+    joined_is_ordered, offset_is_in_one_file, valid_or_rejected,
 };
-use schema_resolve::{one_table, table_or_offence};
-use schema_validation::{offences_stand, one_offence};
+use schema_resolve::{resolved_table_is_unique, table_or_violation};
+use schema_validation::{first_violation_is_unique, violations_have_spans};
 
 /// The files of a set are joined to at most one list of linked files.
-pub fn one_join()
-    ensures { (files : List PackedFile) (ps qs : List Part) → AreJoined files ps → AreJoined files qs → ps ≡ qs }
+pub fn join_is_unique()
+    ensures { (files : List PackedFile) (ps qs : List LinkedFile) → AreJoinedAs files ps → AreJoinedAs files qs
+        → ps ≡ qs }
 {
-    one_file();
-    one_reach();
+    file_is_unique();
+    import_closure_is_unique();
 }
 
 /// The linked files of a set can be resolved together.
-pub fn joined_is_sound()
-    ensures { (files : List PackedFile) (ps : List Part) → AreJoined files ps → AreSound ps }
+pub fn joined_is_well_placed()
+    ensures { (files : List PackedFile) (ps : List LinkedFile) → AreJoinedAs files ps → AreWellPlaced ps }
 {
     file_is_ordered();
     file_is_within();
 }
 
 /// A set of files has at most one table.
-pub fn one_files_table()
-    ensures { (files : List PackedFile) (t u : Table) → FilesResolve files t → FilesResolve files u → t ≡ u }
+pub fn files_table_is_unique()
+    ensures { (files : List PackedFile) (t u : Table) → AreResolvedTo files t → AreResolvedTo files u → t ≡ u }
 {
-    one_join();
-    joined_is_sound();
+    join_is_unique();
+    joined_is_well_placed();
     joined_is_ordered();
-    one_table();
+    resolved_table_is_unique();
 }
 
 /// A set of files has at most one first fault.
-pub fn one_files_fault()
-    ensures { (files : List PackedFile) (e f : FilesFault) → IsFirstFault files e → IsFirstFault files f → e ≡ f }
+pub fn files_fault_is_unique()
+    ensures { (files : List PackedFile) (e f : FilesFault) → IsFirstFilesFault files e → IsFirstFilesFault files f
+        → e ≡ f }
 {
-    one_refused();
-    one_file();
+    valid_or_rejected();
+    file_is_unique();
     one_text_fault();
     file_or_fault();
-    one_reach();
+    import_closure_is_unique();
     one_import_fault();
-    reach_or_fault();
-    joined_is_sound();
+    import_closure_or_fault();
+    joined_is_well_placed();
     joined_is_ordered();
-    one_offence();
-    places_apart();
+    first_violation_is_unique();
+    offset_is_in_one_file();
 }
 
 /// A nonempty set of files has a table or a first fault, and never both.
 pub fn table_or_files_fault()
-    ensures never_both { (files : List PackedFile) (t : Table) (e : FilesFault) → FilesResolve files t
-        → IsFirstFault files e → ⊥ }
-    ensures never_neither { (files : List PackedFile) → 0 < length files → ((t : Table) → FilesResolve files t → ⊥)
-        → ((e : FilesFault) → IsFirstFault files e → ⊥) → ⊥ }
+    ensures never_both { (files : List PackedFile) (t : Table) (e : FilesFault) → AreResolvedTo files t
+        → IsFirstFilesFault files e → ⊥ }
+    ensures never_neither { (files : List PackedFile) → 0 < length files → ((t : Table) → AreResolvedTo files t → ⊥)
+        → ((e : FilesFault) → IsFirstFilesFault files e → ⊥) → ⊥ }
 {
-    one_refused();
-    one_file();
+    valid_or_rejected();
+    file_is_unique();
     file_or_fault();
-    one_reach();
-    reach_or_fault();
-    joined_is_sound();
+    import_closure_is_unique();
+    import_closure_or_fault();
+    joined_is_well_placed();
     joined_is_ordered();
-    offences_stand();
-    places_apart();
-    table_or_offence();
+    violations_have_spans();
+    offset_is_in_one_file();
+    table_or_violation();
 }
 
 /// The first fault of the files' contents is in one of them.

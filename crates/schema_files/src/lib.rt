@@ -9,12 +9,13 @@
 
 mod fault;
 mod laws;
-mod parts;
+mod linked_files;
 mod reading;
 mod resolver;
 
 pub use fault::{FilesFault, FilesReason};
 pub use laws::{
-    fault_in_set, joined_is_sound, one_files_fault, one_files_table, one_join, table_or_files_fault,
+    fault_in_set, files_fault_is_unique, files_table_is_unique, join_is_unique,
+    joined_is_well_placed, table_or_files_fault,
 };
 pub use resolver::resolve_files;

@@ -1,7 +1,7 @@
 -- What resolving returns.
 use Rattle.std.proofs.Common.{◌≡◌, ◌∙◌, List, length, ap}
 use Rattle.std.proofs.lemmas.List.Elements.{All-contains}
-use Rattle.proto_ast.specs.Order.{IsPlaceBelow}
+use Rattle.proto_ast.specs.Order.{IsIndexBelow}
 use Rattle.proto_ast.specs.Together.{IsFormed}
 use Rattle.proto_ast.specs.declared.file.MessageDecl.{MessageDecl}
 use Rattle.proto_ast.specs.declared.file.EnumDecl.{EnumDecl}
@@ -9,14 +9,14 @@ use Rattle.proto_ast.specs.declared.file.ServiceDecl.{ServiceDecl}
 use Rattle.proto_ast.specs.declared.joined.Head.{Head}
 use Rattle.proto_ast.specs.declared.file.File.{File}
 use Rattle.proto_ast.specs.Joined.{Joined, alone}
-use Rattle.schema_symbols.specs.Numbers.{StandBehind}
+use Rattle.schema_symbols.specs.Numbers.{AreWellNested}
 use Rattle.schema_resolve.proofs.CleanFiles.{parent_below}
 
-pub stands_behind : (F : Joined) → IsFormed F → StandBehind F
+pub stands_behind : (F : Joined) → IsFormed F → AreWellNested F
 stands_behind F formed = record {
   messages = λ i p m at e. parent_below i p m.parent e (formed.parents i m at);
   enums = λ x p c e. parent_below (length F.messages) p x.parent e
-      (All-contains (λ (y : EnumDecl). IsPlaceBelow (length F.messages) y.parent) F.enums x formed.enum_parents c);
+      (All-contains (λ (y : EnumDecl). IsIndexBelow (length F.messages) y.parent) F.enums x formed.enum_parents c);
   message_files = formed.message_files;
   enum_files = formed.enum_files;
 }

@@ -9,23 +9,23 @@ use Rattle.std.proofs.lemmas.List.Elements.{All-contains}
 use Rattle.mrpc_table.specs.Valid.{AreDistinct}
 use Rattle.mrpc_table.specs.declared.limits.TheConstants.{MAX_MESSAGES, MAX_ENUMS}
 use Rattle.proto_ast.specs.Order
-use Rattle.proto_ast.specs.Order.{IsPlaceBelow, its_name}
-use Rattle.proto_ast.specs.Together.{Declaration, IsFormed, IsOrdered, StandsAt, enum_decl, message_decl}
+use Rattle.proto_ast.specs.Order.{IsIndexBelow, its_name}
+use Rattle.proto_ast.specs.Together.{DeclIndex, IsFormed, IsOrdered, IsPartSpan, enum_decl, message_decl}
 use Rattle.proto_ast.specs.declared.file.Span.{Span}
 use Rattle.proto_ast.specs.declared.file.MessageDecl.{MessageDecl}
 use Rattle.proto_ast.specs.declared.file.EnumDecl.{EnumDecl}
-use Rattle.proto_ast.specs.Joined.{Joined, home_in, home_of, enum_home_of, package_parts, package_in, package_at}
-use Rattle.proto_ast.specs.declared.joined.Home.TheVariants as home
+use Rattle.proto_ast.specs.Joined.{Joined, enclosing_in, enclosing_of, enclosing_of_enum, package_parts, package_in, package_at}
+use Rattle.proto_ast.specs.declared.joined.Enclosing.TheVariants as home
 use Rattle.proto_ast.specs.Together
 use Rattle.proto_ast.specs.declared.joined.Head.{Head}
-use Rattle.proto_ast.specs.declared.joined.Home.{Home}
+use Rattle.proto_ast.specs.declared.joined.Enclosing.{Enclosing}
 use Rattle.schema_symbols.specs.Scopes
-use Rattle.schema_symbols.specs.Scopes.{Sort, a_message, an_enum, Declares, text_of, IsScope, of_file, of_message}
+use Rattle.schema_symbols.specs.Scopes.{DeclKind, a_message, an_enum, IsDeclarationOf, text_of, IsScope, of_file, of_message}
 use Rattle.schema_validation.specs.Members.{too_many_messages, too_many_enums}
-use Rattle.schema_validation.specs.Offences
+use Rattle.schema_validation.specs.Violations
 use Rattle.schema_validation.specs.declared.reason.ResolveReason.TheVariants.{DuplicateName, Limit}
-use Rattle.schema_resolve.specs.Resolving.{IsClean}
-use Rattle.schema_resolve.specs.Placing.{behind, name_at, front_of, AreFronts, IsPlaceAmong, AreMessageNames, AreEnumNames}
+use Rattle.schema_resolve.specs.Resolving.{HasNoViolation}
+use Rattle.schema_resolve.specs.Placing.{qualified_name, name_at_index, enclosing_name, ArePackageNames, IsEnclosingAmong, AreMessageNames, AreEnumNames}
 use Rattle.schema_resolve.proofs.FullNames.{AreNames, same_text, scope_names, names_more, behind_text, message_formed}
 use Rattle.schema_resolve.proofs.Orders.{apart_distinct}
 
@@ -58,13 +58,13 @@ push_new (y ∷ xs) x (suc i) e = push_new xs x i (omega arith)
 -- the names of the packages of the first files
 pub record AreFirstFronts (F : Joined) (n : ℕ) (fronts : List (List ℕ)) : Type 0 where
   pub count : length fronts ≡ n
-  pub each : (k : ℕ) → k < n → name_at fronts k ≡ text_of (package_at F k)
+  pub each : (k : ℕ) → k < n → name_at_index fronts k ≡ text_of (package_at F k)
 
 pub fronts_none : (F : Joined) (fronts : List (List ℕ)) → fronts ≡ [] → AreFirstFronts F 0 fronts
 fronts_none F fronts e = record { count = ap length e; each = λ k l. absurd (omega arith) }
 
 front_old : (fronts : List (List ℕ)) (name : List ℕ) (k : ℕ) → k < length fronts
-    → name_at (fronts ++ name ∷ []) k ≡ name_at fronts k
+    → name_at_index (fronts ++ name ∷ []) k ≡ name_at_index fronts k
 front_old fronts name k l =
     let x = some_at fronts k l in
     get_or_from_slice_get (fronts ++ name ∷ []) k x.0 [] (push_old fronts (name ∷ []) k l ∙ x.1)
@@ -86,7 +86,7 @@ fronts_more F i h name fronts more at is grown known =
     })
 
 pub fronts_all : (F : Joined) (i : ℕ) (fronts : List (List ℕ)) → i ≡ length F.heads → AreFirstFronts F i fronts
-    → AreFronts F fronts
+    → ArePackageNames F fronts
 fronts_all F i fronts e known = record {
   count = known.count ∙ e;
   each = λ k l. known.each k (omega arith);
@@ -101,27 +101,27 @@ pub record ScopeParts (F : Joined) (i : ℕ) (s : List (List ℕ)) : Type 0 wher
   pub decl : MessageDecl
   pub outer : List (List ℕ)
   pub at : slice_get F.messages i ≡ Some decl
-  pub up : IsScope F (home_of decl) outer
+  pub up : IsScope F (enclosing_of decl) outer
   pub is : s ≡ outer ++ decl.name.name ∷ []
 
 pub scope_parts : {F : Joined} {i : ℕ} {s : List (List ℕ)} → IsScope F (home.Message i) s → ScopeParts F i s
 scope_parts (of_message i m {outer} at up) = record { decl = m; outer = outer; at = at; up = up; is = refl }
 
 -- the scope inside a file or a message is unique
-pub one_scope : {F : Joined} {p : Home} {s t : List (List ℕ)} → IsScope F p s → IsScope F p t → s ≡ t
+pub one_scope : {F : Joined} {p : Enclosing} {s t : List (List ℕ)} → IsScope F p s → IsScope F p t → s ≡ t
 one_scope (of_file k) (of_file l) = refl
 one_scope {F} (of_message i m {outer} at up) (of_message j n {outer = outer'} at' up') =
     let e : m ≡ n = same_Some m n (sym at ∙ at') in
-    let up2 : IsScope F (home_of m) outer' = subst (λ (k : MessageDecl). IsScope F (home_of k) outer') (sym e) up' in
+    let up2 : IsScope F (enclosing_of m) outer' = subst (λ (k : MessageDecl). IsScope F (enclosing_of k) outer') (sym e) up' in
     let f : outer ≡ outer' = one_scope up up2 in
     cc
 
-pub parent_below : (n p : ℕ) (place : Option ℕ) → place ≡ Some p → IsPlaceBelow n place → p < n
-parent_below n p place e h = subst (IsPlaceBelow n) e h
+pub parent_below : (n p : ℕ) (place : Option ℕ) → place ≡ Some p → IsIndexBelow n place → p < n
+parent_below n p place e h = subst (IsIndexBelow n) e h
 
 pub parent_scope : {F : Joined} (file : ℕ) (p : Option ℕ)
     → ((q : ℕ) → p ≡ Some q → (s : List (List ℕ)) × IsScope F (home.Message q) s)
-    → (s : List (List ℕ)) × IsScope F (home_in file p) s
+    → (s : List (List ℕ)) × IsScope F (enclosing_in file p) s
 parent_scope {F} file None known = (package_at F file, of_file file)
 parent_scope file (Some q) known = known q refl
 
@@ -139,33 +139,33 @@ pub scope_at : {F : Joined} → IsFormed F → (i : ℕ) → i < length F.messag
 scope_at formed i l = scope_below formed (i + 1) i (omega arith) l
 
 pub message_outer : {F : Joined} → IsFormed F → (i : ℕ) (m : MessageDecl) → slice_get F.messages i ≡ Some m
-    → (s : List (List ℕ)) × IsScope F (home_of m) s
+    → (s : List (List ℕ)) × IsScope F (enclosing_of m) s
 message_outer {F} formed i m at =
     let n = slice_get_within F.messages i m at in
     parent_scope {F = F} m.file m.parent
     (λ q e. scope_at formed q (omega (arith, parent_below i q m.parent e (formed.parents i m at))))
 
 pub enum_outer : {F : Joined} → IsFormed F → (e : EnumDecl) → Contains F.enums e
-    → (s : List (List ℕ)) × IsScope F (enum_home_of e) s
+    → (s : List (List ℕ)) × IsScope F (enclosing_of_enum e) s
 enum_outer {F} formed e c =
     parent_scope {F = F} e.file e.parent
     (λ q is. scope_at formed q (parent_below (length F.messages) q e.parent is
-    (All-contains (λ (x : EnumDecl). IsPlaceBelow (length F.messages) x.parent) F.enums e formed.enum_parents c)))
+    (All-contains (λ (x : EnumDecl). IsIndexBelow (length F.messages) x.parent) F.enums e formed.enum_parents c)))
 
 -- ---- no duplicate names
 
-not_twice : (F : Joined) (j k : ℕ) (a b : Sort) (full : List (List ℕ)) (s t : Span) → IsClean F → Declares F j a full s
-    → Declares F k b full t → s.start < t.start → ⊥
+not_twice : (F : Joined) (j k : ℕ) (a b : DeclKind) (full : List (List ℕ)) (s t : Span) → HasNoViolation F → IsDeclarationOf F j a full s
+    → IsDeclarationOf F k b full t → s.start < t.start → ⊥
 not_twice F j k a b full s t clean d e l =
-    clean DuplicateName t (Offences.twice t (Offences.declared j k a b full s d e l) (refl, refl))
+    clean DuplicateName t (Violations.twice t (Violations.declared j k a b full s d e l) (refl, refl))
 
 -- declarations whose full names have the same text are one
-pub one_declaration : (F : Joined) {j k : ℕ} (x y : Declaration) (a b : Sort) (f g : List (List ℕ)) (s t : Span)
-    → IsOrdered F → IsClean F → Declares F j a f s → Declares F k b g t → StandsAt F s x its_name → StandsAt F t y its_name
+pub one_declaration : (F : Joined) {j k : ℕ} (x y : DeclIndex) (a b : DeclKind) (f g : List (List ℕ)) (s t : Span)
+    → IsOrdered F → HasNoViolation F → IsDeclarationOf F j a f s → IsDeclarationOf F k b g t → IsPartSpan F s x its_name → IsPartSpan F t y its_name
     → AreNames f → AreNames g → text_of f ≡ text_of g → x ≡ y
 one_declaration F {j} {k} x y a b f g s t ordered clean d e p q m n same =
     let one : f ≡ g = same_text f g m n same in
-    let d2 : Declares F j a g s = subst (λ (h : List (List ℕ)). Declares F j a h s) one d in
+    let d2 : IsDeclarationOf F j a g s = subst (λ (h : List (List ℕ)). IsDeclarationOf F j a h s) one d in
     elim (cases_order s.start t.start) [
       | inl h ↦ (ordered.apart x y its_name its_name s t p q h).0
       | inr h ↦ elim h [
@@ -182,25 +182,25 @@ same_enum i j e = cc
 
 -- ---- the full names of messages and enums
 
-front_at : {F : Joined} (fronts names : List (List ℕ)) (place : Home) (outer : List (List ℕ)) → AreFronts F fronts
-    → AreMessageNames F names → IsPlaceAmong (length fronts) (length names) place → IsScope F place outer
-    → front_of fronts names place ≡ text_of outer
+front_at : {F : Joined} (fronts names : List (List ℕ)) (place : Enclosing) (outer : List (List ℕ)) → ArePackageNames F fronts
+    → AreMessageNames F names → IsEnclosingAmong (length fronts) (length names) place → IsScope F place outer
+    → enclosing_name fronts names place ≡ text_of outer
 front_at fronts names (home.File k) outer fronts_are h among up =
     fronts_are.each k (let l : k < length fronts = among in omega (arith, fronts_are.count))
     ∙ ap text_of (sym (scope_of_file up))
 front_at fronts names (home.Message i) outer fronts_are h among up =
     get_or_from_slice_get names i (text_of outer) [] (h.each i outer among up)
 
-pub full_text : {F : Joined} (fronts names : List (List ℕ)) (name : List ℕ) (place : Home) (outer : List (List ℕ))
-    → IsFormed F → AreFronts F fronts → AreMessageNames F names → IsPlaceAmong (length fronts) (length names) place
-    → IsScope F place outer → behind (front_of fronts names place) name ≡ text_of (outer ++ name ∷ [])
+pub full_text : {F : Joined} (fronts names : List (List ℕ)) (name : List ℕ) (place : Enclosing) (outer : List (List ℕ))
+    → IsFormed F → ArePackageNames F fronts → AreMessageNames F names → IsEnclosingAmong (length fronts) (length names) place
+    → IsScope F place outer → qualified_name (enclosing_name fronts names place) name ≡ text_of (outer ++ name ∷ [])
 full_text fronts names name place outer formed fronts_are h among up =
-    ap (λ (t : List ℕ). behind t name) (front_at fronts names place outer fronts_are h among up)
+    ap (λ (t : List ℕ). qualified_name t name) (front_at fronts names place outer fronts_are h among up)
     ∙ behind_text outer name (scope_names formed up)
 
 -- the file or message that encloses a message or an enum exists
-home_among : (files messages file : ℕ) (parent : Option ℕ) → file < files → IsPlaceBelow messages parent
-    → IsPlaceAmong files messages (home_in file parent)
+home_among : (files messages file : ℕ) (parent : Option ℕ) → file < files → IsIndexBelow messages parent
+    → IsEnclosingAmong files messages (enclosing_in file parent)
 home_among files messages file None l h = l
 home_among files messages file (Some i) l h = h
 
@@ -211,25 +211,25 @@ message_file F i m formed at =
     (in_list F.messages i m at)
 
 pub parent_known : (F : Joined) (i : ℕ) (m : MessageDecl) (files n : ℕ) → IsFormed F → slice_get F.messages i ≡ Some m
-    → files ≡ length F.heads → n ≡ i → IsPlaceAmong files n (home_of m)
+    → files ≡ length F.heads → n ≡ i → IsEnclosingAmong files n (enclosing_of m)
 parent_known F i m files n formed at f e =
     let l : m.file < length F.heads = message_file F i m formed at in
     home_among files n m.file m.parent (omega arith)
-    (subst (λ (k : ℕ). IsPlaceBelow k m.parent) (sym e) (formed.parents i m at))
+    (subst (λ (k : ℕ). IsIndexBelow k m.parent) (sym e) (formed.parents i m at))
 
 pub enum_parent_known : (F : Joined) (i : ℕ) (e : EnumDecl) (files n : ℕ) → IsFormed F → slice_get F.enums i ≡ Some e
-    → files ≡ length F.heads → n ≡ length F.messages → IsPlaceAmong files n (enum_home_of e)
+    → files ≡ length F.heads → n ≡ length F.messages → IsEnclosingAmong files n (enclosing_of_enum e)
 enum_parent_known F i e files n formed at f is =
     let l : e.file < length F.heads =
     All-contains (λ (x : EnumDecl). x.file < length F.heads) F.enums e formed.enum_files (in_list F.enums i e at) in
     home_among files n e.file e.parent (omega arith)
-    (subst (λ (k : ℕ). IsPlaceBelow k e.parent) (sym is)
-    (All-contains (λ (x : EnumDecl). IsPlaceBelow (length F.messages) x.parent) F.enums e formed.enum_parents
+    (subst (λ (k : ℕ). IsIndexBelow k e.parent) (sym is)
+    (All-contains (λ (x : EnumDecl). IsIndexBelow (length F.messages) x.parent) F.enums e formed.enum_parents
     (in_list F.enums i e at)))
 
 pub messages_more : {F : Joined} (fronts names more : List (List ℕ)) (name : List ℕ) (i : ℕ) (m : MessageDecl)
-    → IsFormed F → AreFronts F fronts → length names ≡ i → slice_get F.messages i ≡ Some m
-    → name ≡ behind (front_of fronts names (home_of m)) m.name.name → more ≡ names ++ name ∷ [] → AreMessageNames F names
+    → IsFormed F → ArePackageNames F fronts → length names ≡ i → slice_get F.messages i ≡ Some m
+    → name ≡ qualified_name (enclosing_name fronts names (enclosing_of m)) m.name.name → more ≡ names ++ name ∷ [] → AreMessageNames F names
     → AreMessageNames F more
 messages_more {F} fronts names more name i m formed e count at is grown h =
     subst (AreMessageNames F) (sym grown) (record {
@@ -239,11 +239,11 @@ messages_more {F} fronts names more name i m formed e count at is grown h =
             let s : k ≡ i = omega (arith, length-append names (name ∷ [])) in
             let p = scope_parts scope in
             let d : p.decl ≡ m = same_Some p.decl m (sym p.at ∙ ap (slice_get F.messages) s ∙ at) in
-            let up : IsScope F (home_of m) p.outer = subst (λ (x : MessageDecl). IsScope F (home_of x) p.outer) d p.up in
+            let up : IsScope F (enclosing_of m) p.outer = subst (λ (x : MessageDecl). IsScope F (enclosing_of x) p.outer) d p.up in
             let f : full ≡ p.outer ++ m.name.name ∷ [] =
             p.is ∙ ap (λ (x : MessageDecl). p.outer ++ x.name.name ∷ []) d in
             let t : name ≡ text_of full =
-            is ∙ full_text fronts names m.name.name (home_of m) p.outer formed e h
+            is ∙ full_text fronts names m.name.name (enclosing_of m) p.outer formed e h
             (parent_known F i m (length fronts) (length names) formed at e.count count) up
             ∙ ap text_of (sym f) in
             push_new names name k (count ∙ sym s) ∙ ap Some t
@@ -251,9 +251,9 @@ messages_more {F} fronts names more name i m formed e count at is grown h =
     })
 
 pub enums_more : {F : Joined} (fronts messages names more : List (List ℕ)) (name : List ℕ) (i : ℕ) (e : EnumDecl)
-    → IsFormed F → AreFronts F fronts → length messages ≡ length F.messages → AreMessageNames F messages
+    → IsFormed F → ArePackageNames F fronts → length messages ≡ length F.messages → AreMessageNames F messages
     → length names ≡ i → slice_get F.enums i ≡ Some e
-    → name ≡ behind (front_of fronts messages (enum_home_of e)) e.name.name → more ≡ names ++ name ∷ []
+    → name ≡ qualified_name (enclosing_name fronts messages (enclosing_of_enum e)) e.name.name → more ≡ names ++ name ∷ []
     → AreEnumNames F names → AreEnumNames F more
 enums_more {F} fronts messages names more name i e formed fronts_are all known count at is grown h =
     subst (AreEnumNames F) (sym grown) (record {
@@ -262,10 +262,10 @@ enums_more {F} fronts messages names more name i e formed fronts_are all known c
         | inr new ↦
             let s : k ≡ i = omega (arith, length-append names (name ∷ [])) in
             let same : d ≡ e = same_Some d e (sym there ∙ ap (slice_get F.enums) s ∙ at) in
-            let up2 : IsScope F (enum_home_of e) outer =
-            subst (λ (x : EnumDecl). IsScope F (enum_home_of x) outer) same up in
+            let up2 : IsScope F (enclosing_of_enum e) outer =
+            subst (λ (x : EnumDecl). IsScope F (enclosing_of_enum x) outer) same up in
             let t : name ≡ text_of (outer ++ d.name.name ∷ []) =
-            is ∙ full_text fronts messages e.name.name (enum_home_of e) outer formed fronts_are known
+            is ∙ full_text fronts messages e.name.name (enclosing_of_enum e) outer formed fronts_are known
             (enum_parent_known F i e (length fronts) (length messages) formed at fronts_are.count all) up2
             ∙ ap (λ (x : EnumDecl). text_of (outer ++ x.name.name ∷ [])) (sym same) in
             push_new names name k (count ∙ sym s) ∙ ap Some t
@@ -277,9 +277,9 @@ pub record HereMessage (F : Joined) (i : ℕ) : Type 0 where
   pub decl : MessageDecl
   pub outer : List (List ℕ)
   pub at : slice_get F.messages i ≡ Some decl
-  pub up : IsScope F (home_of decl) outer
-  pub declares : Declares F decl.file a_message (outer ++ decl.name.name ∷ []) decl.name.span
-  pub stands : StandsAt F decl.name.span (message_decl i) its_name
+  pub up : IsScope F (enclosing_of decl) outer
+  pub declares : IsDeclarationOf F decl.file a_message (outer ++ decl.name.name ∷ []) decl.name.span
+  pub stands : IsPartSpan F decl.name.span (message_decl i) its_name
   pub names : AreNames (outer ++ decl.name.name ∷ [])
 
 pub here_message : (F : Joined) (i : ℕ) → IsFormed F → i < length F.messages → HereMessage F i
@@ -300,9 +300,9 @@ pub record HereEnum (F : Joined) (i : ℕ) : Type 0 where
   pub decl : EnumDecl
   pub outer : List (List ℕ)
   pub at : slice_get F.enums i ≡ Some decl
-  pub up : IsScope F (enum_home_of decl) outer
-  pub declares : Declares F decl.file an_enum (outer ++ decl.name.name ∷ []) decl.name.span
-  pub stands : StandsAt F decl.name.span (enum_decl i) its_name
+  pub up : IsScope F (enclosing_of_enum decl) outer
+  pub declares : IsDeclarationOf F decl.file an_enum (outer ++ decl.name.name ∷ []) decl.name.span
+  pub stands : IsPartSpan F decl.name.span (enum_decl i) its_name
   pub names : AreNames (outer ++ decl.name.name ∷ [])
 
 pub here_enum : (F : Joined) (i : ℕ) → IsFormed F → i < length F.enums → HereEnum F i
@@ -333,7 +333,7 @@ enum_text F names i h known l d =
     get_or_from_slice_get names i (text_of (h.outer ++ h.decl.name.name ∷ [])) d
     (known.each i h.decl h.outer l h.at h.up)
 
-pub messages_distinct : (F : Joined) (names : List (List ℕ)) → IsFormed F → IsOrdered F → IsClean F
+pub messages_distinct : (F : Joined) (names : List (List ℕ)) → IsFormed F → IsOrdered F → HasNoViolation F
     → length names ≡ length F.messages → AreMessageNames F names → AreDistinct names
 messages_distinct F names formed ordered clean count known =
     apart_distinct names
@@ -345,7 +345,7 @@ messages_distinct F names formed ordered clean count known =
     (y.outer ++ y.decl.name.name ∷ []) x.decl.name.span y.decl.name.span ordered clean x.declares y.declares x.stands
     y.stands x.names y.names (sym (message_text F names i x known a d) ∙ e ∙ message_text F names j y known b d)))
 
-pub enums_distinct : (F : Joined) (names : List (List ℕ)) → IsFormed F → IsOrdered F → IsClean F
+pub enums_distinct : (F : Joined) (names : List (List ℕ)) → IsFormed F → IsOrdered F → HasNoViolation F
     → length names ≡ length F.enums → AreEnumNames F names → AreDistinct names
 enums_distinct F names formed ordered clean count known =
     apart_distinct names
@@ -359,20 +359,20 @@ enums_distinct F names formed ordered clean count known =
 
 -- ---- limits
 
-pub few_messages : (F : Joined) → IsFormed F → IsClean F → length F.messages ≤ MAX_MESSAGES
+pub few_messages : (F : Joined) → IsFormed F → HasNoViolation F → length F.messages ≤ MAX_MESSAGES
 few_messages F formed clean = elim (cases_lt MAX_MESSAGES (length F.messages)) [
   | inl more ↦
       let x = here_message F MAX_MESSAGES formed more in
-      absurd (clean Limit x.decl.name.span (Offences.of_message MAX_MESSAGES x.decl x.at
+      absurd (clean Limit x.decl.name.span (Violations.of_message MAX_MESSAGES x.decl x.at
       (of_message MAX_MESSAGES x.decl x.at x.up) (too_many_messages (omega arith) (refl, refl))))
   | inr few ↦ few
 ]
 
-pub few_enums : (F : Joined) → IsClean F → length F.enums ≤ MAX_ENUMS
+pub few_enums : (F : Joined) → HasNoViolation F → length F.enums ≤ MAX_ENUMS
 few_enums F clean = elim (cases_lt MAX_ENUMS (length F.enums)) [
   | inl more ↦
       let e = some_at F.enums MAX_ENUMS more in
-      absurd (clean Limit e.0.name.span (Offences.of_enum MAX_ENUMS e.0 e.1
+      absurd (clean Limit e.0.name.span (Violations.of_enum MAX_ENUMS e.0 e.1
       (too_many_enums (omega arith) (refl, refl))))
   | inr few ↦ few
 ]

@@ -30,22 +30,22 @@ use Rattle.proto_ast.specs.declared.file.Span.{Span}
 use Rattle.proto_ast.specs.declared.file.Word.{Word}
 use Rattle.proto_ast.specs.declared.file.ValueDecl.{ValueDecl}
 use Rattle.proto_ast.specs.declared.file.EnumDecl.{EnumDecl}
-use Rattle.proto_ast.specs.Joined.{Joined, enum_home_of, package_parts, package_in}
+use Rattle.proto_ast.specs.Joined.{Joined, enclosing_of_enum, package_parts, package_in}
 use Rattle.proto_ast.specs.Together
 use Rattle.proto_ast.specs.declared.joined.Head.{Head}
-use Rattle.proto_ast.specs.declared.joined.Home.{Home}
+use Rattle.proto_ast.specs.declared.joined.Enclosing.{Enclosing}
 use Rattle.schema_symbols.specs.Scopes
-use Rattle.schema_symbols.specs.Scopes.{Sort, is_type, no_type, an_enum, Declares, text_of, IsScope, of_file, of_message}
-use Rattle.schema_validation.specs.Types.{value_of}
+use Rattle.schema_symbols.specs.Scopes.{DeclKind, is_type, no_type, an_enum, IsDeclarationOf, text_of, IsScope, of_file, of_message}
+use Rattle.schema_validation.specs.Types.{signed_value}
 use Rattle.schema_validation.specs.Members
 use Rattle.schema_validation.specs.Members.{of_value, of_value_name, value_out_of_range, first_not_zero, name_too_many, name_long, long_message}
-use Rattle.schema_validation.specs.Offences
+use Rattle.schema_validation.specs.Violations
 use Rattle.schema_validation.specs.declared.reason.ResolveReason.TheVariants.{NumberRange, FirstEnum, Limit}
 use Rattle.schema_resolve.specs.Tables.{IsEnumOf}
-use Rattle.schema_resolve.specs.Resolving.{IsClean}
-use Rattle.schema_resolve.specs.Placing.{name_at, IsPlan}
-use Rattle.schema_resolve.specs.InOrder.{value_in, value_pair, AreValues, IsEnumAt}
-use Rattle.schema_resolve.specs.declared.plan.Plan.{Plan}
+use Rattle.schema_resolve.specs.Resolving.{HasNoViolation}
+use Rattle.schema_resolve.specs.Placing.{name_at_index, IsTablePlan}
+use Rattle.schema_resolve.specs.InOrder.{decl_value_pair, value_pair, AreValues, IsEnumAt}
+use Rattle.schema_resolve.specs.declared.plan.TablePlan.{TablePlan}
 use Rattle.schema_resolve.proofs.FullNames.{AreNames, scope_names, names_more, parts_of_text}
 use Rattle.schema_resolve.proofs.Orders.{AreApart, distinct_apart, apart_distinct, apart_moved, ascends_from, less_plain, element}
 use Rattle.schema_resolve.proofs.CleanFiles.{in_list, at_in, some_at, here_enum, one_declaration, enum_text}
@@ -118,34 +118,34 @@ map_twice f g [] = refl
 map_twice f g (x ∷ xs) = ap (λ ys. g (f x) ∷ ys) (map_twice f g xs)
 
 pub values_of : (decls : List ValueDecl) (values sorted : List (ℤ × Bor (List ℕ)))
-    → AreDistinct (map (λ (v : ValueDecl). v.name.name) decls) → map value_pair values ≡ map value_in decls
+    → AreDistinct (map (λ (v : ValueDecl). v.name.name) decls) → map value_pair values ≡ map decl_value_pair decls
     → IsPermutation values sorted → IsSorted value_cmp sorted → AreValues decls (map value_pair sorted)
 values_of decls values sorted distinct same moved ascends =
     let named : ℤ × List ℕ → List ℕ = λ v. v.1 in
     let pairs : IsPermutation (map value_pair values) (map value_pair sorted) =
     IsPermutation-map value_pair values sorted moved in
-    let pairs2 : IsPermutation (map value_in decls) (map value_pair sorted) =
+    let pairs2 : IsPermutation (map decl_value_pair decls) (map value_pair sorted) =
     subst (λ (vs : List (ℤ × List ℕ)). IsPermutation vs (map value_pair sorted)) same pairs in
-    let names : map (λ (v : ValueDecl). v.name.name) decls ≡ map named (map value_in decls) =
-    sym (map_twice value_in named decls) in
+    let names : map (λ (v : ValueDecl). v.name.name) decls ≡ map named (map decl_value_pair decls) =
+    sym (map_twice decl_value_pair named decls) in
     let apart : AreApart (map named (map value_pair sorted)) =
-    apart_moved (map named (map value_in decls)) (map named (map value_pair sorted))
-    (IsPermutation-map named (map value_in decls) (map value_pair sorted) pairs2)
+    apart_moved (map named (map decl_value_pair decls)) (map named (map value_pair sorted))
+    (IsPermutation-map named (map decl_value_pair decls) (map value_pair sorted) pairs2)
     (subst (λ (ns : List (List ℕ)). AreApart ns) names
     (distinct_apart (map (λ (v : ValueDecl). v.name.name) decls) distinct)) in
     record {
-      count = length_permutation (map value_in decls) (map value_pair sorted) pairs2 ∙ length-map decls value_in;
+      count = length_permutation (map decl_value_pair decls) (map value_pair sorted) pairs2 ∙ length-map decls decl_value_pair;
       those = record {
         each = λ v c. (
-          value_in v,
-          Contains-permutation (map value_in decls) (map value_pair sorted) (value_in v) pairs2
-              (contains_map value_in decls v c),
+          decl_value_pair v,
+          Contains-permutation (map decl_value_pair decls) (map value_pair sorted) (decl_value_pair v) pairs2
+              (contains_map decl_value_pair decls v c),
           (refl, refl),
         );
         alone = λ w c.
-            let b = Contains-permutation (map value_pair sorted) (map value_in decls) w
-            (IsPermutation-sym (map value_in decls) (map value_pair sorted) pairs2) c in
-            let x = map_contains value_in decls w b in
+            let b = Contains-permutation (map value_pair sorted) (map decl_value_pair decls) w
+            (IsPermutation-sym (map decl_value_pair decls) (map value_pair sorted) pairs2) c in
+            let x = map_contains decl_value_pair decls w b in
             (x.0, x.1, (ap (λ (v : ℤ × List ℕ). v.0) (sym x.2), ap (λ (v : ℤ × List ℕ). v.1) (sym x.2)));
       };
       ascend = ascends_from IsValueBelow (map value_pair sorted)
@@ -175,23 +175,23 @@ zero_at (negsuc n) h = absurd (h (λ e. cc))
 pub enum_formed : (F : Joined) (i : ℕ) (e : EnumDecl) → IsFormed F → slice_get F.enums i ≡ Some e → IsFormedEnum e
 enum_formed F i e formed at = All-contains IsFormedEnum F.enums e formed.enums (in_list F.enums i e at)
 
-pub values_fit : (F : Joined) (i : ℕ) (e : EnumDecl) → IsClean F → slice_get F.enums i ≡ Some e
-    → All (λ (v : ValueDecl). FitsSigned w32 (value_of v.number)) e.values
+pub values_fit : (F : Joined) (i : ℕ) (e : EnumDecl) → HasNoViolation F → slice_get F.enums i ≡ Some e
+    → All (λ (v : ValueDecl). FitsSigned w32 (signed_value v.number)) e.values
 values_fit F i e clean at k d l =
-    fits_at (value_of (get_or e.values k d).number)
-    (λ not. clean NumberRange (get_or e.values k d).number.span (Offences.of_enum i e at
+    fits_at (signed_value (get_or e.values k d).number)
+    (λ not. clean NumberRange (get_or e.values k d).number.span (Violations.of_enum i e at
     (of_value k (value_out_of_range (get_or e.values k d) (slice_get-get_or e.values k d l) not (refl, refl)))))
 
 same_value : (i j k : ℕ) → value_decl i j ≡ value_decl i k → j ≡ k
 same_value i j k e = cc
 
-pub values_distinct : (F : Joined) (i : ℕ) (e : EnumDecl) → IsFormed F → IsOrdered F → IsClean F
+pub values_distinct : (F : Joined) (i : ℕ) (e : EnumDecl) → IsFormed F → IsOrdered F → HasNoViolation F
     → slice_get F.enums i ≡ Some e → AreDistinct (map (λ (v : ValueDecl). v.name.name) e.values)
 values_distinct F i e formed ordered clean at =
     let name : ValueDecl → List ℕ = λ v. v.name.name in
     let here = here_enum F i formed (slice_get_within F.enums i e at) in
     let same : here.decl ≡ e = same_Some here.decl e (sym here.at ∙ at) in
-    let up : IsScope F (enum_home_of e) here.outer = subst (λ (x : EnumDecl). IsScope F (enum_home_of x) here.outer) same here.up in
+    let up : IsScope F (enclosing_of_enum e) here.outer = subst (λ (x : EnumDecl). IsScope F (enclosing_of_enum x) here.outer) same here.up in
     let enum : Contains F.enums e = in_list F.enums i e at in
     apart_distinct (map name e.values)
     (λ j k d a b s.
@@ -223,33 +223,33 @@ short_from name h = elim (cases_Bool (is_short name)) [
   | inr f ↦ absurd (h f)
 ]
 
-pub value_named : (F : Joined) (i : ℕ) (e : EnumDecl) (v : ValueDecl) → IsFormed F → IsClean F
+pub value_named : (F : Joined) (i : ℕ) (e : EnumDecl) (v : ValueDecl) → IsFormed F → HasNoViolation F
     → slice_get F.enums i ≡ Some e → Contains e.values v → IsName v.name.name
 value_named F i e v formed clean at c = record {
   form = All-contains (λ (x : ValueDecl). HasName x.name) e.values v (enum_formed F i e formed at).values c;
   short = short_from v.name.name
-      (λ f. clean Limit v.name.span (Offences.of_enum i e at
+      (λ f. clean Limit v.name.span (Violations.of_enum i e at
       (of_value_name c.0 v (at_in e.values v c) (name_long (f, (refl, refl))))));
 }
 
-pub few_values : (F : Joined) (i : ℕ) (e : EnumDecl) → IsClean F → slice_get F.enums i ≡ Some e
+pub few_values : (F : Joined) (i : ℕ) (e : EnumDecl) → HasNoViolation F → slice_get F.enums i ≡ Some e
     → length e.values ≤ MAX_VALUES
 few_values F i e clean at = elim (cases_lt MAX_VALUES (length e.values)) [
   | inl more ↦
       let v = some_at e.values MAX_VALUES more in
-      absurd (clean Limit v.0.name.span (Offences.of_enum i e at
+      absurd (clean Limit v.0.name.span (Violations.of_enum i e at
       (of_value_name MAX_VALUES v.0 v.1 (name_too_many (omega arith) (refl, refl)))))
   | inr few ↦ few
 ]
 
-pub first_zero : (F : Joined) (i : ℕ) (e : EnumDecl) → IsFormed F → IsClean F → slice_get F.enums i ≡ Some e
-    → (v : ValueDecl) × Contains e.values v × (value_of v.number ≡ pos 0)
+pub first_zero : (F : Joined) (i : ℕ) (e : EnumDecl) → IsFormed F → HasNoViolation F → slice_get F.enums i ≡ Some e
+    → (v : ValueDecl) × Contains e.values v × (signed_value v.number ≡ pos 0)
 first_zero F i e formed clean at =
     let v = some_at e.values 0 (enum_formed F i e formed at).filled in (
       v.0,
       in_list e.values 0 v.0 v.1,
-      zero_at (value_of v.0.number)
-          (λ not. clean FirstEnum v.0.number.span (Offences.of_enum i e at
+      zero_at (signed_value v.0.number)
+          (λ not. clean FirstEnum v.0.number.span (Violations.of_enum i e at
           (of_value 0 (first_not_zero v.0 v.1 refl not (refl, refl))))),
     )
 
@@ -260,11 +260,11 @@ true_from true h = refl
 true_from false h = absurd (h refl)
 
 package_short_at : (F : Joined) (k : ℕ) (h : Head) (word : Option Word) → slice_get F.heads k ≡ Some h → h.package ≡ word
-    → IsClean F → list_all is_short (package_parts word) ≡ true
+    → HasNoViolation F → list_all is_short (package_parts word) ≡ true
 package_short_at F k h None at e clean = refl
 package_short_at F k h (Some w) at e clean =
     let t : is_short_full w.name ≡ true = true_from (is_short_full w.name)
-    (λ f. clean Limit w.span (Offences.of_package k h w at e f (refl, refl))) in
+    (λ f. clean Limit w.span (Violations.of_package k h w at e f (refl, refl))) in
     (and_parts (list_all is_short (parts_of w.name)) (nat_le (length w.name) MAX_FULL_NAME) t).0
 
 pub short_more : (outer : List (List ℕ)) (name : List ℕ) → list_all is_short outer ≡ true → is_short name ≡ true
@@ -273,18 +273,18 @@ short_more outer name h n =
     list_all-append is_short outer (name ∷ [])
     ∙ and_from (list_all is_short outer) (list_all is_short (name ∷ [])) h (and_from (is_short name) true n refl)
 
-package_short : (F : Joined) (k : ℕ) (head : Option Head) → slice_get F.heads k ≡ head → IsClean F
+package_short : (F : Joined) (k : ℕ) (head : Option Head) → slice_get F.heads k ≡ head → HasNoViolation F
     → list_all is_short (package_in head) ≡ true
 package_short F k None at clean = refl
 package_short F k (Some h) at clean = package_short_at F k h h.package at refl clean
 
-pub scope_short : {F : Joined} {place : Home} {scope : List (List ℕ)} → IsClean F → IsScope F place scope
+pub scope_short : {F : Joined} {place : Enclosing} {scope : List (List ℕ)} → HasNoViolation F → IsScope F place scope
     → list_all is_short scope ≡ true
 scope_short {F} clean (of_file k) = package_short F k (slice_get F.heads k) refl clean
 scope_short {F} clean (of_message i m {outer} at up) =
     short_more outer m.name.name (scope_short clean up)
     (true_from (is_short m.name.name)
-    (λ f. clean Limit m.name.span (Offences.of_message i m at (of_message i m at up) (long_message (f, (refl, refl))))))
+    (λ f. clean Limit m.name.span (Violations.of_message i m at (of_message i m at up) (long_message (f, (refl, refl))))))
 
 parts_at : (full : List (List ℕ)) → 0 < length full → AreNames full → parts_of (text_of full) ≡ full
 parts_at [] l h = absurd (omega arith)
@@ -303,30 +303,30 @@ full_valid full some names short not_long =
           ]);
     }
 
-pub type_valid : (F : Joined) {k : ℕ} (sort : Sort) (outer : List (List ℕ)) (name : List ℕ) (span : Span) → IsClean F
-    → Declares F k sort (outer ++ name ∷ []) span → is_type sort ≡ true → AreNames (outer ++ name ∷ [])
+pub type_valid : (F : Joined) {k : ℕ} (sort : DeclKind) (outer : List (List ℕ)) (name : List ℕ) (span : Span) → HasNoViolation F
+    → IsDeclarationOf F k sort (outer ++ name ∷ []) span → is_type sort ≡ true → AreNames (outer ++ name ∷ [])
     → list_all is_short (outer ++ name ∷ []) ≡ true → IsFullName (text_of (outer ++ name ∷ []))
 type_valid F {k} sort outer name span clean d typ names short =
     full_valid (outer ++ name ∷ []) (omega (arith, length-append outer (name ∷ []))) names short
-    (λ l. clean Limit span (Offences.long_in_full span
-    (Offences.a_type k sort (outer ++ name ∷ []) d typ l) (refl, refl)))
+    (λ l. clean Limit span (Violations.long_in_full span
+    (Violations.a_type k sort (outer ++ name ∷ []) d typ l) (refl, refl)))
 
 -- ---- the enum
 
-pub enum_at : (F : Joined) (p : Plan) (i : ℕ) (e : EnumDecl) (c : Choices) → IsFormed F → IsOrdered F → IsClean F
-    → IsPlan F p → slice_get F.enums i ≡ Some e → c.name ≡ name_at p.enums.names.items i
+pub enum_at : (F : Joined) (p : TablePlan) (i : ℕ) (e : EnumDecl) (c : Choices) → IsFormed F → IsOrdered F → HasNoViolation F
+    → IsTablePlan F p → slice_get F.enums i ≡ Some e → c.name ≡ name_at_index p.enums.names.items i
     → AreValues e.values c.values → IsEnumAt F p i c
 enum_at F p i e c formed ordered clean plan at name values =
     let here = here_enum F i formed (slice_get_within F.enums i e at) in
     let same : here.decl ≡ e = same_Some here.decl e (sym here.at ∙ at) in
-    let up : IsScope F (enum_home_of e) here.outer = subst (λ (x : EnumDecl). IsScope F (enum_home_of x) here.outer) same here.up in
+    let up : IsScope F (enclosing_of_enum e) here.outer = subst (λ (x : EnumDecl). IsScope F (enclosing_of_enum x) here.outer) same here.up in
     let text : c.name ≡ text_of (here.outer ++ here.decl.name.name ∷ []) =
     name ∙ enum_text F p.enums.names.items i here plan.enums
     (omega (arith, plan.all_enums, slice_get_within F.enums i e at)) [] in
     let text2 : c.name ≡ text_of (here.outer ++ e.name.name ∷ []) =
     text ∙ ap (λ (x : EnumDecl). text_of (here.outer ++ x.name.name ∷ [])) same in
     let short : is_short here.decl.name.name ≡ true = true_from (is_short here.decl.name.name)
-    (λ f. clean Limit here.decl.name.span (Offences.of_enum i here.decl here.at (Members.long_enum (f, (refl, refl))))) in
+    (λ f. clean Limit here.decl.name.span (Violations.of_enum i here.decl here.at (Members.long_enum (f, (refl, refl))))) in
     record {
       is = λ d there.
           let one : e ≡ d = same_Some e d (sym at ∙ there) in
@@ -340,7 +340,7 @@ enum_at F p i e c formed ordered clean plan at name values =
         numbers = λ k d l.
             let w = values.those.alone (get_or c.values k d) (k, l, get_or_default c.values k (get_or c.values k d) d l) in
             subst (FitsSigned w32) (sym w.2.0)
-            (All-contains (λ (v : ValueDecl). FitsSigned w32 (value_of v.number)) e.values w.0 (values_fit F i e clean at) w.1);
+            (All-contains (λ (v : ValueDecl). FitsSigned w32 (signed_value v.number)) e.values w.0 (values_fit F i e clean at) w.1);
         each_name = λ k d l.
             let w = values.those.alone (get_or c.values k d) (k, l, get_or_default c.values k (get_or c.values k d) d l) in
             subst IsName (sym w.2.1) (value_named F i e w.0 formed clean at w.1);

@@ -16,9 +16,9 @@ use Rattle.proto_ast.specs.declared.file.Word.{Word}
 use Rattle.proto_ast.specs.declared.file.MessageDecl.{MessageDecl}
 use Rattle.proto_ast.specs.Joined.{Joined, package_parts, package_in, package_at}
 use Rattle.proto_ast.specs.declared.joined.Head.{Head}
-use Rattle.proto_ast.specs.declared.joined.Home.{Home}
+use Rattle.proto_ast.specs.declared.joined.Enclosing.{Enclosing}
 use Rattle.schema_symbols.specs.Scopes.{text_of, IsScope, of_file, of_message}
-use Rattle.schema_resolve.specs.Placing.{behind}
+use Rattle.schema_resolve.specs.Placing.{qualified_name}
 
 -- ---- names without dots
 
@@ -100,12 +100,12 @@ join_more x (y ∷ ys) name =
     ap (λ (t : List ℕ). x ++ dot ∷ t) (join_more y ys name)
     ∙ sym (append_assoc x (dot ∷ text_of (y ∷ ys)) (dot ∷ name))
 
-behind_some : (text name : List ℕ) (c : ℕ) (cs : List ℕ) → text ≡ c ∷ cs → behind text name ≡ text ++ dot ∷ name
+behind_some : (text name : List ℕ) (c : ℕ) (cs : List ℕ) → text ≡ c ∷ cs → qualified_name text name ≡ text ++ dot ∷ name
 behind_some text name c cs e =
-    subst (λ (t : List ℕ). behind t name ≡ t ++ dot ∷ name) (sym e) refl
+    subst (λ (t : List ℕ). qualified_name t name ≡ t ++ dot ∷ name) (sym e) refl
 
 pub behind_text : (outer : List (List ℕ)) (name : List ℕ) → AreNames outer
-    → behind (text_of outer) name ≡ text_of (outer ++ name ∷ [])
+    → qualified_name (text_of outer) name ≡ text_of (outer ++ name ∷ [])
 behind_text [] name h = refl
 behind_text (x ∷ xs) name h =
     let s = text_some x xs h in
@@ -137,7 +137,7 @@ message_formed F i m formed at =
     All-contains IsFormedMessage F.messages m formed.messages
     (i, slice_get_within F.messages i m at, get_or_from_slice_get F.messages i m m at)
 
-pub scope_names : {F : Joined} {place : Home} {scope : List (List ℕ)} → IsFormed F → IsScope F place scope
+pub scope_names : {F : Joined} {place : Enclosing} {scope : List (List ℕ)} → IsFormed F → IsScope F place scope
     → AreNames scope
 scope_names {F} formed (of_file k) = package_names F k formed
 scope_names {F} formed (of_message i m {outer} at up) =

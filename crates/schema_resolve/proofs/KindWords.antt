@@ -7,7 +7,7 @@ use Rattle.std.proofs.lemmas.List.{append_cancel_left, length-append}
 use Rattle.mrpc_table.specs.Scalars.{no_table, scalar_of}
 use Rattle.mrpc_table.specs.Words.{is_numeric}
 use Rattle.mrpc_table.specs.Text.{kind_text, label_text, message_name, enum_name}
-use Rattle.mrpc_table.specs.Valid.{IsMessageKind, GoesWith, IsKnown}
+use Rattle.mrpc_table.specs.Valid.{IsMessageKind, IsLabelFor, IsKnown}
 use Rattle.mrpc_table.specs.declared.table.Kind.{Kind}
 use Rattle.mrpc_table.specs.declared.table.Kind.TheVariants.{Int32, Int64, Uint32, Uint64, Sint32, Sint64}
 use Rattle.mrpc_table.specs.declared.table.Kind.TheVariants.{Bool as TheBool, Fixed32, Fixed64, Sfixed32, Sfixed64}
@@ -26,17 +26,17 @@ use Rattle.proto_ast.specs.declared.file.FieldLabel.TheVariants.{Plain, Optional
 use Rattle.proto_ast.specs.declared.file.FieldDecl.{FieldDecl}
 use Rattle.proto_ast.specs.Joined.{Joined}
 use Rattle.schema_symbols.specs.Scopes
-use Rattle.schema_symbols.specs.Scopes.{Sort, is_type, Declares, Finds, text_of}
+use Rattle.schema_symbols.specs.Scopes.{DeclKind, is_type, IsDeclarationOf, IsVisibleDeclaration, text_of}
 use Rattle.schema_symbols.specs.Numbers
-use Rattle.schema_symbols.specs.Numbers.{StandsAt}
-use Rattle.schema_symbols.specs.declared.named.Named.TheVariants as named
-use Rattle.schema_validation.specs.Types.{is_scalar, IsScalar, isnt_false, single_label, label_in, HasType, scalar, message, enum, HasForm, single, a_map}
-use Rattle.schema_validation.specs.Forms.{IsWordOf}
+use Rattle.schema_symbols.specs.Numbers.{IsSymbolAt}
+use Rattle.schema_symbols.specs.declared.symbol.Symbol.TheVariants as named
+use Rattle.schema_validation.specs.Types.{is_scalar, IsScalar, isnt_false, single_label, label_in, HasType, scalar, message, enum, HasShape, single, a_map}
+use Rattle.schema_validation.specs.Shapes.{IsWordOf}
 use Rattle.schema_validation.specs.declared.types.TypeOf.{TypeOf}
 use Rattle.schema_validation.specs.declared.types.TypeOf.TheVariants.{Scalar, Named}
-use Rattle.schema_resolve.specs.Placing.{IsPlan, HasNames}
-use Rattle.schema_resolve.specs.Joining.{kind_in, IsInPlan}
-use Rattle.schema_resolve.specs.declared.plan.Plan.{Plan}
+use Rattle.schema_resolve.specs.Placing.{IsTablePlan, HasTableNames}
+use Rattle.schema_resolve.specs.Joining.{table_kind, IsInPlan}
+use Rattle.schema_resolve.specs.declared.plan.TablePlan.{TablePlan}
 use Rattle.schema_resolve.proofs.FullNames.{AreNames, scope_names, names_more, text_some, message_formed}
 use Rattle.schema_resolve.proofs.CleanFiles.{at_in}
 use Rattle.schema_resolve.proofs.MethodTables.{placed_at, name_read, message_named, message_standing, place_within}
@@ -211,13 +211,13 @@ single_no_member Optional packed false pk = tt
 single_no_member Repeated packed im pk = repeated_no_member (pk && isnt_false packed)
 
 repeated_goes : (n : ℕ) (k : Kind) (b : Bool) → (b ≡ true → is_numeric k ≡ true)
-    → GoesWith n (cond b labels.Packed labels.Repeated) k
+    → IsLabelFor n (cond b labels.Packed labels.Repeated) k
 repeated_goes n k true h = h refl
 repeated_goes n k false h = tt
 
 single_goes : (T : Table) (n : ℕ) (k : Kind) (F : Joined) (file : ℕ) (scope : List (List ℕ)) (w : Word) (word : List ℕ)
     (l : FieldLabel) (packed : Option Bool) (im pk : Bool) → HasType F file scope w word im pk → kind_text T k ≡ word
-    → GoesWith n (single_label l packed im pk) k
+    → IsLabelFor n (single_label l packed im pk) k
 single_goes T n k F file scope w word Plain packed im pk typ e = tt
 single_goes T n k F file scope w word Optional packed true pk typ e = tt
 single_goes T n k F file scope w word Optional packed false pk typ e =
@@ -228,10 +228,10 @@ single_goes T n k F file scope w word Repeated packed im pk typ e =
 
 -- the label of a shape is that of its oneof, or one that is valid for its kind
 pub record LabelParts (T : Table) (n : ℕ) (k : Kind) (oneof : Option ℕ) (label : Label) : Type 0 where
-  pub none : oneof ≡ None → IsNoMember label × GoesWith n label k
+  pub none : oneof ≡ None → IsNoMember label × IsLabelFor n label k
   pub some : (o : ℕ) → oneof ≡ Some o → label ≡ labels.Member o
 
-parts_at : (T : Table) (n : ℕ) (k : Kind) (oneof : Option ℕ) (label : Label) → IsNoMember label → GoesWith n label k
+parts_at : (T : Table) (n : ℕ) (k : Kind) (oneof : Option ℕ) (label : Label) → IsNoMember label → IsLabelFor n label k
     → LabelParts T n k oneof (label_in oneof label)
 parts_at T n k None label h g = record { none = λ e. (h, g); some = λ o e. absurd (none-some o e) }
 parts_at T n k (Some i) label h g = record {
@@ -240,7 +240,7 @@ parts_at T n k (Some i) label h g = record {
 }
 
 pub label_parts : (T : Table) (n : ℕ) (k : Kind) (F : Joined) (file : ℕ) (scope : List (List ℕ)) (f : FieldDecl)
-    (label : Label) (word : List ℕ) → HasForm F file scope f label word → kind_text T k ≡ word
+    (label : Label) (word : List ℕ) → HasShape F file scope f label word → kind_text T k ≡ word
     → LabelParts T n k f.oneof label
 label_parts T n k F file scope f label word (single w text im pk is typ) e =
     parts_at T n k f.oneof (single_label f.label f.packed im pk) (single_no_member f.label f.packed im pk)
@@ -272,7 +272,7 @@ text_some_at (x ∷ xs) l h e =
     let f : s.0 ∷ s.1 ≡ [] = sym s.2 ∙ e in
     cc
 
-declared_some : {F : Joined} {k : ℕ} {sort : Sort} {full : List (List ℕ)} {span : Span} → IsFormed F → Declares F k sort full span
+declared_some : {F : Joined} {k : ℕ} {sort : DeclKind} {full : List (List ℕ)} {span : Span} → IsFormed F → IsDeclarationOf F k sort full span
     → is_type sort ≡ true → text_of full ≡ [] → ⊥
 declared_some {F} formed (Scopes.message m {outer} c up) typ e =
     text_some_at (outer ++ m.name.name ∷ []) (omega (arith, length-append outer (m.name.name ∷ [])))
@@ -287,7 +287,7 @@ declared_some formed (Scopes.value x v c d up) typ e = false≢true typ
 declared_some formed (Scopes.field m f c d up) typ e = false≢true typ
 declared_some formed (Scopes.oneof m o c d up) typ e = false≢true typ
 
-found_some : {F : Joined} {file : ℕ} {sort : Sort} {full : List (List ℕ)} → IsFormed F → Finds F file sort full
+found_some : {F : Joined} {file : ℕ} {sort : DeclKind} {full : List (List ℕ)} → IsFormed F → IsVisibleDeclaration F file sort full
     → text_of full ≡ [] → ⊥
 found_some formed h e = declared_some formed h.declared h.names_type e
 
@@ -310,16 +310,16 @@ scalar_word F file scope w word im pk k formed (an_enum_kind i q) (enum full pla
     (append_cancel_left (codes "enum:") (text_of full) [] (e ∙ ap (kind_text no_table) q)))
 
 scalar_form : (F : Joined) (file : ℕ) (scope : List (List ℕ)) (f : FieldDecl) (label : Label) (word : List ℕ) (k : Kind)
-    → IsFormed F → HasForm F file scope f label word → word ≡ kind_text no_table k → is_scalar k ≡ true
+    → IsFormed F → HasShape F file scope f label word → word ≡ kind_text no_table k → is_scalar k ≡ true
 scalar_form F file scope f label word k formed (single w text im pk is typ) e =
     scalar_word F file scope w text im pk k formed (sorted k) typ e
 scalar_form F file scope f label word k formed (a_map key value l text im pk is plain none s keyed typ) e =
     scalar_word F file scope value text im pk k formed (sorted k) typ e
 
-message_kind : (F : Joined) (p : Plan) (T : Table) (i : ℕ) (full : List (List ℕ)) (span : Span) → IsPlan F p
-    → HasNames p T → StandsAt F (named.Message i) full span
-    → (kind_text T (kind_in p (Named (named.Message i))) ≡ codes "message:" ++ text_of full)
-    × IsKnown T (kind_in p (Named (named.Message i)))
+message_kind : (F : Joined) (p : TablePlan) (T : Table) (i : ℕ) (full : List (List ℕ)) (span : Span) → IsTablePlan F p
+    → HasTableNames p T → IsSymbolAt F (named.Message i) full span
+    → (kind_text T (table_kind p (Named (named.Message i))) ≡ codes "message:" ++ text_of full)
+    × IsKnown T (table_kind p (Named (named.Message i)))
 message_kind F p T i full span plan has stands =
     let s = message_standing stands in
     let at = placed_at p.messages.names.items p.messages i plan.message_places (omega (arith, plan.all_messages, s.1)) in
@@ -329,10 +329,10 @@ message_kind F p T i full span plan has stands =
       subst (λ (j : ℕ). j < length T.messages) (sym place) r.1,
     )
 
-enum_kind : (F : Joined) (p : Plan) (T : Table) (i : ℕ) (full : List (List ℕ)) (span : Span) → IsPlan F p
-    → HasNames p T → StandsAt F (named.Enum i) full span
-    → (kind_text T (kind_in p (Named (named.Enum i))) ≡ codes "enum:" ++ text_of full)
-    × IsKnown T (kind_in p (Named (named.Enum i)))
+enum_kind : (F : Joined) (p : TablePlan) (T : Table) (i : ℕ) (full : List (List ℕ)) (span : Span) → IsTablePlan F p
+    → HasTableNames p T → IsSymbolAt F (named.Enum i) full span
+    → (kind_text T (table_kind p (Named (named.Enum i))) ≡ codes "enum:" ++ text_of full)
+    × IsKnown T (table_kind p (Named (named.Enum i)))
 enum_kind F p T i full span plan has (Numbers.enum j x {outer} there up) =
     let l : i < length F.enums = slice_get_within F.enums i x there in
     let at = placed_at p.enums.names.items p.enums i plan.enum_places (omega (arith, plan.all_enums)) in
@@ -348,9 +348,9 @@ enum_kind F p T i full span plan has (Numbers.enum j x {outer} there up) =
     )
 
 -- the kind of a shape in a table
-pub kind_word : (F : Joined) (file : ℕ) (p : Plan) (T : Table) (scope : List (List ℕ)) (f : FieldDecl) (label : Label)
-    (type_of : TypeOf) (word : List ℕ) → IsFormed F → IsPlan F p → HasNames p T → IsWordOf F type_of word
-    → HasForm F file scope f label word → (kind_text T (kind_in p type_of) ≡ word) × IsKnown T (kind_in p type_of)
+pub kind_word : (F : Joined) (file : ℕ) (p : TablePlan) (T : Table) (scope : List (List ℕ)) (f : FieldDecl) (label : Label)
+    (type_of : TypeOf) (word : List ℕ) → IsFormed F → IsTablePlan F p → HasTableNames p T → IsWordOf F type_of word
+    → HasShape F file scope f label word → (kind_text T (table_kind p type_of) ≡ word) × IsKnown T (table_kind p type_of)
 kind_word F file p T scope f label (Scalar k) word formed plan has is form =
     let t = scalar_form F file scope f label word k formed form is in
     (scalar_text T k t ∙ sym is, scalar_kind T k t)
@@ -361,11 +361,11 @@ kind_word F file p T scope f label (Named (named.Enum i)) word formed plan has i
     let r = enum_kind F p T i is.0 is.1 plan has is.2 in
     (r.0 ∙ sym is.3, r.1)
 
-enum_within : {F : Joined} {i : ℕ} {full : List (List ℕ)} {span : Span} → StandsAt F (named.Enum i) full span
+enum_within : {F : Joined} {i : ℕ} {full : List (List ℕ)} {span : Span} → IsSymbolAt F (named.Enum i) full span
     → i < length F.enums
 enum_within {F} (Numbers.enum j x there up) = slice_get_within F.enums j x there
 
-pub in_plan : (F : Joined) (p : Plan) (type_of : TypeOf) (word : List ℕ) → IsPlan F p → IsWordOf F type_of word
+pub in_plan : (F : Joined) (p : TablePlan) (type_of : TypeOf) (word : List ℕ) → IsTablePlan F p → IsWordOf F type_of word
     → IsInPlan p type_of
 in_plan F p (Scalar k) word plan is = tt
 in_plan F p (Named (named.Message i)) word plan is =

@@ -13,7 +13,7 @@ use Rattle.mrpc_table.specs.declared.table.Label.{Label}
 use Rattle.mrpc_table.specs.declared.table.Label.TheVariants.{Member}
 use Rattle.mrpc_table.specs.declared.table.Field.{Field}
 use Rattle.mrpc_table.specs.declared.table.Message.{Message}
-use Rattle.proto_ast.specs.Order.{IsPlaceBelow}
+use Rattle.proto_ast.specs.Order.{IsIndexBelow}
 use Rattle.proto_ast.specs.Together.{IsFormed, IsOrdered}
 use Rattle.proto_ast.specs.declared.file.Word.{Word}
 use Rattle.proto_ast.specs.declared.file.FieldDecl.{FieldDecl}
@@ -21,22 +21,22 @@ use Rattle.proto_ast.specs.declared.file.MessageDecl.{MessageDecl}
 use Rattle.proto_ast.specs.Joined.{Joined}
 use Rattle.proto_ast.specs.declared.file.Span.{Span}
 use Rattle.schema_symbols.specs.Scopes
-use Rattle.schema_symbols.specs.Scopes.{Declares, Finds, a_message, an_enum}
+use Rattle.schema_symbols.specs.Scopes.{IsDeclarationOf, IsVisibleDeclaration, a_message, an_enum}
 use Rattle.schema_symbols.specs.Numbers
-use Rattle.schema_symbols.specs.Numbers.{StandsAt, IsOfFile}
-use Rattle.schema_symbols.specs.declared.named.Named.TheVariants as named
-use Rattle.schema_validation.specs.Those.{AreThoseInOrder}
-use Rattle.schema_validation.specs.Types.{HasType, scalar, message, enum, HasForm, single, a_map}
-use Rattle.schema_validation.specs.Forms.{IsWordOf, IsForm}
+use Rattle.schema_symbols.specs.Numbers.{IsSymbolAt, IsOfFile}
+use Rattle.schema_symbols.specs.declared.symbol.Symbol.TheVariants as named
+use Rattle.schema_validation.specs.Correspondence.{AreCorrespondingInOrder}
+use Rattle.schema_validation.specs.Types.{HasType, scalar, message, enum, HasShape, single, a_map}
+use Rattle.schema_validation.specs.Shapes.{IsWordOf, IsShape}
 use Rattle.schema_validation.specs.declared.types.TypeOf.{TypeOf}
 use Rattle.schema_validation.specs.declared.types.TypeOf.TheVariants.{Scalar, Named}
-use Rattle.schema_validation.specs.declared.types.Form.{Form}
-use Rattle.schema_resolve.specs.Resolving.{IsClean}
-use Rattle.schema_resolve.specs.Placing.{name_at, IsPlan}
-use Rattle.schema_resolve.specs.Judged.{IsJudged, AreJudgedInOrder, AreJudged}
-use Rattle.schema_resolve.specs.Joining.{AreUnplaced, IsPlacedOneof, KeepsOneofs, HasPlace, met_before, next_one, IsLabelled, kind_in, AreMade, IsNextField, IsMessageAt}
-use Rattle.schema_resolve.specs.declared.plan.Plan.{Plan}
-use Rattle.schema_resolve.specs.declared.field_table.Judged.{Judged}
+use Rattle.schema_validation.specs.declared.types.FieldShape.{FieldShape}
+use Rattle.schema_resolve.specs.Resolving.{HasNoViolation}
+use Rattle.schema_resolve.specs.Placing.{name_at_index, IsTablePlan}
+use Rattle.schema_resolve.specs.ShapedFields.{IsShapedField, AreShapedInOrder, AreShapedFields}
+use Rattle.schema_resolve.specs.Joining.{AreUnplaced, IsPlacedOneof, HasOneofs, HasPlace, met_before, next_one, IsLabelled, table_kind, AreFieldsMade, IsNextField, IsMessageAt}
+use Rattle.schema_resolve.specs.declared.plan.TablePlan.{TablePlan}
+use Rattle.schema_resolve.specs.declared.field_table.ShapedField.{ShapedField}
 use Rattle.schema_resolve.specs.declared.oneof_table.Oneofs.{Oneofs}
 use Rattle.schema_resolve.proofs.FullNames.{message_formed}
 use Rattle.schema_resolve.proofs.CleanFiles.{in_list, at_in, some_at, one_scope, scope_at}
@@ -49,22 +49,22 @@ use Rattle.schema_resolve.proofs.PlanExists.{vec_of, ref_of}
 
 -- ---- types and shapes
 
-pub message_stands : {F : Joined} {file : ℕ} {full : List (List ℕ)} {span : Span} → Declares F file a_message full span
-    → (i : ℕ) × StandsAt F (named.Message i) full span × IsOfFile F (named.Message i) file
+pub message_stands : {F : Joined} {file : ℕ} {full : List (List ℕ)} {span : Span} → IsDeclarationOf F file a_message full span
+    → (i : ℕ) × IsSymbolAt F (named.Message i) full span × IsOfFile F (named.Message i) file
 message_stands {F} (Scopes.message m c up) =
     let at = at_in F.messages m c in
     (c.0, Numbers.message c.0 m at up, Numbers.message_of c.0 m at)
 
-enum_stands : {F : Joined} {file : ℕ} {full : List (List ℕ)} {span : Span} → Declares F file an_enum full span
-    → (i : ℕ) × StandsAt F (named.Enum i) full span
+enum_stands : {F : Joined} {file : ℕ} {full : List (List ℕ)} {span : Span} → IsDeclarationOf F file an_enum full span
+    → (i : ℕ) × IsSymbolAt F (named.Enum i) full span
 enum_stands {F} (Scopes.enum e c up) = (c.0, Numbers.enum c.0 e (at_in F.enums e c) up)
 
-found_message : {F : Joined} {file : ℕ} {full : List (List ℕ)} → Finds F file a_message full
-    → (i : ℕ) × (span : Span) × StandsAt F (named.Message i) full span
+found_message : {F : Joined} {file : ℕ} {full : List (List ℕ)} → IsVisibleDeclaration F file a_message full
+    → (i : ℕ) × (span : Span) × IsSymbolAt F (named.Message i) full span
 found_message h = let s = message_stands h.declared in (s.0, h.span, s.1)
 
-found_enum : {F : Joined} {file : ℕ} {full : List (List ℕ)} → Finds F file an_enum full
-    → (i : ℕ) × (span : Span) × StandsAt F (named.Enum i) full span
+found_enum : {F : Joined} {file : ℕ} {full : List (List ℕ)} → IsVisibleDeclaration F file an_enum full
+    → (i : ℕ) × (span : Span) × IsSymbolAt F (named.Enum i) full span
 found_enum h = let s = enum_stands h.declared in (s.0, h.span, s.1)
 
 -- the type with a word: a scalar, or a message or an enum by its index
@@ -79,13 +79,13 @@ type_kept F file scope w word im pk (enum full plain names) =
     (Named (named.Enum s.0), (full, s.1, s.2, refl))
 
 form_type : (F : Joined) (file : ℕ) (scope : List (List ℕ)) (f : FieldDecl) (label : Label) (word : List ℕ)
-    → HasForm F file scope f label word → (type_of : TypeOf) × IsWordOf F type_of word
+    → HasShape F file scope f label word → (type_of : TypeOf) × IsWordOf F type_of word
 form_type F file scope f label word (single w text im pk is typ) = type_kept F file scope w text im pk typ
 form_type F file scope f label word (a_map key value k text im pk is plain alone s keyed typ) =
     type_kept F file scope value text im pk typ
 
 form_kept : (F : Joined) (file : ℕ) (scope : List (List ℕ)) (f : FieldDecl) (label : Label) (word : List ℕ)
-    → HasForm F file scope f label word → (form : Form) × IsForm F file scope f form
+    → HasShape F file scope f label word → (form : FieldShape) × IsShape F file scope f form
 form_kept F file scope f label word has =
     let t = form_type F file scope f label word has in (
       record { label = label; oneof = None; type_of = t.0 },
@@ -95,9 +95,9 @@ form_kept F file scope f label word has =
 -- ---- fields
 
 -- the field of a clean message, with its number and its shape
-judged_exists : (F : Joined) (place : ℕ) (m : MessageDecl) (f : FieldDecl) → IsFormed F → IsClean F
+judged_exists : (F : Joined) (place : ℕ) (m : MessageDecl) (f : FieldDecl) → IsFormed F → HasNoViolation F
     → slice_get F.messages place ≡ Some m → Contains m.fields f
-    → IsNotRefuted ((j : Judged) × IsJudged F m.file place f j)
+    → IsNotRefuted ((j : ShapedField) × IsShapedField F m.file place f j)
 judged_exists F place m f formed clean at field never =
     let scope = scope_at formed place (slice_get_within F.messages place m at) in
     has_number F place m scope.0 f clean at scope.1 field
@@ -110,34 +110,34 @@ judged_exists F place m f formed clean at field never =
         decl_is = refl;
         number_is = n.1;
         in_range = n.2;
-        form_is = λ s up. subst (λ (t : List (List ℕ)). IsForm F m.file t f form.0) (one_scope scope.1 up) form.1;
+        form_is = λ s up. subst (λ (t : List (List ℕ)). IsShape F m.file t f form.0) (one_scope scope.1 up) form.1;
       },
     )))
 
-judged_in_order : (F : Joined) (file place : ℕ) (fs : List FieldDecl) (js : List Judged)
-    → AreThoseInOrder (IsJudged F file place) fs js → AreJudgedInOrder F file place fs js
+judged_in_order : (F : Joined) (file place : ℕ) (fs : List FieldDecl) (js : List ShapedField)
+    → AreCorrespondingInOrder (IsShapedField F file place) fs js → AreShapedInOrder F file place fs js
 judged_in_order F file place fs js all = record {
-  decls = sym (in_order_map (IsJudged F file place) (λ (f : FieldDecl). f) (λ (j : Judged). j.decl.now)
+  decls = sym (in_order_map (IsShapedField F file place) (λ (f : FieldDecl). f) (λ (j : ShapedField). j.decl.now)
       (λ f j h. sym h.decl_is) all) ∙ map-id fs;
   each = λ j c.
-      let f = in_order_back (IsJudged F file place) all c.0 j (at_in js j c) in
-      subst (λ (g : FieldDecl). IsJudged F file place g j) (sym f.2.decl_is) f.2;
+      let f = in_order_back (IsShapedField F file place) all c.0 j (at_in js j c) in
+      subst (λ (g : FieldDecl). IsShapedField F file place g j) (sym f.2.decl_is) f.2;
 }
 
-either_number : (j k : Judged) → (j.number ≤ k.number) ⊎ (k.number ≤ j.number)
+either_number : (j k : ShapedField) → (j.number ≤ k.number) ⊎ (k.number ≤ j.number)
 either_number j k = elim (cases_lt j.number k.number) [
   | inl l ↦ inl (omega arith)
   | inr g ↦ inr g
 ]
 
-judged_sorted : (F : Joined) (place : ℕ) (m : MessageDecl) (js : List Judged) → IsFormed F → IsOrdered F → IsClean F
-    → slice_get F.messages place ≡ Some m → AreThoseInOrder (IsJudged F m.file place) m.fields js
-    → (sorted : List Judged) × AreJudged F place m sorted
+judged_sorted : (F : Joined) (place : ℕ) (m : MessageDecl) (js : List ShapedField) → IsFormed F → IsOrdered F → HasNoViolation F
+    → slice_get F.messages place ≡ Some m → AreCorrespondingInOrder (IsShapedField F m.file place) m.fields js
+    → (sorted : List ShapedField) × AreShapedFields F place m sorted
 judged_sorted F place m js formed ordered clean at all =
-    let s = in_order (λ (j k : Judged). j.number ≤ k.number) either_number js in (
+    let s = in_order (λ (j k : ShapedField). j.number ≤ k.number) either_number js in (
       s.list,
       judged_of F place m js s.list formed ordered clean at (judged_in_order F m.file place m.fields js all) s.moved
-          (ascends_not_decreasing (λ (j : Judged). j.number) s.list s.ascends),
+          (ascends_not_decreasing (λ (j : ShapedField). j.number) s.list s.ascends),
     )
 
 -- ---- oneofs
@@ -167,7 +167,7 @@ no_more_oneofs (suc n) fs h =
     ]) in
     omega (arith, length_permutation fs (f.0 ∷ rest) moved)
 
-few_oneofs : (F : Joined) (place : ℕ) (m : MessageDecl) → IsFormed F → IsClean F → slice_get F.messages place ≡ Some m
+few_oneofs : (F : Joined) (place : ℕ) (m : MessageDecl) → IsFormed F → HasNoViolation F → slice_get F.messages place ≡ Some m
     → length m.oneofs ≤ MAX_FIELDS
 few_oneofs F place m formed clean at =
     omega (
@@ -183,7 +183,7 @@ unplaced (suc n) =
     let more : List (Option ℕ) = rest.0 ++ None ∷ [] in
     (more, subst (λ (k : ℕ). AreUnplaced k more) (add-one n) (unplaced_more n rest.0 more refl rest.1))
 
-no_oneofs : (words : List Word) → length words < 2 ^ 63 → (o : Oneofs) × KeepsOneofs words o × (o.names ≡ [])
+no_oneofs : (words : List Word) → length words < 2 ^ 63 → (o : Oneofs) × HasOneofs words o × (o.names ≡ [])
 no_oneofs words few =
     let none = unplaced (length words) in
     let o : Oneofs = record { names = []; places = vec_of none.0 (omega (arith, none.1.count_is)) } in
@@ -193,11 +193,11 @@ no_oneofs words few =
 record OneofPlaced (words : List Word) (i : ℕ) (old : Oneofs) : Type 0 where
   new : Oneofs
   place : ℕ
-  keeps : KeepsOneofs words new
+  keeps : HasOneofs words new
   has_place : HasPlace old.names new.names place
   placed : IsPlacedOneof words new.names i place
 
-oneof_placed_at : (words : List Word) (i : ℕ) (old : Oneofs) (met : Option ℕ) → KeepsOneofs words old
+oneof_placed_at : (words : List Word) (i : ℕ) (old : Oneofs) (met : Option ℕ) → HasOneofs words old
     → i < length words → slice_get old.places.items i ≡ Some met → OneofPlaced words i old
 oneof_placed_at words i old (Some p) keeps l at =
     let is = keeps.placed i p at in record {
@@ -225,11 +225,11 @@ oneof_placed_at words i old None keeps l at =
 record LabelMade (words : List Word) (oneof : Option ℕ) (form : Label) (old : Oneofs) : Type 0 where
   new : Oneofs
   label : Label
-  keeps : KeepsOneofs words new
+  keeps : HasOneofs words new
   is : IsLabelled words oneof form old new label
 
-label_made : (words : List Word) (oneof : Option ℕ) (form : Label) (old : Oneofs) → KeepsOneofs words old
-    → IsPlaceBelow (length words) oneof → LabelMade words oneof form old
+label_made : (words : List Word) (oneof : Option ℕ) (form : Label) (old : Oneofs) → HasOneofs words old
+    → IsIndexBelow (length words) oneof → LabelMade words oneof form old
 label_made words None form old keeps below = record { new = old; label = form; keeps = keeps; is = (refl, refl) }
 label_made words (Some i) form old keeps below =
     let at = some_at old.places.items i (omega (arith, keeps.count)) in
@@ -237,20 +237,20 @@ label_made words (Some i) form old keeps below =
     record { new = h.new; label = Member h.place; keeps = h.keeps; is = (h.place, refl, h.has_place, h.placed) }
 
 -- the field of the table, and the oneofs including its own
-record FieldMade (p : Plan) (words : List Word) (j : Judged) (old : Oneofs) : Type 0 where
+record FieldMade (p : TablePlan) (words : List Word) (j : ShapedField) (old : Oneofs) : Type 0 where
   new : Oneofs
   field : Field
   is : IsNextField p words j old new field
 
-field_made : (p : Plan) (words : List Word) (j : Judged) (old : Oneofs) → KeepsOneofs words old
-    → IsPlaceBelow (length words) j.decl.now.oneof → FieldMade p words j old
+field_made : (p : TablePlan) (words : List Word) (j : ShapedField) (old : Oneofs) → HasOneofs words old
+    → IsIndexBelow (length words) j.decl.now.oneof → FieldMade p words j old
 field_made p words j old keeps below =
     let h = label_made words j.decl.now.oneof j.form.label old keeps below in record {
       new = h.new;
       field = record {
         number = j.number;
         name = j.decl.now.name.name;
-        kind = kind_in p j.form.type_of;
+        kind = table_kind p j.form.type_of;
         label = h.label;
       };
       is = record { keeps = h.keeps; number_is = refl; name_is = refl; kind_is = refl; label_is = h.is };
@@ -259,14 +259,14 @@ field_made p words j old keeps below =
 -- ---- the message
 
 -- the first fields of a message, and the oneofs that they need
-record FieldsMade (p : Plan) (words : List Word) (js : List Judged) (i : ℕ) : Type 0 where
+record FieldsMade (p : TablePlan) (words : List Word) (js : List ShapedField) (i : ℕ) : Type 0 where
   oneofs : Oneofs
   fields : List Field
-  made : AreMade p words (take i js) oneofs fields
+  made : AreFieldsMade p words (take i js) oneofs fields
   few : length oneofs.names ≤ i
 
-module _ (F : Joined) (p : Plan) (place : ℕ) (m : MessageDecl) (js : List Judged) (formed : IsFormed F)
-    (clean : IsClean F) (at : slice_get F.messages place ≡ Some m) (judged : AreJudged F place m js) where
+module _ (F : Joined) (p : TablePlan) (place : ℕ) (m : MessageDecl) (js : List ShapedField) (formed : IsFormed F)
+    (clean : HasNoViolation F) (at : slice_get F.messages place ≡ Some m) (judged : AreShapedFields F place m js) where
   fields_made : (i : ℕ) → i ≤ length js → FieldsMade p m.oneofs js i
   fields_made zero l =
       let o = no_oneofs m.oneofs (omega (arith, few_oneofs F place m formed clean at)) in
@@ -285,28 +285,28 @@ module _ (F : Joined) (p : Plan) (place : ℕ) (m : MessageDecl) (js : List Judg
       record {
         oneofs = next.new;
         fields = more;
-        made = subst (λ (k : ℕ). AreMade p m.oneofs (take k js) next.new more) (add-one i) h.0;
+        made = subst (λ (k : ℕ). AreFieldsMade p m.oneofs (take k js) next.new more) (add-one i) h.0;
         few = omega (arith, h.1);
       }
 
-message_of : (F : Joined) (p : Plan) (place : ℕ) (m : MessageDecl) (js : List Judged) → IsFormed F → IsOrdered F
-    → IsClean F → IsPlan F p → slice_get F.messages place ≡ Some m → AreJudged F place m js
+message_of : (F : Joined) (p : TablePlan) (place : ℕ) (m : MessageDecl) (js : List ShapedField) → IsFormed F → IsOrdered F
+    → HasNoViolation F → IsTablePlan F p → slice_get F.messages place ≡ Some m → AreShapedFields F place m js
     → (t : Message) × IsMessageAt F p place t
 message_of F p place m js formed ordered clean plan at judged =
     let all = fields_made F p place m js formed clean at judged (length js) (omega arith) in
-    let made : AreMade p m.oneofs js all.oneofs all.fields =
-    subst (λ (l : List Judged). AreMade p m.oneofs l all.oneofs all.fields) (take_all (length js) js (omega arith))
+    let made : AreFieldsMade p m.oneofs js all.oneofs all.fields =
+    subst (λ (l : List ShapedField). AreFieldsMade p m.oneofs l all.oneofs all.fields) (take_all (length js) js (omega arith))
     all.made in
-    let name : List ℕ = name_at p.messages.names.items place in (
+    let name : List ℕ = name_at_index p.messages.names.items place in (
       record { name = name; fields = all.fields; oneofs = all.oneofs.names },
       message_at F p place m js all.oneofs all.fields name formed ordered clean plan at judged made refl,
     )
 
-pub message_exists : (F : Joined) (p : Plan) (place : ℕ) → IsFormed F → IsOrdered F → IsClean F → IsPlan F p
+pub message_exists : (F : Joined) (p : TablePlan) (place : ℕ) → IsFormed F → IsOrdered F → HasNoViolation F → IsTablePlan F p
     → place < length F.messages → IsNotRefuted ((t : Message) × IsMessageAt F p place t)
 message_exists F p place formed ordered clean plan l never =
     let m = some_at F.messages place l in
-    all_chosen (IsJudged F m.0.file place) m.0.fields (λ f c. judged_exists F place m.0 f formed clean m.1 c)
+    all_chosen (IsShapedField F m.0.file place) m.0.fields (λ f c. judged_exists F place m.0 f formed clean m.1 c)
     (λ js.
     let sorted = judged_sorted F place m.0 js.0 formed ordered clean m.1 js.1 in
     never (message_of F p place m.0 sorted.0 formed ordered clean plan m.1 sorted.1))

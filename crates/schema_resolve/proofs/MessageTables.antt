@@ -9,7 +9,7 @@ use Rattle.std.proofs.lemmas.List.{length-map, length-append, take_more}
 use Rattle.std.proofs.lemmas.List.Elements.{All-contains}
 use Rattle.mrpc_table.specs.Names.{is_short, IsName, IsFullName}
 use Rattle.mrpc_table.specs.Text.{kind_text, label_text}
-use Rattle.mrpc_table.specs.Valid.{Ascends, AreDistinct, IsFieldNumber, IsKnown, GoesWith, Joins, OneofsFollow}
+use Rattle.mrpc_table.specs.Valid.{IsAscendingBy, AreDistinct, IsFieldNumber, IsKnown, IsLabelFor, IsNextOneof, AreOneofsInOrder}
 use Rattle.mrpc_table.specs.declared.limits.TheConstants.{MAX_FIELDS}
 use Rattle.mrpc_table.specs.declared.table.Kind.{Kind}
 use Rattle.mrpc_table.specs.declared.table.Label.{Label}
@@ -17,28 +17,28 @@ use Rattle.mrpc_table.specs.declared.table.Label.TheVariants.{Plain, Optional, R
 use Rattle.mrpc_table.specs.declared.table.Field.{Field}
 use Rattle.mrpc_table.specs.declared.table.Message.{Message}
 use Rattle.mrpc_table.specs.declared.table.Table.{Table}
-use Rattle.proto_ast.specs.Order.{HasName, IsFormedField, IsPlaceBelow}
+use Rattle.proto_ast.specs.Order.{HasName, IsFormedField, IsIndexBelow}
 use Rattle.proto_ast.specs.Together.{IsFormed, IsOrdered, oneof_decl}
 use Rattle.proto_ast.specs.declared.file.Word.{Word}
 use Rattle.proto_ast.specs.declared.file.FieldDecl.{FieldDecl}
 use Rattle.proto_ast.specs.declared.file.MessageDecl.{MessageDecl}
-use Rattle.proto_ast.specs.Joined.{Joined, home_of}
-use Rattle.proto_ast.specs.declared.joined.Home.TheVariants as home
+use Rattle.proto_ast.specs.Joined.{Joined, enclosing_of}
+use Rattle.proto_ast.specs.declared.joined.Enclosing.TheVariants as home
 use Rattle.proto_ast.specs.Together
 use Rattle.schema_symbols.specs.Scopes
 use Rattle.schema_symbols.specs.Scopes.{a_message, no_type, text_of, IsScope, of_message}
-use Rattle.schema_validation.specs.Those.{AreThoseInOrder, none, next}
-use Rattle.schema_validation.specs.Types.{single_label, label_in, HasForm, single, a_map}
+use Rattle.schema_validation.specs.Correspondence.{AreCorrespondingInOrder, none, next}
+use Rattle.schema_validation.specs.Types.{single_label, label_in, HasShape, single, a_map}
 use Rattle.schema_validation.specs.Members.{long_message, of_name, of_oneof, name_long, name_too_many}
-use Rattle.schema_validation.specs.Offences
+use Rattle.schema_validation.specs.Violations
 use Rattle.schema_validation.specs.declared.reason.ResolveReason.TheVariants.{Limit}
 use Rattle.schema_resolve.specs.Tables.{IsFieldOf, IsMessageOf}
-use Rattle.schema_resolve.specs.Resolving.{IsClean}
-use Rattle.schema_resolve.specs.Placing.{name_at, IsPlan, HasNames}
-use Rattle.schema_resolve.specs.Judged.{IsJudged, AreJudged}
-use Rattle.schema_resolve.specs.Joining.{IsInPlan, IsPlacedOneof, KeepsOneofs, HasPlace, met_before, next_one, IsLabelled, kind_in, IsLabelOf, IsMade, AreMade, IsNextField, IsMessageAt}
-use Rattle.schema_resolve.specs.declared.plan.Plan.{Plan}
-use Rattle.schema_resolve.specs.declared.field_table.Judged.{Judged}
+use Rattle.schema_resolve.specs.Resolving.{HasNoViolation}
+use Rattle.schema_resolve.specs.Placing.{name_at_index, IsTablePlan, HasTableNames}
+use Rattle.schema_resolve.specs.ShapedFields.{IsShapedField, AreShapedFields}
+use Rattle.schema_resolve.specs.Joining.{IsInPlan, IsPlacedOneof, HasOneofs, HasPlace, met_before, next_one, IsLabelled, table_kind, IsLabelOf, IsMadeField, AreFieldsMade, IsNextField, IsMessageAt}
+use Rattle.schema_resolve.specs.declared.plan.TablePlan.{TablePlan}
+use Rattle.schema_resolve.specs.declared.field_table.ShapedField.{ShapedField}
 use Rattle.schema_resolve.specs.declared.oneof_table.Oneofs.{Oneofs}
 use Rattle.schema_resolve.proofs.FullNames.{scope_names, message_formed}
 use Rattle.schema_resolve.proofs.Orders.{apart_distinct}
@@ -52,31 +52,31 @@ use Rattle.schema_resolve.proofs.KindWords.{IsNoMember, single_no_member, LabelP
 -- ---- lists in order
 
 pub in_order_weaker : {X Y : Type 0} (R S : X → Y → Type 0) {xs : List X} {ys : List Y} → ((x : X) (y : Y) → R x y → S x y)
-    → AreThoseInOrder R xs ys → AreThoseInOrder S xs ys
+    → AreCorrespondingInOrder R xs ys → AreCorrespondingInOrder S xs ys
 in_order_weaker R S h none = none
 in_order_weaker R S h (next {x} {y} r rest) = next (h x y r) (in_order_weaker R S h rest)
 
-pub in_order_get : {X Y : Type 0} (R : X → Y → Type 0) {xs : List X} {ys : List Y} → AreThoseInOrder R xs ys → (k : ℕ)
+pub in_order_get : {X Y : Type 0} (R : X → Y → Type 0) {xs : List X} {ys : List Y} → AreCorrespondingInOrder R xs ys → (k : ℕ)
     (x : X) → slice_get xs k ≡ Some x → (y : Y) × (slice_get ys k ≡ Some y) × R x y
 in_order_get R none k x e = absurd (none-some x e)
 in_order_get R (next {x = a} {y} r rest) zero x e = (y, refl, subst (λ z. R z y) (same_Some a x e) r)
 in_order_get R (next r rest) (suc k) x e = in_order_get R rest k x e
 
-pub in_order_back : {X Y : Type 0} (R : X → Y → Type 0) {xs : List X} {ys : List Y} → AreThoseInOrder R xs ys → (k : ℕ)
+pub in_order_back : {X Y : Type 0} (R : X → Y → Type 0) {xs : List X} {ys : List Y} → AreCorrespondingInOrder R xs ys → (k : ℕ)
     (y : Y) → slice_get ys k ≡ Some y → (x : X) × (slice_get xs k ≡ Some x) × R x y
 in_order_back R none k y e = absurd (none-some y e)
 in_order_back R (next {x} {y = b} r rest) zero y e = (x, refl, subst (λ z. R x z) (same_Some b y e) r)
 in_order_back R (next r rest) (suc k) y e = in_order_back R rest k y e
 
 pub in_order_map : {X Y Z : Type 0} (R : X → Y → Type 0) (f : X → Z) (g : Y → Z) {xs : List X} {ys : List Y}
-    → ((x : X) (y : Y) → R x y → f x ≡ g y) → AreThoseInOrder R xs ys → map f xs ≡ map g ys
+    → ((x : X) (y : Y) → R x y → f x ≡ g y) → AreCorrespondingInOrder R xs ys → map f xs ≡ map g ys
 in_order_map R f g h none = refl
 in_order_map R f g h (next {x} {y} {xs} {ys} r rest) =
     ap (λ z. z ∷ map f xs) (h x y r) ∙ ap (λ zs. g y ∷ zs) (in_order_map R f g h rest)
 
 ascends_alike : {X Y : Type 0} (R : X → Y → Type 0) (f : X → ℕ) (g : Y → ℕ) {xs : List X} {ys : List Y}
-    → ((x : X) (y : Y) → R x y → g y ≡ f x) → AreThoseInOrder R xs ys → Ascends (λ a b. f a < f b) xs
-    → Ascends (λ a b. g a < g b) ys
+    → ((x : X) (y : Y) → R x y → g y ≡ f x) → AreCorrespondingInOrder R xs ys → IsAscendingBy (λ a b. f a < f b) xs
+    → IsAscendingBy (λ a b. g a < g b) ys
 ascends_alike R f g h none a = tt
 ascends_alike R f g h (next r none) a = tt
 ascends_alike R f g h (next {x} {y} r (next {x = z} {y = w} s rest)) a = (
@@ -86,7 +86,7 @@ ascends_alike R f g h (next {x} {y} r (next {x = z} {y = w} s rest)) a = (
 
 -- ---- fields, one after another
 
-joins_plain : (met : ℕ) (l : Label) (same other : Type 0) → IsNoMember l → same → Joins met l same other
+joins_plain : (met : ℕ) (l : Label) (same other : Type 0) → IsNoMember l → same → IsNextOneof met l same other
 joins_plain met Plain same other h s = s
 joins_plain met Optional same other h s = s
 joins_plain met Repeated same other h s = s
@@ -94,7 +94,7 @@ joins_plain met Packed same other h s = s
 joins_plain met (Map k) same other h s = s
 joins_plain met (Member o) same other h s = absurd h
 
-joins_both : (met : ℕ) (l : Label) (A B C D : Type 0) → Joins met l A B → (A → C) → (B → D) → Joins met l C D
+joins_both : (met : ℕ) (l : Label) (A B C D : Type 0) → IsNextOneof met l A B → (A → C) → (B → D) → IsNextOneof met l C D
 joins_both met Plain A B C D j f g = f j
 joins_both met Optional A B C D j f g = f j
 joins_both met Repeated A B C D j f g = f j
@@ -103,13 +103,13 @@ joins_both met (Map k) A B C D j f g = f j
 joins_both met (Member o) A B C D (inl p) f g = inl (p.0, f p.1)
 joins_both met (Member o) A B C D (inr p) f g = inr (p.0, g p.1)
 
-follow_more : (gs : List Field) (met a b : ℕ) (g : Field) → OneofsFollow met a gs
-    → Joins a g.label (a ≡ b) (a + 1 ≡ b) → OneofsFollow met b (gs ++ g ∷ [])
+follow_more : (gs : List Field) (met a b : ℕ) (g : Field) → AreOneofsInOrder met a gs
+    → IsNextOneof a g.label (a ≡ b) (a + 1 ≡ b) → AreOneofsInOrder met b (gs ++ g ∷ [])
 follow_more [] met a b g h j =
-    subst (λ (n : ℕ). Joins n g.label (n ≡ b) (n + 1 ≡ b)) (sym h) j
+    subst (λ (n : ℕ). IsNextOneof n g.label (n ≡ b) (n + 1 ≡ b)) (sym h) j
 follow_more (f ∷ gs) met a b g h j =
-    joins_both met f.label (OneofsFollow met a gs) (OneofsFollow (met + 1) a gs) (OneofsFollow met b (gs ++ g ∷ []))
-    (OneofsFollow (met + 1) b (gs ++ g ∷ [])) h (λ x. follow_more gs met a b g x j)
+    joins_both met f.label (AreOneofsInOrder met a gs) (AreOneofsInOrder (met + 1) a gs) (AreOneofsInOrder met b (gs ++ g ∷ []))
+    (AreOneofsInOrder (met + 1) b (gs ++ g ∷ [])) h (λ x. follow_more gs met a b g x j)
     (λ x. follow_more gs (met + 1) a b g x j)
 
 data Grown (names more : List (List ℕ)) : Type 0 where
@@ -118,7 +118,7 @@ data Grown (names more : List (List ℕ)) : Type 0 where
 
 record Step (words : List Word) (oneof : Option ℕ) (form : Label) (old new : Oneofs) (label : Label) : Type 0 where
   grown : Grown old.names new.names
-  joins : Joins (length old.names) label (length old.names ≡ length new.names) (length old.names + 1 ≡ length new.names)
+  joins : IsNextOneof (length old.names) label (length old.names ≡ length new.names) (length old.names + 1 ≡ length new.names)
   label_is : IsLabelOf words new.names oneof form label
   few : length new.names ≤ length old.names + 1
 
@@ -127,7 +127,7 @@ step_placed : (words : List Word) (i : ℕ) (form : Label) (old new : Oneofs) (l
 step_placed words i form old new label p e (met_before l s) placed =
     let n : length old.names ≡ length new.names = sym (ap length s) in record {
       grown = unchanged s;
-      joins = subst (λ (x : Label). Joins (length old.names) x (length old.names ≡ length new.names)
+      joins = subst (λ (x : Label). IsNextOneof (length old.names) x (length old.names ≡ length new.names)
           (length old.names + 1 ≡ length new.names)) (sym e) (inl (l, n));
       label_is = (p, e, placed);
       few = omega arith;
@@ -135,7 +135,7 @@ step_placed words i form old new label p e (met_before l s) placed =
 step_placed words i form old new label p e (next_one name l s) placed =
     let n : length old.names + 1 ≡ length new.names = sym (ap length s ∙ length-append old.names (name ∷ [])) in record {
       grown = by_one name s;
-      joins = subst (λ (x : Label). Joins (length old.names) x (length old.names ≡ length new.names)
+      joins = subst (λ (x : Label). IsNextOneof (length old.names) x (length old.names ≡ length new.names)
           (length old.names + 1 ≡ length new.names)) (sym e) (inr (l, n));
       label_is = (p, e, placed);
       few = omega arith;
@@ -147,7 +147,7 @@ step_of : (words : List Word) (oneof : Option ℕ) (form : Label) (old new : One
 step_of words None form old new label plain h =
     let n : length old.names ≡ length new.names = sym (ap length h.1) in record {
       grown = unchanged h.1;
-      joins = subst (λ (x : Label). Joins (length old.names) x (length old.names ≡ length new.names)
+      joins = subst (λ (x : Label). IsNextOneof (length old.names) x (length old.names ≡ length new.names)
           (length old.names + 1 ≡ length new.names)) (sym h.0)
           (joins_plain (length old.names) form (length old.names ≡ length new.names)
           (length old.names + 1 ≡ length new.names) (plain refl) n);
@@ -161,13 +161,13 @@ label_longer : (words : List Word) (names : List (List ℕ)) (name : List ℕ) (
 label_longer words names name None form label h = h
 label_longer words names name (Some i) form label h = (h.0, h.1, named_longer words names name i h.0 h.2)
 
-made_grown : (plan : Plan) (words : List Word) (names more : List (List ℕ)) (js : List Judged) (gs : List Field)
-    → Grown names more → AreThoseInOrder (IsMade plan words names) js gs → AreThoseInOrder (IsMade plan words more) js gs
+made_grown : (plan : TablePlan) (words : List Word) (names more : List (List ℕ)) (js : List ShapedField) (gs : List Field)
+    → Grown names more → AreCorrespondingInOrder (IsMadeField plan words names) js gs → AreCorrespondingInOrder (IsMadeField plan words more) js gs
 made_grown plan words names more js gs (unchanged e) h =
-    subst (λ (ns : List (List ℕ)). AreThoseInOrder (IsMade plan words ns) js gs) (sym e) h
+    subst (λ (ns : List (List ℕ)). AreCorrespondingInOrder (IsMadeField plan words ns) js gs) (sym e) h
 made_grown plan words names more js gs (by_one name e) h =
-    subst (λ (ns : List (List ℕ)). AreThoseInOrder (IsMade plan words ns) js gs) (sym e)
-    (in_order_weaker (IsMade plan words names) (IsMade plan words (names ++ name ∷ []))
+    subst (λ (ns : List (List ℕ)). AreCorrespondingInOrder (IsMadeField plan words ns) js gs) (sym e)
+    (in_order_weaker (IsMadeField plan words names) (IsMadeField plan words (names ++ name ∷ []))
     (λ j g m. record {
       number_is = m.number_is;
       name_is = m.name_is;
@@ -175,32 +175,32 @@ made_grown plan words names more js gs (by_one name e) h =
       label_is = label_longer words names name j.decl.now.oneof j.form.label g.label m.label_is;
     }) h)
 
-pub made_none : (plan : Plan) (words : List Word) (o : Oneofs) (gs : List Field) → KeepsOneofs words o → o.names ≡ []
-    → gs ≡ [] → AreMade plan words [] o gs × (length o.names ≤ 0)
+pub made_none : (plan : TablePlan) (words : List Word) (o : Oneofs) (gs : List Field) → HasOneofs words o → o.names ≡ []
+    → gs ≡ [] → AreFieldsMade plan words [] o gs × (length o.names ≤ 0)
 made_none plan words o gs keeps e f = (
-  subst (AreMade plan words [] o) (sym f) (record { keeps = keeps; made = none; follow = sym (ap length e) }),
+  subst (AreFieldsMade plan words [] o) (sym f) (record { keeps = keeps; made = none; follow = sym (ap length e) }),
   omega (arith, ap length e),
 )
 
-pub made_more : (plan : Plan) (words : List Word) (js : List Judged) (i : ℕ) (j : Judged) (old new : Oneofs)
+pub made_more : (plan : TablePlan) (words : List Word) (js : List ShapedField) (i : ℕ) (j : ShapedField) (old new : Oneofs)
     (g : Field) (gs more : List Field) → slice_get js i ≡ Some j → (j.decl.now.oneof ≡ None → IsNoMember j.form.label)
-    → IsNextField plan words j old new g → more ≡ gs ++ g ∷ [] → AreMade plan words (take i js) old gs
-    → length old.names ≤ i → AreMade plan words (take (i + 1) js) new more × (length new.names ≤ i + 1)
+    → IsNextField plan words j old new g → more ≡ gs ++ g ∷ [] → AreFieldsMade plan words (take i js) old gs
+    → length old.names ≤ i → AreFieldsMade plan words (take (i + 1) js) new more × (length new.names ≤ i + 1)
 made_more plan words js i j old new g gs more at plain is e h few =
     let step = step_of words j.decl.now.oneof j.form.label old new g.label plain is.label_is in
     let grown : take (i + 1) js ≡ take i js ++ j ∷ [] =
     take_more js i j (slice_get_within js i j at)
-    ∙ ap (λ (x : Judged). take i js ++ x ∷ []) (get_or_from_slice_get js i j j at) in
-    let made : IsMade plan words new.names j g = record {
+    ∙ ap (λ (x : ShapedField). take i js ++ x ∷ []) (get_or_from_slice_get js i j j at) in
+    let made : IsMadeField plan words new.names j g = record {
       number_is = is.number_is;
       name_is = is.name_is;
       kind_is = is.kind_is;
       label_is = step.label_is;
     } in (
-      subst (λ (l : List Judged). AreMade plan words l new more) (sym grown)
-          (subst (AreMade plan words (take i js ++ j ∷ []) new) (sym e) (record {
+      subst (λ (l : List ShapedField). AreFieldsMade plan words l new more) (sym grown)
+          (subst (AreFieldsMade plan words (take i js ++ j ∷ []) new) (sym e) (record {
             keeps = is.keeps;
-            made = in_order_push (IsMade plan words new.names) j g
+            made = in_order_push (IsMadeField plan words new.names) j g
                 (made_grown plan words old.names new.names (take i js) gs step.grown h.made) made;
             follow = follow_more gs 0 (length old.names) (length new.names) g h.follow step.joins;
           })),
@@ -224,7 +224,7 @@ member_text T words names i q h =
 
 record Labelled (T : Table) (words : List Word) (names : List (List ℕ)) (form label : Label) (k : Kind) : Type 0 where
   same : label_text T names label ≡ label_text T (map (λ o. o.name) words) form
-  goes : GoesWith (length names) label k
+  goes : IsLabelFor (length names) label k
 
 labelled_at : (T : Table) (words : List Word) (names : List (List ℕ)) (oneof form_oneof : Option ℕ)
     (form label : Label) (k : Kind) → LabelParts T (length names) k oneof (label_in form_oneof form)
@@ -234,29 +234,29 @@ labelled_at T words names None form_oneof form label k parts is =
     let L : Label = label_in form_oneof form in
     let e : label ≡ L = is ∙ sym (no_member_same form_oneof form h.0) in record {
       same = ap (label_text T names) e ∙ label_alike T names (map (λ o. o.name) words) L h.0;
-      goes = subst (λ (l : Label). GoesWith (length names) l k) (sym e) h.1;
+      goes = subst (λ (l : Label). IsLabelFor (length names) l k) (sym e) h.1;
     }
 labelled_at T words names (Some i) form_oneof form label k parts is =
     let e : label_in form_oneof form ≡ Member i = parts.some i refl in record {
       same = ap (label_text T names) is.1 ∙ member_text T words names i is.0 is.2
           ∙ ap (label_text T (map (λ o. o.name) words)) (sym e);
-      goes = subst (λ (l : Label). GoesWith (length names) l k) (sym is.1)
+      goes = subst (λ (l : Label). IsLabelFor (length names) l k) (sym is.1)
           (slice_get_within names is.0 is.2.word.name is.2.named);
     }
 
 record FieldParts (F : Joined) (T : Table) (scope : List (List ℕ)) (m : MessageDecl) (t : Message) (f : FieldDecl)
     (g : Field) : Type 0 where
   of_field : IsFieldOf T F scope m t f g
-  goes : GoesWith (length t.oneofs) g.label g.kind
+  goes : IsLabelFor (length t.oneofs) g.label g.kind
   known : IsKnown T g.kind
 
-field_of : (F : Joined) (p : Plan) (T : Table) (place : ℕ) (m : MessageDecl) (scope : List (List ℕ)) (j : Judged)
-    (g : Field) (t : Message) → IsFormed F → IsPlan F p → HasNames p T → IsScope F (home.Message place) scope
-    → IsJudged F m.file place j.decl.now j → IsMade p m.oneofs t.oneofs j g → FieldParts F T scope m t j.decl.now g
+field_of : (F : Joined) (p : TablePlan) (T : Table) (place : ℕ) (m : MessageDecl) (scope : List (List ℕ)) (j : ShapedField)
+    (g : Field) (t : Message) → IsFormed F → IsTablePlan F p → HasTableNames p T → IsScope F (home.Message place) scope
+    → IsShapedField F m.file place j.decl.now j → IsMadeField p m.oneofs t.oneofs j g → FieldParts F T scope m t j.decl.now g
 field_of F p T place m scope j g t formed plan has up is made =
     let f = is.form_is scope up in
     let L : Label = label_in j.form.oneof j.form.label in
-    let K : Kind = kind_in p j.form.type_of in
+    let K : Kind = table_kind p j.form.type_of in
     let kw = kind_word F m.file p T scope j.decl.now L j.form.type_of f.word formed plan has f.of_type f.has in
     let parts = label_parts T (length t.oneofs) K F m.file scope j.decl.now L f.word f.has kw.0 in
     let l = labelled_at T m.oneofs t.oneofs j.decl.now.oneof j.form.oneof j.form.label g.label K parts made.label_is in
@@ -271,7 +271,7 @@ field_of F p T place m scope j g t formed plan has up is made =
         known = known;
         same = l.same;
       };
-      goes = subst (λ (k : Kind). GoesWith (length t.oneofs) g.label k) (sym made.kind_is) l.goes;
+      goes = subst (λ (k : Kind). IsLabelFor (length t.oneofs) g.label k) (sym made.kind_is) l.goes;
       known = known;
     }
 
@@ -282,59 +282,59 @@ plain_at None l h e = h
 plain_at (Some i) l h e = absurd (none-some i (sym e))
 
 form_plain : (F : Joined) (file : ℕ) (scope : List (List ℕ)) (f : FieldDecl) (label : Label) (word : List ℕ)
-    → HasForm F file scope f label word → f.oneof ≡ None → IsNoMember label
+    → HasShape F file scope f label word → f.oneof ≡ None → IsNoMember label
 form_plain F file scope f label word (single w text im pk is typ) e =
     plain_at f.oneof (single_label f.label f.packed im pk) (single_no_member f.label f.packed im pk) e
 form_plain F file scope f label word (a_map key value l text im pk is plain alone_here s keyed typ) e = tt
 
-pub judged_plain : (F : Joined) (file place : ℕ) (j : Judged) → IsFormed F → place < length F.messages
-    → IsJudged F file place j.decl.now j → j.decl.now.oneof ≡ None → IsNoMember j.form.label
+pub judged_plain : (F : Joined) (file place : ℕ) (j : ShapedField) → IsFormed F → place < length F.messages
+    → IsShapedField F file place j.decl.now j → j.decl.now.oneof ≡ None → IsNoMember j.form.label
 judged_plain F file place j formed l is e =
     let scope = scope_at formed place l in
     let f = is.form_is scope.0 scope.1 in
     no_member_label j.form.oneof j.form.label
     (form_plain F file scope.0 j.decl.now (label_in j.form.oneof j.form.label) f.word f.has e)
 
-pub judged_known : (F : Joined) (p : Plan) (file place : ℕ) (j : Judged) → IsFormed F → IsPlan F p
-    → place < length F.messages → IsJudged F file place j.decl.now j → IsInPlan p j.form.type_of
+pub judged_known : (F : Joined) (p : TablePlan) (file place : ℕ) (j : ShapedField) → IsFormed F → IsTablePlan F p
+    → place < length F.messages → IsShapedField F file place j.decl.now j → IsInPlan p j.form.type_of
 judged_known F p file place j formed plan l is =
     let scope = scope_at formed place l in
     let f = is.form_is scope.0 scope.1 in
     in_plan F p j.form.type_of f.word plan f.of_type
 
 pub judged_oneof : (F : Joined) (place : ℕ) (m : MessageDecl) (f : FieldDecl) → IsFormed F
-    → slice_get F.messages place ≡ Some m → Contains m.fields f → IsPlaceBelow (length m.oneofs) f.oneof
+    → slice_get F.messages place ≡ Some m → Contains m.fields f → IsIndexBelow (length m.oneofs) f.oneof
 judged_oneof F place m f formed at c =
     (All-contains (IsFormedField (length m.oneofs)) m.fields f (message_formed F place m formed at).fields c).oneof
 
-pub few_fields : (F : Joined) (place : ℕ) (m : MessageDecl) → IsFormed F → IsClean F → slice_get F.messages place ≡ Some m
+pub few_fields : (F : Joined) (place : ℕ) (m : MessageDecl) → IsFormed F → HasNoViolation F → slice_get F.messages place ≡ Some m
     → length m.fields ≤ MAX_FIELDS
 few_fields F place m formed clean at = elim (cases_lt MAX_FIELDS (length m.fields)) [
   | inl more ↦
       let f = some_at m.fields MAX_FIELDS more in
       let scope = scope_at formed place (slice_get_within F.messages place m at) in
-      absurd (clean Limit f.0.name.span (Offences.of_message place m at scope.1
+      absurd (clean Limit f.0.name.span (Violations.of_message place m at scope.1
       (of_name MAX_FIELDS f.0 f.1 (name_too_many (omega arith) (refl, refl)))))
   | inr few ↦ few
 ]
 
-field_named : (F : Joined) (place : ℕ) (m : MessageDecl) (f : FieldDecl) → IsFormed F → IsClean F
+field_named : (F : Joined) (place : ℕ) (m : MessageDecl) (f : FieldDecl) → IsFormed F → HasNoViolation F
     → slice_get F.messages place ≡ Some m → Contains m.fields f → IsName f.name.name
 field_named F place m f formed clean at c =
     let scope = scope_at formed place (slice_get_within F.messages place m at) in record {
       form = (All-contains (IsFormedField (length m.oneofs)) m.fields f (message_formed F place m formed at).fields c).name;
       short = short_from f.name.name
-          (λ no. clean Limit f.name.span (Offences.of_message place m at scope.1
+          (λ no. clean Limit f.name.span (Violations.of_message place m at scope.1
           (of_name c.0 f (at_in m.fields f c) (name_long (no, (refl, refl))))));
     }
 
-oneof_named : (F : Joined) (place : ℕ) (m : MessageDecl) (k : ℕ) (w : Word) → IsFormed F → IsClean F
+oneof_named : (F : Joined) (place : ℕ) (m : MessageDecl) (k : ℕ) (w : Word) → IsFormed F → HasNoViolation F
     → slice_get F.messages place ≡ Some m → slice_get m.oneofs k ≡ Some w → IsName w.name
 oneof_named F place m k w formed clean at here =
     let scope = scope_at formed place (slice_get_within F.messages place m at) in record {
       form = All-contains HasName m.oneofs w (message_formed F place m formed at).oneofs (in_list m.oneofs k w here);
       short = short_from w.name
-          (λ no. clean Limit w.span (Offences.of_message place m at scope.1
+          (λ no. clean Limit w.span (Violations.of_message place m at scope.1
           (of_oneof k w here (no, (refl, refl)))));
     }
 
@@ -342,13 +342,13 @@ same_oneof : (i j k : ℕ) → oneof_decl i j ≡ oneof_decl i k → j ≡ k
 same_oneof i j k e = cc
 
 -- oneofs with the same name are one
-one_oneof : (F : Joined) (place : ℕ) (m : MessageDecl) (j k : ℕ) (x y : Word) → IsFormed F → IsOrdered F → IsClean F
+one_oneof : (F : Joined) (place : ℕ) (m : MessageDecl) (j k : ℕ) (x y : Word) → IsFormed F → IsOrdered F → HasNoViolation F
     → slice_get F.messages place ≡ Some m → slice_get m.oneofs j ≡ Some x → slice_get m.oneofs k ≡ Some y
     → x.name ≡ y.name → j ≡ k
 one_oneof F place m j k x y formed ordered clean at xs ys same =
     let here = here_message F place formed (slice_get_within F.messages place m at) in
     let e : here.decl ≡ m = same_Some here.decl m (sym here.at ∙ at) in
-    let up : IsScope F (home_of m) here.outer = subst (λ (d : MessageDecl). IsScope F (home_of d) here.outer) e here.up in
+    let up : IsScope F (enclosing_of m) here.outer = subst (λ (d : MessageDecl). IsScope F (enclosing_of d) here.outer) e here.up in
     let scope : IsScope F (home.Message place) (here.outer ++ m.name.name ∷ []) = of_message place m at up in
     let its : Contains F.messages m = in_list F.messages place m at in
     let a : Contains m.oneofs x = in_list m.oneofs j x xs in
@@ -370,7 +370,7 @@ record MetOneof (words : List Word) (o : Oneofs) (p : ℕ) : Type 0 where
   placed : slice_get o.places.items at ≡ Some (Some p)
   named : slice_get o.names p ≡ Some word.name
 
-met_oneof : (words : List Word) (o : Oneofs) (p : ℕ) → KeepsOneofs words o → p < length o.names → MetOneof words o p
+met_oneof : (words : List Word) (o : Oneofs) (p : ℕ) → HasOneofs words o → p < length o.names → MetOneof words o p
 met_oneof words o p keeps l =
     let i = keeps.met p l in
     let h = keeps.placed i.0 p i.1 in
@@ -379,8 +379,8 @@ met_oneof words o p keeps l =
 same_place : (p q : ℕ) → Some (Some p) ≡ Some (Some q) → p ≡ q
 same_place p q e = cc
 
-oneofs_distinct : (F : Joined) (place : ℕ) (m : MessageDecl) (o : Oneofs) → IsFormed F → IsOrdered F → IsClean F
-    → slice_get F.messages place ≡ Some m → KeepsOneofs m.oneofs o → AreDistinct o.names
+oneofs_distinct : (F : Joined) (place : ℕ) (m : MessageDecl) (o : Oneofs) → IsFormed F → IsOrdered F → HasNoViolation F
+    → slice_get F.messages place ≡ Some m → HasOneofs m.oneofs o → AreDistinct o.names
 oneofs_distinct F place m o formed ordered clean at keeps =
     apart_distinct o.names
     (λ p q d a b e.
@@ -400,15 +400,15 @@ label_placed words names (Some i) form label k e h =
 
 -- ---- the message
 
-pub message_at : (F : Joined) (p : Plan) (place : ℕ) (m : MessageDecl) (js : List Judged) (o : Oneofs) (gs : List Field)
-    (name : List ℕ) → IsFormed F → IsOrdered F → IsClean F → IsPlan F p → slice_get F.messages place ≡ Some m
-    → AreJudged F place m js → AreMade p m.oneofs js o gs → name ≡ name_at p.messages.names.items place
+pub message_at : (F : Joined) (p : TablePlan) (place : ℕ) (m : MessageDecl) (js : List ShapedField) (o : Oneofs) (gs : List Field)
+    (name : List ℕ) → IsFormed F → IsOrdered F → HasNoViolation F → IsTablePlan F p → slice_get F.messages place ≡ Some m
+    → AreShapedFields F place m js → AreFieldsMade p m.oneofs js o gs → name ≡ name_at_index p.messages.names.items place
     → IsMessageAt F p place (record { name = name; fields = gs; oneofs = o.names })
 message_at F p place m js o gs name formed ordered clean plan at judged made named =
     let t : Message = record { name = name; fields = gs; oneofs = o.names } in
     let here = here_message F place formed (slice_get_within F.messages place m at) in
     let same : here.decl ≡ m = same_Some here.decl m (sym here.at ∙ at) in
-    let up : IsScope F (home_of m) here.outer = subst (λ (d : MessageDecl). IsScope F (home_of d) here.outer) same here.up in
+    let up : IsScope F (enclosing_of m) here.outer = subst (λ (d : MessageDecl). IsScope F (enclosing_of d) here.outer) same here.up in
     let scope : List (List ℕ) = here.outer ++ m.name.name ∷ [] in
     let its : IsScope F (home.Message place) scope = of_message place m at up in
     let text : name ≡ text_of (here.outer ++ here.decl.name.name ∷ []) =
@@ -417,14 +417,14 @@ message_at F p place m js o gs name formed ordered clean plan at judged made nam
     let text2 : name ≡ text_of scope =
     text ∙ ap (λ (d : MessageDecl). text_of (here.outer ++ d.name.name ∷ [])) same in
     let short : is_short here.decl.name.name ≡ true = true_from (is_short here.decl.name.name)
-    (λ no. clean Limit here.decl.name.span (Offences.of_message place here.decl here.at
+    (λ no. clean Limit here.decl.name.span (Violations.of_message place here.decl here.at
     (of_message place here.decl here.at here.up) (long_message (no, (refl, refl))))) in
-    let R : Judged → Field → Type 0 = IsMade p m.oneofs o.names in
+    let R : ShapedField → Field → Type 0 = IsMadeField p m.oneofs o.names in
     let back : (k : ℕ) (g : Field) → slice_get gs k ≡ Some g
-    → (j : Judged) × (slice_get js k ≡ Some j) × IsMade p m.oneofs o.names j g =
+    → (j : ShapedField) × (slice_get js k ≡ Some j) × IsMadeField p m.oneofs o.names j g =
     λ k g e. in_order_back R made.made k g e in
-    let parts : (T : Table) → HasNames p T → (k : ℕ) (j : Judged) (g : Field) → slice_get js k ≡ Some j
-    → IsMade p m.oneofs o.names j g → FieldParts F T scope m t j.decl.now g =
+    let parts : (T : Table) → HasTableNames p T → (k : ℕ) (j : ShapedField) (g : Field) → slice_get js k ≡ Some j
+    → IsMadeField p m.oneofs o.names j g → FieldParts F T scope m t j.decl.now g =
     λ T has k j g e h. field_of F p T place m scope j g t formed plan has its (judged.each j (in_list js k j e)).0 h in
     record {
       is = λ T has d there.
@@ -477,7 +477,7 @@ message_at F p place m js o gs name formed ordered clean plan at judged made nam
           arith,
           few_fields F place m formed clean at,
           judged.count,
-          sym (length-map js (λ (j : Judged). j.number)) ∙ ap length (in_order_map R (λ (j : Judged). j.number)
+          sym (length-map js (λ (j : ShapedField). j.number)) ∙ ap length (in_order_map R (λ (j : ShapedField). j.number)
               (λ (g : Field). g.number) (λ j g h. sym h.number_is) made.made) ∙ length-map gs (λ (g : Field). g.number),
         );
         fields = λ k d l.
@@ -491,10 +491,10 @@ message_at F p place m js o gs name formed ordered clean plan at judged made nam
               label = q.goes;
               kind = q.known;
             };
-        ascend = ascends_alike R (λ (j : Judged). j.number) (λ (g : Field). g.number) (λ j g h. h.number_is) made.made
+        ascend = ascends_alike R (λ (j : ShapedField). j.number) (λ (g : Field). g.number) (λ j g h. h.number_is) made.made
             judged.ascend;
         names = subst (λ (ns : List (List ℕ)). AreDistinct ns)
-            (in_order_map R (λ (j : Judged). j.decl.now.name.name) (λ (g : Field). g.name) (λ j g h. sym h.name_is) made.made)
+            (in_order_map R (λ (j : ShapedField). j.decl.now.name.name) (λ (g : Field). g.name) (λ j g h. sym h.name_is) made.made)
             judged.distinct;
         oneofs = λ k d l.
             let x = met_oneof m.oneofs o k made.keeps l in

@@ -10,7 +10,7 @@ use Rattle.std.proofs.lemmas.Cmp.{int_cmp_total, tied_itself}
 use Rattle.std.proofs.lemmas.List.Elements.{All-contains}
 use Rattle.mrpc_table.specs.Scalars.{no_table}
 use Rattle.mrpc_table.specs.Text.{line, value_line, enum_lines, field_line, message_lines, method_line, table_text, message_name, label_text, kind_text}
-use Rattle.mrpc_table.specs.Valid.{Ascends, IsBelow, IsValueBelow, IsEnum, IsMessage}
+use Rattle.mrpc_table.specs.Valid.{IsAscendingBy, IsBelow, IsValueBelow, IsEnum, IsMessage}
 use Rattle.mrpc_table.specs.Words.{is_numeric}
 use Rattle.mrpc_table.specs.declared.table.Label.{Label}
 use Rattle.mrpc_table.specs.declared.table.Label.TheVariants as labels
@@ -31,14 +31,14 @@ use Rattle.proto_ast.specs.declared.file.RpcDecl.{RpcDecl}
 use Rattle.proto_ast.specs.declared.file.ServiceDecl.{ServiceDecl}
 use Rattle.proto_ast.specs.Joined.{Joined, package_at}
 use Rattle.proto_ast.specs.Together
-use Rattle.schema_symbols.specs.Scopes.{Sort, a_message, an_enum, text_of, Names}
+use Rattle.schema_symbols.specs.Scopes.{DeclKind, a_message, an_enum, text_of, IsReferenceTo}
 use Rattle.schema_symbols.specs.Numbers
-use Rattle.schema_symbols.specs.Numbers.{StandsAt, StartApart}
-use Rattle.schema_symbols.specs.declared.named.Named as names
-use Rattle.schema_symbols.specs.declared.named.Named.TheVariants as named
+use Rattle.schema_symbols.specs.Numbers.{IsSymbolAt, HaveDistinctStarts}
+use Rattle.schema_symbols.specs.declared.symbol.Symbol as names
+use Rattle.schema_symbols.specs.declared.symbol.Symbol.TheVariants as named
 use Rattle.schema_validation.specs.Methods.{rpcs_of}
-use Rattle.schema_validation.specs.Those.{AreThoseInOrder, none, next}
-use Rattle.schema_validation.specs.Types.{single_label, label_in, HasType, scalar, message, enum, HasForm, single, a_map}
+use Rattle.schema_validation.specs.Correspondence.{AreCorrespondingInOrder, none, next}
+use Rattle.schema_validation.specs.Types.{single_label, label_in, HasType, scalar, message, enum, HasShape, single, a_map}
 use Rattle.schema_resolve.specs.Tables.{IsFieldOf, IsMessageOf, IsEnumOf, IsMethodOf, IsTableOf}
 use Rattle.schema_resolve.proofs.Orders.{ascends_past, ascends_rest, below_trans, below_strict}
 use Rattle.schema_resolve.proofs.CleanFiles.{one_scope}
@@ -57,14 +57,14 @@ cases_of : {X : Type 0} (y : X) (ys : List X) (x : X) → Contains (y ∷ ys) x 
 cases_of y ys x c = head_cases y ys x c.0 c.1 c.2
 
 before : {X : Type 0} (R : X → X → Type 0) → ((x y z : X) → R x y → R y z → R x z) → (x : X) (xs : List X) (z : X)
-    → Ascends R (x ∷ xs) → Contains xs z → R x z
+    → IsAscendingBy R (x ∷ xs) → Contains xs z → R x z
 before R trans x xs z a c = subst (R x) c.2 (ascends_past R trans x xs a c.0 z c.1)
 
 shifted : {X : Type 0} (y : X) (ys : List X) (x : X) → Contains ys x → Contains (y ∷ ys) x
 shifted y ys x c = (suc c.0, omega (arith, c.1), c.2)
 
 same_sorted : {X : Type 0} (R : X → X → Type 0) → ((x y z : X) → R x y → R y z → R x z) → ((x : X) → R x x → ⊥)
-    → (xs ys : List X) → Ascends R xs → Ascends R ys → ((x : X) → Contains xs x → Contains ys x)
+    → (xs ys : List X) → IsAscendingBy R xs → IsAscendingBy R ys → ((x : X) → Contains xs x → Contains ys x)
     → ((y : X) → Contains ys y → Contains xs y) → xs ≡ ys
 same_sorted R trans strict [] [] a b f g = refl
 same_sorted R trans strict [] (y ∷ ys) a b f g =
@@ -98,8 +98,8 @@ record Match {K A B : Type 0} (keyA : A → K) (keyB : B → K) (lineA : A → L
   text : lineA a ≡ lineB other
 
 pairs_ascend : {K A : Type 0} (R : K → K → Type 0) (key : A → K) (text : A → List ℕ) (ls : List A)
-    → Ascends (λ a b. R (key a) (key b)) ls
-    → Ascends (λ (p q : K × List ℕ). R p.0 q.0) (map (λ a. (key a, text a)) ls)
+    → IsAscendingBy (λ a b. R (key a) (key b)) ls
+    → IsAscendingBy (λ (p q : K × List ℕ). R p.0 q.0) (map (λ a. (key a, text a)) ls)
 pairs_ascend R key text [] h = tt
 pairs_ascend R key text (a ∷ []) h = tt
 pairs_ascend R key text (a ∷ b ∷ ls) h = (h.0, pairs_ascend R key text (b ∷ ls) h.1)
@@ -115,7 +115,7 @@ pair_same a b c d e f = cc
 -- texts by ascending keys agree if each text occurs on the other side
 same_texts : {K : Type 0} (R : K → K → Type 0) {A B : Type 0} (keyA : A → K) (keyB : B → K) (lineA : A → List ℕ)
     (lineB : B → List ℕ) (ls : List A) (bs : List B) → ((x y z : K) → R x y → R y z → R x z) → ((x : K) → R x x → ⊥)
-    → Ascends (λ a b. R (keyA a) (keyA b)) ls → Ascends (λ a b. R (keyB a) (keyB b)) bs
+    → IsAscendingBy (λ a b. R (keyA a) (keyA b)) ls → IsAscendingBy (λ a b. R (keyB a) (keyB b)) bs
     → ((a : A) → Contains ls a → Match keyA keyB lineA lineB a bs)
     → ((b : B) → Contains bs b → Match keyB keyA lineB lineA b ls) → flat_map lineA ls ≡ flat_map lineB bs
 same_texts {K} R {A} {B} keyA keyB lineA lineB ls bs trans strict a b f g =
@@ -174,8 +174,8 @@ same_enum F e c d cv dv a b =
 -- ---- shapes
 
 abbrev pub NamesOne : Joined → Type 0
-NamesOne F = (file : ℕ) (scope : List (List ℕ)) (name : List ℕ) (a b : Sort) (f g : List (List ℕ))
-    → Names F file scope name a f → Names F file scope name b g → (a ≡ b) × (f ≡ g)
+NamesOne F = (file : ℕ) (scope : List (List ℕ)) (name : List ℕ) (a b : DeclKind) (f g : List (List ℕ))
+    → IsReferenceTo F file scope name a f → IsReferenceTo F file scope name b g → (a ≡ b) × (f ≡ g)
 
 not_both_sorts : a_message ≡ an_enum → ⊥
 not_both_sorts e = cc
@@ -221,7 +221,7 @@ named_map : (w k v : Word) → Named w ≡ Map k v → ⊥
 named_map w k v e = cc
 
 same_form : (F : Joined) (file : ℕ) (scope : List (List ℕ)) (f : FieldDecl) (a b : Label) (word other : List ℕ) → NamesOne F
-    → HasForm F file scope f a word → HasForm F file scope f b other → (a ≡ b) × (word ≡ other)
+    → HasShape F file scope f a word → HasShape F file scope f b other → (a ≡ b) × (word ≡ other)
 same_form F file scope f a b word other one (single w x im pk is typ) (single v y jm qk is2 typ2) =
     let s : w ≡ v = same_named w v (sym is ∙ is2) in
     let t = same_type F file scope v x y im jm pk qk one
@@ -254,8 +254,8 @@ same_field : (F : Joined) (T U : Table) (scope other : List (List ℕ)) (m : Mes
     → (g.number ≡ h.number) × (field_line T t.oneofs g ≡ field_line U u.oneofs h)
 same_field F T U scope other m t u f g h one same a b =
     let ns : List (List ℕ) = map (λ o. o.name) m.oneofs in
-    let form : HasForm F m.file other f a.label a.word =
-    subst (λ (s : List (List ℕ)). HasForm F m.file s f a.label a.word) same a.form in
+    let form : HasShape F m.file other f a.label a.word =
+    subst (λ (s : List (List ℕ)). HasShape F m.file s f a.label a.word) same a.form in
     let e = same_form F m.file other f a.label b.label a.word b.word one form b.form in
     let number : g.number ≡ h.number = same_pos g.number h.number (a.number ∙ sym b.number) in
     let name : g.name ≡ h.name = a.name ∙ sym b.name in
@@ -323,7 +323,7 @@ same_method F T U q m n i one a b =
     ∙ ap (λ (w : List ℕ). L n.service n.name (message_name U n.input) w) (a.output_place ∙ ap text_of output ∙ sym b.output_place)
 
 same_methods : (F : Joined) (T U : Table) (qs : List (ServiceDecl × RpcDecl)) (ms ns : List Method) (i : ℕ) → NamesOne F
-    → AreThoseInOrder (IsMethodOf T F) qs ms → AreThoseInOrder (IsMethodOf U F) qs ns
+    → AreCorrespondingInOrder (IsMethodOf T F) qs ms → AreCorrespondingInOrder (IsMethodOf U F) qs ns
     → flat_map (method_line T) (enumerate_from i ms) ≡ flat_map (method_line U) (enumerate_from i ns)
 same_methods F T U qs ms ns i one none none = refl
 same_methods F T U qs ms ns i one (next {x = q} {y = m} {xs} {ys} r rest) (next {y = n} {ys = zs} s more) =
@@ -373,8 +373,8 @@ same_named_message i j e = cc
 same_named_enum : (i j : ℕ) → enum_decl i ≡ enum_decl j → i ≡ j
 same_named_enum i j e = cc
 
-apart_types : (F : Joined) → IsOrdered F → (a b : names.Named) (f g : List (List ℕ)) (s t : Span) → StandsAt F a f s
-    → StandsAt F b g t → s.start ≡ t.start → a ≡ b
+apart_types : (F : Joined) → IsOrdered F → (a b : names.Symbol) (f g : List (List ℕ)) (s t : Span) → IsSymbolAt F a f s
+    → IsSymbolAt F b g t → s.start ≡ t.start → a ≡ b
 apart_types F ordered a b f g s t (Numbers.message i m at up) (Numbers.message j n at2 up2) e =
     ap named.Message (same_named_message i j
     (ordered.apart (message_decl i) (message_decl j) its_name its_name m.name.span n.name.span (Together.message i m at refl)
@@ -391,5 +391,5 @@ apart_types F ordered a b f g s t (Numbers.enum i m at up) (Numbers.message j n 
     (Together.enum i m at refl) (Together.message j n at2 refl) e).0 in cc)
 
 -- no two types start at the same offset
-pub starts_apart : (F : Joined) → IsOrdered F → StartApart F
+pub starts_apart : (F : Joined) → IsOrdered F → HaveDistinctStarts F
 starts_apart F ordered = record { apart = apart_types F ordered }

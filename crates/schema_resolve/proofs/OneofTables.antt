@@ -6,7 +6,7 @@ use Rattle.std.proofs.lemmas.Bool.{cases_lt, cases_eq}
 use Rattle.std.proofs.lemmas.Option.{slice_get_within, same_Some}
 use Rattle.std.proofs.lemmas.List.{length-append}
 use Rattle.proto_ast.specs.declared.file.Word.{Word}
-use Rattle.schema_resolve.specs.Joining.{AreUnplaced, IsPlacedOneof, KeepsOneofs}
+use Rattle.schema_resolve.specs.Joining.{AreUnplaced, IsPlacedOneof, HasOneofs}
 use Rattle.schema_resolve.specs.declared.oneof_table.Oneofs.{Oneofs}
 use Rattle.schema_resolve.proofs.CleanFiles.{push_old, push_new}
 
@@ -47,7 +47,7 @@ some_none : (p : ℕ) → Some p ≡ None → ⊥
 some_none p e = cc
 
 pub keeps_none : (words : List Word) (o : Oneofs) → o.names ≡ [] → AreUnplaced (length words) o.places.items
-    → KeepsOneofs words o
+    → HasOneofs words o
 keeps_none words o e h = record {
   count = h.count_is;
   placed = λ i p at. absurd (some_none p (h.none i (Some p) at));
@@ -64,8 +64,8 @@ named_longer words names name i p h = record {
 
 pub keeps_more : (words : List Word) (old new : Oneofs) (i : ℕ) (w : Word) → slice_get words i ≡ Some w
     → slice_get old.places.items i ≡ Some None → new.names ≡ old.names ++ w.name ∷ []
-    → new.places.items ≡ set old.places.items i (Some (length old.names)) → KeepsOneofs words old
-    → KeepsOneofs words new × IsPlacedOneof words new.names i (length old.names)
+    → new.places.items ≡ set old.places.items i (Some (length old.names)) → HasOneofs words old
+    → HasOneofs words new × IsPlacedOneof words new.names i (length old.names)
 keeps_more words old new i w at none names places h =
     let n = length old.names in
     let P = old.places.items in

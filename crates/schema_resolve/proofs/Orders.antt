@@ -18,8 +18,8 @@ use Rattle.std.proofs.lemmas.List.{get_or_default, get_or-map, take_all, take_mo
 use Rattle.std.proofs.lemmas.List.Edits.{swapped_from_swap, length-swap}
 use Rattle.std.proofs.lemmas.List.Elements.{All-map, All-weaker, All-push, Contains-append_left, Contains-push}
 use Rattle.std.proofs.lemmas.List.Sorted.{IsPermutation-keeps, IsPermutation-map, length_permutation, All-permutation, Contains-permutation}
-use Rattle.mrpc_table.specs.Valid.{Ascends, AreDistinct, IsBelow}
-use Rattle.schema_resolve.specs.Placing.{name_at, IsOrder, AreAll, ArePlaces}
+use Rattle.mrpc_table.specs.Valid.{IsAscendingBy, AreDistinct, IsBelow}
+use Rattle.schema_resolve.specs.Placing.{name_at_index, IsOrder, IsPermutationOfIndices, AreInverseIndices}
 
 -- ---- no repeated elements
 
@@ -91,26 +91,26 @@ apart_moved xs ys p h = IsPermutation-keeps xs (λ zs. AreApart zs) h (λ zs a b
 -- ---- each one in relation to the next
 
 pub ascends_from : {X : Type 0} (R : X → X → Type 0) (xs : List X)
-    → ((k : ℕ) (d : X) → suc k < length xs → R (get_or xs k d) (get_or xs (suc k) d)) → Ascends R xs
+    → ((k : ℕ) (d : X) → suc k < length xs → R (get_or xs k d) (get_or xs (suc k) d)) → IsAscendingBy R xs
 ascends_from R [] h = tt
 ascends_from R (x ∷ []) h = tt
 ascends_from R (x ∷ y ∷ xs) h =
     (h 0 x (omega arith), ascends_from R (y ∷ xs) (λ k d l. h (suc k) d (omega arith)))
 
 pub ascends_past : {X : Type 0} (R : X → X → Type 0) → ((x y z : X) → R x y → R y z → R x z) → (x : X) (xs : List X)
-    → Ascends R (x ∷ xs) → (k : ℕ) (d : X) → k < length xs → R x (get_or xs k d)
+    → IsAscendingBy R (x ∷ xs) → (k : ℕ) (d : X) → k < length xs → R x (get_or xs k d)
 ascends_past R trans x [] h k d l = absurd (omega arith)
 ascends_past R trans x (y ∷ xs) h zero d l = h.0
 ascends_past R trans x (y ∷ xs) h (suc k) d l =
     trans x y (get_or xs k d) h.0 (ascends_past R trans y xs h.1 k d (omega arith))
 
-pub ascends_rest : {X : Type 0} (R : X → X → Type 0) (x : X) (xs : List X) → Ascends R (x ∷ xs) → Ascends R xs
+pub ascends_rest : {X : Type 0} (R : X → X → Type 0) (x : X) (xs : List X) → IsAscendingBy R (x ∷ xs) → IsAscendingBy R xs
 ascends_rest R x [] h = tt
 ascends_rest R x (y ∷ xs) h = h.1
 
 -- a list that ascends by a strict order has no repeated element
 pub ascends_apart : {X : Type 0} (R : X → X → Type 0) → ((x y z : X) → R x y → R y z → R x z)
-    → ((x : X) → R x x → ⊥) → (xs : List X) → Ascends R xs → AreApart xs
+    → ((x : X) → R x x → ⊥) → (xs : List X) → IsAscendingBy R xs → AreApart xs
 ascends_apart R trans strict [] h i j d a b e = absurd (omega arith)
 ascends_apart R trans strict (x ∷ xs) h zero zero d a b e = refl
 ascends_apart R trans strict (x ∷ xs) h zero (suc j) d a b e =
@@ -152,7 +152,7 @@ below_strict a p = let e : Less ≡ Equal = sym p ∙ tied_itself nat_list_cmp_t
 -- ---- names with their indices
 
 abbrev pub AreNamed : List (List ℕ) → List (Bor (List ℕ) × ℕ) → Type 0
-AreNamed names pairs = All (λ p. (p.1 < length names) × (p.0.now ≡ name_at names p.1)) pairs
+AreNamed names pairs = All (λ p. (p.1 < length names) × (p.0.now ≡ name_at_index names p.1)) pairs
 
 abbrev pub number_of : Bor (List ℕ) × ℕ → ℕ
 number_of p = p.1
@@ -176,11 +176,11 @@ pub known_more : (names : List (List ℕ)) (i : ℕ) (name : Bor (List ℕ)) (pa
     → i < length names → name.now ≡ get_or names i name.now → more ≡ pairs ++ (name, i) ∷ [] → AreKnown names i pairs
     → AreKnown names (i + 1) more
 known_more names i name pairs more l is e h =
-    let at : name.now ≡ name_at names i = is ∙ get_or_default names i name.now [] l in
+    let at : name.now ≡ name_at_index names i = is ∙ get_or_default names i name.now [] l in
     subst (AreKnown names (i + 1)) (sym e) (record {
       texts = map-append text_in pairs ((name, i) ∷ []) ∙ ap (λ ns. ns ++ name.now ∷ []) h.texts
           ∙ ap (λ (n : List ℕ). take i names ++ n ∷ []) is ∙ sym (take_more names i name.now l);
-      named = All-push (λ (p : Bor (List ℕ) × ℕ). (p.1 < length names) × (p.0.now ≡ name_at names p.1)) pairs (name, i)
+      named = All-push (λ (p : Bor (List ℕ) × ℕ). (p.1 < length names) × (p.0.now ≡ name_at_index names p.1)) pairs (name, i)
           h.named (l, at);
       all = λ k m. subst (λ (ns : List ℕ). Contains ns k) (sym (map-append number_of pairs ((name, i) ∷ [])))
           (elim (cases_lt k i) [
@@ -201,16 +201,16 @@ pair_cmp p q = ordering_then (slice_cmp nat_cmp p.0.now q.0.now) (nat_cmp p.1 q.
 
 order_step : (names : List (List ℕ)) (sorted : List (Bor (List ℕ) × ℕ)) → AreNamed names sorted
     → AreApart (map text_in sorted) → IsSorted pair_cmp sorted → (k d : ℕ) → suc k < length sorted
-    → IsBelow (name_at names (get_or (map number_of sorted) k d))
-    (name_at names (get_or (map number_of sorted) (suc k) d))
+    → IsBelow (name_at_index names (get_or (map number_of sorted) k d))
+    (name_at_index names (get_or (map number_of sorted) (suc k) d))
 order_step names sorted named apart ascends k d m =
     let n : k < length sorted = omega arith in
     let x = element sorted k n in
     let y = element sorted (suc k) m in
-    let xn : x.0.0.now ≡ name_at names x.0.1 =
-    subst (λ (p : Bor (List ℕ) × ℕ). p.0.now ≡ name_at names p.1) (x.1 x.0) (named k x.0 n).1 in
-    let yn : y.0.0.now ≡ name_at names y.0.1 =
-    subst (λ (p : Bor (List ℕ) × ℕ). p.0.now ≡ name_at names p.1) (y.1 y.0) (named (suc k) y.0 m).1 in
+    let xn : x.0.0.now ≡ name_at_index names x.0.1 =
+    subst (λ (p : Bor (List ℕ) × ℕ). p.0.now ≡ name_at_index names p.1) (x.1 x.0) (named k x.0 n).1 in
+    let yn : y.0.0.now ≡ name_at_index names y.0.1 =
+    subst (λ (p : Bor (List ℕ) × ℕ). p.0.now ≡ name_at_index names p.1) (y.1 y.0) (named (suc k) y.0 m).1 in
     let xi : get_or (map number_of sorted) k d ≡ x.0.1 =
     get_or-map number_of sorted k x.0 d n ∙ ap number_of (x.1 x.0) in
     let yi : get_or (map number_of sorted) (suc k) d ≡ y.0.1 =
@@ -231,9 +231,9 @@ order_step names sorted named apart ascends k d m =
     (ascends k x.0 (omega arith) (omega (arith, add-one k))))) in
     let below : IsBelow x.0.0.now y.0.0.now =
     less_from (slice_cmp nat_cmp) nat_list_cmp_total x.0.0.now y.0.0.now (nat_cmp y.0.1 x.0.1) apart_here less in
-    subst (λ (i : ℕ). IsBelow (name_at names i) (name_at names (get_or (map number_of sorted) (suc k) d))) (sym xi)
-    (subst (λ (j : ℕ). IsBelow (name_at names x.0.1) (name_at names j)) (sym yi)
-    (subst (λ (a : List ℕ). IsBelow a (name_at names y.0.1)) xn
+    subst (λ (i : ℕ). IsBelow (name_at_index names i) (name_at_index names (get_or (map number_of sorted) (suc k) d))) (sym xi)
+    (subst (λ (j : ℕ). IsBelow (name_at_index names x.0.1) (name_at_index names j)) (sym yi)
+    (subst (λ (a : List ℕ). IsBelow a (name_at_index names y.0.1)) xn
     (subst (λ (b : List ℕ). IsBelow x.0.0.now b) yn below)))
 
 pub order_of : (names : List (List ℕ)) (pairs sorted : List (Bor (List ℕ) × ℕ)) → AreDistinct names
@@ -244,7 +244,7 @@ order_of names pairs sorted distinct known moved ascends =
     let many : length sorted ≡ length names =
     length_permutation pairs sorted moved ∙ sym (length-map pairs text_in) ∙ ap length same in
     let named : AreNamed names sorted =
-    All-permutation (λ (p : Bor (List ℕ) × ℕ). (p.1 < length names) × (p.0.now ≡ name_at names p.1)) pairs sorted
+    All-permutation (λ (p : Bor (List ℕ) × ℕ). (p.1 < length names) × (p.0.now ≡ name_at_index names p.1)) pairs sorted
     moved known.named in
     let apart : AreApart (map text_in sorted) =
     apart_moved (map text_in pairs) (map text_in sorted) (IsPermutation-map text_in pairs sorted moved)
@@ -252,23 +252,23 @@ order_of names pairs sorted distinct known moved ascends =
     record {
       count = length-map sorted number_of ∙ many;
       within = All-map (λ (i : ℕ). i < length names) number_of sorted
-          (All-weaker (λ (p : Bor (List ℕ) × ℕ). (p.1 < length names) × (p.0.now ≡ name_at names p.1))
+          (All-weaker (λ (p : Bor (List ℕ) × ℕ). (p.1 < length names) × (p.0.now ≡ name_at_index names p.1))
           (λ (p : Bor (List ℕ) × ℕ). p.1 < length names) (λ p h. h.0) sorted named);
       each = λ i l. Contains-permutation (map number_of pairs) (map number_of sorted) i
           (IsPermutation-map number_of pairs sorted moved) (known.all i l);
-      ascend = ascends_from (λ i j. IsBelow (name_at names i) (name_at names j)) (map number_of sorted)
+      ascend = ascends_from (λ i j. IsBelow (name_at_index names i) (name_at_index names j)) (map number_of sorted)
           (λ k d l. order_step names sorted named apart ascends k d (omega (arith, length-map sorted number_of)));
     }
 
 -- ---- indices
 
-pub order_all : (names : List (List ℕ)) (order : List ℕ) → IsOrder names order → AreAll order
+pub order_all : (names : List (List ℕ)) (order : List ℕ) → IsOrder names order → IsPermutationOfIndices order
 order_all names order h = record {
   within = subst (λ (n : ℕ). All (λ i. i < n) order) (sym h.count) h.within;
   once = λ j k i a b.
-      ascends_apart (λ m n. IsBelow (name_at names m) (name_at names n))
-      (λ x y z p q. below_trans (name_at names x) (name_at names y) (name_at names z) p q)
-      (λ x p. below_strict (name_at names x) p) order h.ascend j k i
+      ascends_apart (λ m n. IsBelow (name_at_index names m) (name_at_index names n))
+      (λ x y z p q. below_trans (name_at_index names x) (name_at_index names y) (name_at_index names z) p q)
+      (λ x p. below_strict (name_at_index names x) p) order h.ascend j k i
       (slice_get_within order j i a) (slice_get_within order k i b)
       (get_or_from_slice_get order j i i a ∙ sym (get_or_from_slice_get order k i i b));
 }
@@ -277,7 +277,7 @@ pub record ArePut (order : List ℕ) (n : ℕ) (places : List ℕ) : Type 0 wher
   pub count : length places ≡ length order
   pub put : (k i : ℕ) → k < n → slice_get order k ≡ Some i → get_or places i 0 ≡ k
 
-pub put_more : (order : List ℕ) (n i : ℕ) (places more : List ℕ) → AreAll order → slice_get order n ≡ Some i
+pub put_more : (order : List ℕ) (n i : ℕ) (places more : List ℕ) → IsPermutationOfIndices order → slice_get order n ≡ Some i
     → more ≡ set places i n → ArePut order n places → ArePut order (n + 1) more
 put_more order n i places more all at e h =
     let l : i < length places =
@@ -303,7 +303,7 @@ put_more order n i places more all at e h =
       ];
     })
 
-pub places_of : (order places : List ℕ) → AreAll order → ArePut order (length order) places → ArePlaces order places
+pub places_of : (order places : List ℕ) → IsPermutationOfIndices order → ArePut order (length order) places → AreInverseIndices order places
 places_of order places all h = record {
   count = h.count;
   back = λ place i a.

@@ -8,12 +8,12 @@ use Rattle.std.proofs.lemmas.Cmp.{nat_cmp_total, nat_list_cmp_total}
 use Rattle.std.proofs.lemmas.List.{get_or_default, length-append}
 use Rattle.mrpc_table.specs.Valid.{AreDistinct}
 use Rattle.proto_ast.specs.Together.{IsFormed, IsOrdered}
-use Rattle.proto_ast.specs.Joined.{Joined, home_of, enum_home_of, package_parts}
+use Rattle.proto_ast.specs.Joined.{Joined, enclosing_of, enclosing_of_enum, package_parts}
 use Rattle.schema_symbols.specs.Scopes.{text_of}
-use Rattle.schema_resolve.specs.Resolving.{IsClean}
-use Rattle.schema_resolve.specs.Placing.{behind, front_of, name_at, AreFronts, IsOrder, AreAll, IsPlaced, AreMessageNames, AreEnumNames, IsPlan}
+use Rattle.schema_resolve.specs.Resolving.{HasNoViolation}
+use Rattle.schema_resolve.specs.Placing.{qualified_name, enclosing_name, name_at_index, ArePackageNames, IsOrder, IsPermutationOfIndices, IsOrderedNames, AreMessageNames, AreEnumNames, IsTablePlan}
 use Rattle.schema_resolve.specs.declared.placed.PlacedNames.{PlacedNames}
-use Rattle.schema_resolve.specs.declared.plan.Plan.{Plan}
+use Rattle.schema_resolve.specs.declared.plan.TablePlan.{TablePlan}
 use Rattle.schema_resolve.proofs.Orders.{AreKnown, known_none, known_more, number_of, pair_cmp, order_of, order_all, ArePut, put_more, places_of}
 use Rattle.schema_resolve.proofs.CleanFiles.{some_at, AreFirstFronts, fronts_none, fronts_more, fronts_all}
 use Rattle.schema_resolve.proofs.CleanFiles.{messages_more, enums_more, messages_distinct, enums_distinct}
@@ -43,7 +43,7 @@ names_with_numbers : (names : List (List ℕ)) (n : ℕ) → n ≤ length names
 names_with_numbers names zero l = ([], known_none names [] refl)
 names_with_numbers names (suc n) l =
     let rest = names_with_numbers names n (omega arith) in
-    let name : List ℕ = name_at names n in
+    let name : List ℕ = name_at_index names n in
     let more : List (Bor (List ℕ) × ℕ) = rest.0 ++ (ref_of name, n) ∷ [] in (
       more,
       subst (λ (k : ℕ). AreKnown names k more) (add-one n)
@@ -63,7 +63,7 @@ order_made names distinct =
           (ascends_sorted pair_cmp sorted.list sorted.ascends),
     )
 
-places_put : (order : List ℕ) → AreAll order → (n : ℕ) → n ≤ length order → (places : List ℕ) × ArePut order n places
+places_put : (order : List ℕ) → IsPermutationOfIndices order → (n : ℕ) → n ≤ length order → (places : List ℕ) × ArePut order n places
 places_put order all zero l = (order, record { count = refl; put = λ k i below at. absurd (omega arith) })
 places_put order all (suc n) l =
     let rest = places_put order all n (omega arith) in
@@ -74,7 +74,7 @@ places_put order all (suc n) l =
     )
 
 -- names with their order and their indices in it
-placed_made : (names : List (List ℕ)) → length names < 2 ^ 63 → AreDistinct names → (p : PlacedNames) × IsPlaced names p
+placed_made : (names : List (List ℕ)) → length names < 2 ^ 63 → AreDistinct names → (p : PlacedNames) × IsOrderedNames names p
 placed_made names few distinct =
     let order = order_made names distinct in
     let all = order_all names order.0 order.1 in
@@ -103,26 +103,26 @@ first_fronts F (suc n) l =
     )
 
 -- the names of the files' packages
-fronts_made : (F : Joined) → (fronts : List (List ℕ)) × AreFronts F fronts
+fronts_made : (F : Joined) → (fronts : List (List ℕ)) × ArePackageNames F fronts
 fronts_made F =
     let all = first_fronts F (length F.heads) (omega arith) in
     (all.0, fronts_all F (length F.heads) all.0 refl all.1)
 
-message_names : (F : Joined) (fronts : List (List ℕ)) → IsFormed F → AreFronts F fronts → (n : ℕ)
+message_names : (F : Joined) (fronts : List (List ℕ)) → IsFormed F → ArePackageNames F fronts → (n : ℕ)
     → n ≤ length F.messages → (names : List (List ℕ)) × (length names ≡ n) × AreMessageNames F names
 message_names F fronts formed fronts_are zero l =
     ([], refl, record { each = λ i full below scope. absurd (omega arith) })
 message_names F fronts formed fronts_are (suc n) l =
     let rest = message_names F fronts formed fronts_are n (omega arith) in
     let m = some_at F.messages n (omega arith) in
-    let name : List ℕ = behind (front_of fronts rest.0 (home_of m.0)) m.0.name.name in
+    let name : List ℕ = qualified_name (enclosing_name fronts rest.0 (enclosing_of m.0)) m.0.name.name in
     let more : List (List ℕ) = rest.0 ++ name ∷ [] in (
       more,
       omega (arith, length-append rest.0 (name ∷ []), rest.1),
       messages_more fronts rest.0 more name n m.0 formed fronts_are rest.1 m.1 refl refl rest.2,
     )
 
-enum_names : (F : Joined) (fronts messages : List (List ℕ)) → IsFormed F → AreFronts F fronts
+enum_names : (F : Joined) (fronts messages : List (List ℕ)) → IsFormed F → ArePackageNames F fronts
     → length messages ≡ length F.messages → AreMessageNames F messages → (n : ℕ) → n ≤ length F.enums
     → (names : List (List ℕ)) × (length names ≡ n) × AreEnumNames F names
 enum_names F fronts messages formed fronts_are count known zero l =
@@ -130,7 +130,7 @@ enum_names F fronts messages formed fronts_are count known zero l =
 enum_names F fronts messages formed fronts_are count known (suc n) l =
     let rest = enum_names F fronts messages formed fronts_are count known n (omega arith) in
     let e = some_at F.enums n (omega arith) in
-    let name : List ℕ = behind (front_of fronts messages (enum_home_of e.0)) e.0.name.name in
+    let name : List ℕ = qualified_name (enclosing_name fronts messages (enclosing_of_enum e.0)) e.0.name.name in
     let more : List (List ℕ) = rest.0 ++ name ∷ [] in (
       more,
       omega (arith, length-append rest.0 (name ∷ []), rest.1),
@@ -138,22 +138,22 @@ enum_names F fronts messages formed fronts_are count known (suc n) l =
     )
 
 -- a plan without names of packages, which the indices don't depend on
-abbrev plan_with : PlacedNames → PlacedNames → Plan
+abbrev plan_with : PlacedNames → PlacedNames → TablePlan
 plan_with messages enums = record { fronts = vec_of [] (omega arith); messages = messages; enums = enums }
 
 plan_from : (F : Joined) (messages enums : List (List ℕ)) (mp ep : PlacedNames) → length messages ≡ length F.messages
-    → length enums ≡ length F.enums → AreMessageNames F messages → AreEnumNames F enums → IsPlaced messages mp
-    → IsPlaced enums ep → IsPlan F (plan_with mp ep)
+    → length enums ≡ length F.enums → AreMessageNames F messages → AreEnumNames F enums → IsOrderedNames messages mp
+    → IsOrderedNames enums ep → IsTablePlan F (plan_with mp ep)
 plan_from F messages enums mp ep all_messages all_enums message_names enum_names placed also = record {
   all_messages = ap length placed.kept ∙ all_messages;
   all_enums = ap length also.kept ∙ all_enums;
   messages = subst (AreMessageNames F) (sym placed.kept) message_names;
   enums = subst (AreEnumNames F) (sym also.kept) enum_names;
-  message_places = subst (λ (names : List (List ℕ)). IsPlaced names mp) (sym placed.kept) placed;
-  enum_places = subst (λ (names : List (List ℕ)). IsPlaced names ep) (sym also.kept) also;
+  message_places = subst (λ (names : List (List ℕ)). IsOrderedNames names mp) (sym placed.kept) placed;
+  enum_places = subst (λ (names : List (List ℕ)). IsOrderedNames names ep) (sym also.kept) also;
 }
 
-pub plan_made : (F : Joined) → IsFormed F → IsOrdered F → IsClean F → (p : Plan) × IsPlan F p
+pub plan_made : (F : Joined) → IsFormed F → IsOrdered F → HasNoViolation F → (p : TablePlan) × IsTablePlan F p
 plan_made F formed ordered clean =
     let fronts = fronts_made F in
     let messages = message_names F fronts.0 formed fronts.1 (length F.messages) (omega arith) in

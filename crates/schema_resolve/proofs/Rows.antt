@@ -17,7 +17,7 @@ use Rattle.mrpc_table.specs.declared.table.Field.{Field}
 use Rattle.mrpc_table.specs.declared.table.Message.{Message}
 use Rattle.mrpc_table.specs.declared.table.Method.{Method}
 use Rattle.mrpc_table.specs.declared.table.Table.{Table}
-use Rattle.proto_ast.specs.Joined.{Joined, Sees, home_of, package_at}
+use Rattle.proto_ast.specs.Joined.{Joined, CanSee, enclosing_of, package_at}
 use Rattle.proto_ast.specs.declared.file.Span.{Span}
 use Rattle.proto_ast.specs.declared.file.Word.{Word}
 use Rattle.proto_ast.specs.declared.file.FieldLabel.TheVariants.{Plain}
@@ -27,11 +27,11 @@ use Rattle.proto_ast.specs.declared.file.MessageDecl.{MessageDecl}
 use Rattle.proto_ast.specs.declared.file.RpcDecl.{RpcDecl}
 use Rattle.proto_ast.specs.declared.file.ServiceDecl.{ServiceDecl}
 use Rattle.proto_ast.specs.declared.joined.Head.{Head}
-use Rattle.proto_ast.specs.declared.joined.Home.TheVariants as home
+use Rattle.proto_ast.specs.declared.joined.Enclosing.TheVariants as home
 use Rattle.schema_symbols.specs.Scopes
-use Rattle.schema_symbols.specs.Scopes.{IsScope, of_file, Sort, a_message, is_type, Declares, IsThere, a_type, a_package, here, outward, relative, Names}
+use Rattle.schema_symbols.specs.Scopes.{IsScope, of_file, DeclKind, a_message, is_type, IsDeclarationOf, IsVisibleName, a_type, a_package, here, outward, relative, IsReferenceTo}
 use Rattle.schema_validation.specs.Types.{IsNoScalar, message, single}
-use Rattle.schema_validation.specs.Those.{AreThose, AreThoseInOrder, none, next}
+use Rattle.schema_validation.specs.Correspondence.{AreCorresponding, AreCorrespondingInOrder, none, next}
 use Rattle.schema_resolve.specs.Tables.{IsFieldOf, IsMessageOf, IsEnumOf, IsMethodOf, IsTableOf}
 use Rattle.schema_resolve.proofs.CleanFiles.{in_list, at_in, scope_of_file}
 use Rattle.schema_resolve.proofs.KindWords.{scalar_known}
@@ -130,16 +130,16 @@ in_a = of_file 0
 in_b : IsScope both (home.File 1) (codes "b" ∷ [])
 in_b = of_file 1
 
-declares_a : Declares both 0 a_message full_a (at 20)
+declares_a : IsDeclarationOf both 0 a_message full_a (at 20)
 declares_a = Scopes.message decl_a (0, omega arith, refl) in_a
 
-declares_b : Declares both 1 a_message full_b (at 119)
+declares_b : IsDeclarationOf both 1 a_message full_b (at 119)
 declares_b = Scopes.message decl_b (1, omega arith, refl) in_b
 
-sees_a : Sees both 1 0
+sees_a : CanSee both 1 0
 sees_a = record { head = head_b; at = refl; among = (1, omega arith, refl) }
 
-sees_b : Sees both 1 1
+sees_b : CanSee both 1 1
 sees_b = record { head = head_b; at = refl; among = (0, omega arith, refl) }
 
 data IsOne (full : List (List ℕ)) (span : Span) : Type 0 where
@@ -147,24 +147,24 @@ data IsOne (full : List (List ℕ)) (span : Span) : Type 0 where
   is_b : full ≡ full_b → span ≡ at 119 → IsOne full span
 
 message_one : (m : MessageDecl) (outer : List (List ℕ)) (i : ℕ) → slice_get both.messages i ≡ Some m
-    → IsScope both (home_of m) outer → IsOne (outer ++ m.name.name ∷ []) m.name.span
+    → IsScope both (enclosing_of m) outer → IsOne (outer ++ m.name.name ∷ []) m.name.span
 message_one m outer zero e up =
     let s : decl_a ≡ m = same_Some decl_a m e in
     let u : IsScope both (home.File 0) outer =
-    subst (λ (x : MessageDecl). IsScope both (home_of x) outer) (sym s) up in
+    subst (λ (x : MessageDecl). IsScope both (enclosing_of x) outer) (sym s) up in
     let o : outer ≡ codes "a" ∷ [] = scope_of_file u in
     subst (λ (x : MessageDecl). IsOne (outer ++ x.name.name ∷ []) x.name.span) s
     (is_a (ap (λ (p : List (List ℕ)). p ++ codes "A" ∷ []) o) refl)
 message_one m outer (suc zero) e up =
     let s : decl_b ≡ m = same_Some decl_b m e in
     let u : IsScope both (home.File 1) outer =
-    subst (λ (x : MessageDecl). IsScope both (home_of x) outer) (sym s) up in
+    subst (λ (x : MessageDecl). IsScope both (enclosing_of x) outer) (sym s) up in
     let o : outer ≡ codes "b" ∷ [] = scope_of_file u in
     subst (λ (x : MessageDecl). IsOne (outer ++ x.name.name ∷ []) x.name.span) s
     (is_b (ap (λ (p : List (List ℕ)). p ++ codes "B" ∷ []) o) refl)
 message_one m outer (suc (suc i)) e up = absurd (none-some m e)
 
-declared_one : {k : ℕ} {sort : Sort} {full : List (List ℕ)} {span : Span} → Declares both k sort full span
+declared_one : {k : ℕ} {sort : DeclKind} {full : List (List ℕ)} {span : Span} → IsDeclarationOf both k sort full span
     → is_type sort ≡ true → IsOne full span
 declared_one (Scopes.message m {outer} c up) typ = message_one m outer c.0 (at_in both.messages m c) up
 declared_one (Scopes.enum e c up) typ = absurd (none-some e (at_in both.enums e c))
@@ -185,7 +185,7 @@ one_length full span (is_a e s) = ap length e
 one_length full span (is_b e s) = ap length e
 
 -- no type and no package has a full name of three parts
-no_third : {full : List (List ℕ)} → IsThere both 1 full → length full ≡ 3 → ⊥
+no_third : {full : List (List ℕ)} → IsVisibleName both 1 full → length full ≡ 3 → ⊥
 no_third {full} (a_type other sort span sees d typ) l =
     let n : length full ≡ 2 = one_length full span (declared_one d typ) in
     omega arith
@@ -197,7 +197,7 @@ not_ba : (span : Span) → IsOne (codes "b" ∷ codes "a" ∷ []) span → ⊥
 not_ba span (is_a e s) = let h : ◌≡◌ {A = ℕ} 98 97 = cc in omega arith
 not_ba span (is_b e s) = let h : ◌≡◌ {A = ℕ} 97 66 = cc in omega arith
 
-no_ba : IsThere both 1 (codes "b" ∷ codes "a" ∷ []) → ⊥
+no_ba : IsVisibleName both 1 (codes "b" ∷ codes "a" ∷ []) → ⊥
 no_ba (a_type other sort span sees d typ) = not_ba span (declared_one d typ)
 no_ba (a_package other rest sees e) =
     let n : length (package_at both other) ≡ length ((codes "b" ∷ codes "a" ∷ []) ++ rest) = ap length e in
@@ -211,11 +211,11 @@ first_b : (span : Span) → IsOne full_b span → 119 ≤ span.start
 first_b span (is_a e s) = absurd (let h : ◌≡◌ {A = ℕ} 98 97 = cc in omega arith)
 first_b span (is_b e s) = let n : span.start ≡ 119 = ap (λ (t : Span). t.start) s in omega arith
 
-package_a : IsThere both 1 (codes "a" ∷ [])
+package_a : IsVisibleName both 1 (codes "a" ∷ [])
 package_a = a_package 0 [] sees_a refl
 
 -- in the package `b`, and in its message, `a` is the other file's package
-from_package : Names both 1 (codes "b" ∷ []) (codes "a.A") a_message full_a
+from_package : IsReferenceTo both 1 (codes "b" ∷ []) (codes "a.A") a_message full_a
 from_package = record {
   means = relative (codes "a.A") (codes "a") {decisive = []} refl (λ e. cc)
       (outward (codes "b") {outer = []} refl no_ba (here package_a));
@@ -229,7 +229,7 @@ from_package = record {
   };
 }
 
-from_message : Names both 1 full_b (codes "a.A") a_message full_a
+from_message : IsReferenceTo both 1 full_b (codes "a.A") a_message full_a
 from_message = record {
   means = relative (codes "a.A") (codes "a") {decisive = []} refl (λ e. cc)
       (outward (codes "B") {outer = codes "b" ∷ []} refl (λ t. no_third t refl)
@@ -238,7 +238,7 @@ from_message = record {
 }
 
 -- `B` is the file's own
-own_message : Names both 1 (codes "b" ∷ []) (codes "B") a_message full_b
+own_message : IsReferenceTo both 1 (codes "b" ∷ []) (codes "B") a_message full_b
 own_message = record {
   means = relative (codes "B") (codes "B") {decisive = codes "b" ∷ []} refl (λ e. cc)
       (here (a_type 1 a_message (at 119) sees_b declares_b refl));
@@ -270,7 +270,7 @@ field_row = record {
   same = refl;
 }
 
-those : {X Y : Type 0} (R : X → Y → Type 0) (xs : List X) (ys : List Y) → AreThoseInOrder R xs ys → AreThose R xs ys
+those : {X Y : Type 0} (R : X → Y → Type 0) (xs : List X) (ys : List Y) → AreCorrespondingInOrder R xs ys → AreCorresponding R xs ys
 those R xs ys h = record {
   each = λ x c. let y = in_order_get R h c.0 x (at_in xs x c) in (y.0, in_list ys c.0 y.0 y.1, y.2);
   alone = λ y c. let x = in_order_back R h c.0 y (at_in ys y c) in (x.0, in_list xs c.0 x.0 x.1, x.2);

@@ -6,17 +6,17 @@ use Rattle.std.specs.Ordering.{is_lt, ordering_then, ordering_reverse}
 use Rattle.std.specs.declared.cmp.Ordering.{Ordering}
 use Rattle.std.specs.declared.cmp.Ordering.TheVariants.{Less, Equal, Greater}
 use Rattle.std.proofs.lemmas.List.Sorted.{IsPermutation-refl, IsPermutation-cons, IsPermutation-trans, IsPermutation-middle}
-use Rattle.mrpc_table.specs.Valid.{Ascends}
+use Rattle.mrpc_table.specs.Valid.{IsAscendingBy}
 use Rattle.schema_resolve.proofs.Orders.{ascends_past, ascends_rest}
 
 -- an element inserted into an ascending list; a common lower bound is kept
 record Inserted {X : Type 0} (R : X → X → Type 0) (x : X) (ys : List X) : Type 0 where
   list : List X
   moved : IsPermutation (x ∷ ys) list
-  ascends : Ascends R list
-  behind : (z : X) → R z x → Ascends R (z ∷ ys) → Ascends R (z ∷ list)
+  ascends : IsAscendingBy R list
+  behind : (z : X) → R z x → IsAscendingBy R (z ∷ ys) → IsAscendingBy R (z ∷ list)
 
-inserted : {X : Type 0} (R : X → X → Type 0) → ((x y : X) → R x y ⊎ R y x) → (x : X) (ys : List X) → Ascends R ys
+inserted : {X : Type 0} (R : X → X → Type 0) → ((x y : X) → R x y ⊎ R y x) → (x : X) (ys : List X) → IsAscendingBy R ys
     → Inserted R x ys
 inserted R total x [] h = record {
   list = x ∷ [];
@@ -45,7 +45,7 @@ inserted R total x (y ∷ ys) h = elim (total x y) [
 pub record InOrder {X : Type 0} (R : X → X → Type 0) (xs : List X) : Type 0 where
   pub list : List X
   pub moved : IsPermutation xs list
-  pub ascends : Ascends R list
+  pub ascends : IsAscendingBy R list
 
 pub in_order : {X : Type 0} (R : X → X → Type 0) → ((x y : X) → R x y ⊎ R y x) → (xs : List X) → InOrder R xs
 in_order R total [] = record { list = []; moved = IsPermutation-refl []; ascends = tt }
@@ -60,7 +60,7 @@ in_order R total (x ∷ xs) =
 
 -- ---- as the standard library defines it
 
-ascends_at : {X : Type 0} (R : X → X → Type 0) (xs : List X) → Ascends R xs → (k : ℕ) (d : X) → suc k < length xs
+ascends_at : {X : Type 0} (R : X → X → Type 0) (xs : List X) → IsAscendingBy R xs → (k : ℕ) (d : X) → suc k < length xs
     → R (get_or xs k d) (get_or xs (suc k) d)
 ascends_at R [] h k d l = absurd (omega arith)
 ascends_at R (x ∷ []) h k d l = absurd (omega arith)
@@ -70,13 +70,13 @@ ascends_at R (x ∷ y ∷ xs) h (suc k) d l = ascends_at R (y ∷ xs) h.1 k d (o
 abbrev pub IsNotAbove : {X : Type 0} → (X → X → Ordering) → X → X → Type 0
 IsNotAbove cmp x y = is_lt (cmp y x) ≡ false
 
-pub ascends_sorted : {X : Type 0} (cmp : X → X → Ordering) (xs : List X) → Ascends (IsNotAbove cmp) xs
+pub ascends_sorted : {X : Type 0} (cmp : X → X → Ordering) (xs : List X) → IsAscendingBy (IsNotAbove cmp) xs
     → IsSorted cmp xs
 ascends_sorted cmp xs h k d low l =
     subst (λ (i : ℕ). is_lt (cmp (get_or xs i d) (get_or xs k d)) ≡ false) (sym (add-one k))
     (ascends_at (IsNotAbove cmp) xs h k d (omega (arith, add-one k)))
 
-pub ascends_not_decreasing : {X : Type 0} (n : X → ℕ) (xs : List X) → Ascends (λ x y. n x ≤ n y) xs
+pub ascends_not_decreasing : {X : Type 0} (n : X → ℕ) (xs : List X) → IsAscendingBy (λ x y. n x ≤ n y) xs
     → IsNonDecreasingBy n xs
 ascends_not_decreasing n [] h i j d le l = absurd (omega arith)
 ascends_not_decreasing n (x ∷ xs) h zero zero d le l = omega arith

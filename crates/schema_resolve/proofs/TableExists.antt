@@ -22,22 +22,22 @@ use Rattle.proto_ast.specs.declared.file.RpcDecl.{RpcDecl}
 use Rattle.proto_ast.specs.declared.file.ServiceDecl.{ServiceDecl}
 use Rattle.proto_ast.specs.declared.file.File.{File}
 use Rattle.schema_symbols.specs.Scopes
-use Rattle.schema_symbols.specs.Scopes.{Declares, Finds, Names, a_message, an_enum, is_type, text_of}
+use Rattle.schema_symbols.specs.Scopes.{IsDeclarationOf, IsVisibleDeclaration, IsReferenceTo, a_message, an_enum, is_type, text_of}
 use Rattle.schema_symbols.specs.Numbers
-use Rattle.schema_symbols.specs.Numbers.{StandsAt, IsOfFile, IsFirstAt, sort_of}
-use Rattle.schema_symbols.specs.declared.named.Named.{Named}
-use Rattle.schema_symbols.specs.declared.named.Named.TheVariants as named
+use Rattle.schema_symbols.specs.Numbers.{IsSymbolAt, IsOfFile, IsFirstSymbol, decl_kind}
+use Rattle.schema_symbols.specs.declared.symbol.Symbol.{Symbol}
+use Rattle.schema_symbols.specs.declared.symbol.Symbol.TheVariants as named
 use Rattle.schema_validation.specs.Methods.{rpcs_of}
-use Rattle.schema_validation.specs.Types.{value_of}
-use Rattle.schema_validation.specs.Offences.{Offends, HasFirst, IsOffence, HasOffence, ComesFirst, rank_of}
+use Rattle.schema_validation.specs.Types.{signed_value}
+use Rattle.schema_validation.specs.Violations.{IsViolated, HasFirstViolation, IsFileViolation, HasFirstFileViolation, IsNoLaterViolation, violation_rank}
 use Rattle.schema_validation.specs.declared.reason.ResolveReason.{ResolveReason}
 use Rattle.schema_validation.specs.declared.reason.ResolveReason.TheVariants.{UnknownName, NumberRange, DuplicateNumber, DuplicateName, Reserved, FirstEnum, MapKey, MapPlace, Limit, Import}
-use Rattle.schema_resolve.specs.Resolving.{IsClean, ResolvesTogether}
-use Rattle.schema_resolve.specs.Placing.{name_at, IsPlan, HasNames}
+use Rattle.schema_resolve.specs.Resolving.{HasNoViolation, AreResolvedTogether}
+use Rattle.schema_resolve.specs.Placing.{name_at_index, IsTablePlan, HasTableNames}
 use Rattle.schema_resolve.specs.InOrder.{value_pair, AreValues, IsPlaceNamed, IsMethodIn, IsEnumAt}
 use Rattle.schema_resolve.specs.Joining.{IsMessageAt}
 use Rattle.schema_resolve.specs.Making.{IsMadeTable}
-use Rattle.schema_resolve.specs.declared.plan.Plan.{Plan}
+use Rattle.schema_resolve.specs.declared.plan.TablePlan.{TablePlan}
 use Rattle.schema_resolve.proofs.CleanFiles.{in_list, at_in, some_at}
 use Rattle.schema_resolve.proofs.EnumTables.{value_cmp, map_twice, values_of, values_distinct, enum_at}
 use Rattle.schema_resolve.proofs.MethodTables.{placed_at, message_standing, place_named, has_input, has_output, method_of}
@@ -52,9 +52,9 @@ use Rattle.schema_resolve.proofs.MessageExists.{message_stands, message_exists}
 -- ---- enums
 
 abbrev value_read : ValueDecl → ℤ × Bor (List ℕ)
-value_read v = (value_of v.number, ref_of v.name.name)
+value_read v = (signed_value v.number, ref_of v.name.name)
 
-values_made : (F : Joined) (i : ℕ) (e : EnumDecl) → IsFormed F → IsOrdered F → IsClean F → slice_get F.enums i ≡ Some e
+values_made : (F : Joined) (i : ℕ) (e : EnumDecl) → IsFormed F → IsOrdered F → HasNoViolation F → slice_get F.enums i ≡ Some e
     → (values : List (ℤ × List ℕ)) × AreValues e.values values
 values_made F i e formed ordered clean at =
     let read : List (ℤ × Bor (List ℕ)) = map value_read e.values in
@@ -66,31 +66,31 @@ values_made F i e formed ordered clean at =
           (map_twice value_read value_pair e.values) sorted.moved (ascends_sorted value_cmp sorted.list sorted.ascends),
     )
 
-enum_made : (F : Joined) (p : Plan) (i : ℕ) → IsFormed F → IsOrdered F → IsClean F → IsPlan F p → i < length F.enums
+enum_made : (F : Joined) (p : TablePlan) (i : ℕ) → IsFormed F → IsOrdered F → HasNoViolation F → IsTablePlan F p → i < length F.enums
     → (c : Choices) × IsEnumAt F p i c
 enum_made F p i formed ordered clean plan l =
     let e = some_at F.enums i l in
     let values = values_made F i e.0 formed ordered clean e.1 in
-    let c : Choices = record { name = name_at p.enums.names.items i; values = values.0 } in
+    let c : Choices = record { name = name_at_index p.enums.names.items i; values = values.0 } in
     (c, enum_at F p i e.0 c formed ordered clean plan e.1 refl values.1)
 
 -- ---- methods
 
-stands_declared : {F : Joined} {n : Named} {file : ℕ} {full : List (List ℕ)} {span : Span} → StandsAt F n full span
-    → IsOfFile F n file → Declares F file (sort_of n) full span
+stands_declared : {F : Joined} {n : Symbol} {file : ℕ} {full : List (List ℕ)} {span : Span} → IsSymbolAt F n full span
+    → IsOfFile F n file → IsDeclarationOf F file (decl_kind n) full span
 stands_declared {F} (Numbers.message i m {outer} at up) (Numbers.message_of j n also) =
-    subst (λ (x : MessageDecl). Declares F x.file a_message (outer ++ m.name.name ∷ []) m.name.span)
+    subst (λ (x : MessageDecl). IsDeclarationOf F x.file a_message (outer ++ m.name.name ∷ []) m.name.span)
     (same_Some m n (sym at ∙ also)) (Scopes.message m (in_list F.messages i m at) up)
 stands_declared {F} (Numbers.enum i e {outer} at up) (Numbers.enum_of j d also) =
-    subst (λ (x : EnumDecl). Declares F x.file an_enum (outer ++ e.name.name ∷ []) e.name.span)
+    subst (λ (x : EnumDecl). IsDeclarationOf F x.file an_enum (outer ++ e.name.name ∷ []) e.name.span)
     (same_Some e d (sym at ∙ also)) (Scopes.enum e (in_list F.enums i e at) up)
 
-is_a_type : (n : Named) → is_type (sort_of n) ≡ true
+is_a_type : (n : Symbol) → is_type (decl_kind n) ≡ true
 is_a_type (named.Message i) = refl
 is_a_type (named.Enum i) = refl
 
-first_message : (F : Joined) (file : ℕ) (full : List (List ℕ)) → Finds F file a_message full
-    → (i : ℕ) × IsFirstAt F file (named.Message i) full
+first_message : (F : Joined) (file : ℕ) (full : List (List ℕ)) → IsVisibleDeclaration F file a_message full
+    → (i : ℕ) × IsFirstSymbol F file (named.Message i) full
 first_message F file full h =
     let s = message_stands h.declared in (
       s.0,
@@ -99,17 +99,17 @@ first_message F file full h =
         stands = s.1;
         seen = record { other = h.other; stands_in = s.2; seen = h.seen };
         first = λ n t seen other.
-            h.first seen.other (sort_of n) t seen.seen (stands_declared other seen.stands_in) (is_a_type n);
+            h.first seen.other (decl_kind n) t seen.seen (stands_declared other seen.stands_in) (is_a_type n);
       },
     )
 
 -- the index of the message that the type of a file's rpc names
-record Located (F : Joined) (file : ℕ) (p : Plan) (name : List ℕ) : Type 0 where
+record Located (F : Joined) (file : ℕ) (p : TablePlan) (name : List ℕ) : Type 0 where
   place : ℕ
-  located : (T : Table) → HasNames p T → IsPlaceNamed F file T name place
+  located : (T : Table) → HasTableNames p T → IsPlaceNamed F file T name place
 
-located_at : (F : Joined) (file : ℕ) (p : Plan) (name : List ℕ) (full : List (List ℕ)) → IsPlan F p
-    → Names F file (package_at F file) name a_message full → Located F file p name
+located_at : (F : Joined) (file : ℕ) (p : TablePlan) (name : List ℕ) (full : List (List ℕ)) → IsTablePlan F p
+    → IsReferenceTo F file (package_at F file) name a_message full → Located F file p name
 located_at F file p name full plan names =
     let first = first_message F file full names.finds in
     let l : first.0 < length F.messages = (message_standing first.1.stands).1 in
@@ -117,10 +117,10 @@ located_at F file p name full plan names =
     (omega (arith, plan.all_messages)) in
     record { place = at.0; located = place_named F file p name first.0 at.0 full plan names first.1 at.1.back }
 
-abbrev IsMethodOfPlan : Joined → Plan → ServiceDecl × RpcDecl → Method → Type 0
-IsMethodOfPlan F p x m = (T : Table) → HasNames p T → IsMethodIn F T x m
+abbrev IsMethodOfPlan : Joined → TablePlan → ServiceDecl × RpcDecl → Method → Type 0
+IsMethodOfPlan F p x m = (T : Table) → HasTableNames p T → IsMethodIn F T x m
 
-method_made : (F : Joined) (p : Plan) (s : ServiceDecl) (r : RpcDecl) → IsFormed F → IsClean F → IsPlan F p
+method_made : (F : Joined) (p : TablePlan) (s : ServiceDecl) (r : RpcDecl) → IsFormed F → HasNoViolation F → IsTablePlan F p
     → Contains F.services s → Contains s.rpcs r → Located F s.file p r.input.name → Located F s.file p r.output.name
     → (m : Method) × IsMethodOfPlan F p (s, r) m
 method_made F p s r formed clean plan c d input output =
@@ -135,7 +135,7 @@ method_made F p s r formed clean plan c d input output =
           (output.located T has),
     )
 
-method_exists : (F : Joined) (p : Plan) (x : ServiceDecl × RpcDecl) → IsFormed F → IsClean F → IsPlan F p
+method_exists : (F : Joined) (p : TablePlan) (x : ServiceDecl × RpcDecl) → IsFormed F → HasNoViolation F → IsTablePlan F p
     → Contains (rpcs_of F) x → IsNotRefuted ((m : Method) × IsMethodOfPlan F p x m)
 method_exists F p x formed clean plan at never =
     let h = rpc_here F.services at.0 x.0 x.1 (at_in (rpcs_of F) x at) in
@@ -149,24 +149,24 @@ method_exists F p x formed clean plan at never =
 
 -- ---- the table
 
-message_within : (F : Joined) (p : Plan) → IsPlan F p → (i : ℕ) → Contains p.messages.order.items i
+message_within : (F : Joined) (p : TablePlan) → IsTablePlan F p → (i : ℕ) → Contains p.messages.order.items i
     → i < length F.messages
 message_within F p plan i c =
     let n = length p.messages.names.items in
     let l : i < n = All-contains (λ (k : ℕ). k < n) p.messages.order.items i plan.message_places.order.within c in
     omega (arith, plan.all_messages)
 
-enum_within : (F : Joined) (p : Plan) → IsPlan F p → (i : ℕ) → Contains p.enums.order.items i → i < length F.enums
+enum_within : (F : Joined) (p : TablePlan) → IsTablePlan F p → (i : ℕ) → Contains p.enums.order.items i → i < length F.enums
 enum_within F p plan i c =
     let n = length p.enums.names.items in
     let l : i < n = All-contains (λ (k : ℕ). k < n) p.enums.order.items i plan.enum_places.order.within c in
     omega (arith, plan.all_enums)
 
-pub table_exists : (F : Joined) → IsFormed F → IsOrdered F → IsClean F
-    → IsNotRefuted ((T : Table) × ResolvesTogether F T)
+pub table_exists : (F : Joined) → IsFormed F → IsOrdered F → HasNoViolation F
+    → IsNotRefuted ((T : Table) × AreResolvedTogether F T)
 table_exists F formed ordered clean never =
     let plan = plan_made F formed ordered clean in
-    let p : Plan = plan.0 in
+    let p : TablePlan = plan.0 in
     all_chosen (IsMessageAt F p) p.messages.order.items
     (λ i c. message_exists F p i formed ordered clean plan.1 (message_within F p plan.1 i c))
     (λ messages. all_chosen (IsEnumAt F p) p.enums.order.items
@@ -195,9 +195,9 @@ table_exists F formed ordered clean never =
 
 -- the rank of a violation among all of them
 abbrev turn : ResolveReason → Span → ℕ
-turn q s = s.start * 11 + rank_of q
+turn q s = s.start * 11 + violation_rank q
 
-few_ranks : (q : ResolveReason) → rank_of q ≤ 10
+few_ranks : (q : ResolveReason) → violation_rank q ≤ 10
 few_ranks UnknownName = omega arith
 few_ranks NumberRange = omega arith
 few_ranks DuplicateNumber = omega arith
@@ -217,23 +217,23 @@ in_turn a b m n few also h = elim (cases_lt a b) [
 
 -- if no violation is the first, there is none up to any rank
 none_before : (O : ResolveReason → Span → Type 0)
-    → ((q : ResolveReason) (s : Span) → O q s → ((r : ResolveReason) (t : Span) → O r t → ComesFirst q s r t) → ⊥)
+    → ((q : ResolveReason) (s : Span) → O q s → ((r : ResolveReason) (t : Span) → O r t → IsNoLaterViolation q s r t) → ⊥)
     → (n : ℕ) (q : ResolveReason) (s : Span) → turn q s < n → O q s → ⊥
 none_before O never zero q s l is = omega arith
 none_before O never (suc n) q s l is =
     never q s is
     (λ r t other. elim (cases_lt (turn r t) (turn q s)) [
       | inl sooner ↦ absurd (none_before O never n r t (omega arith) other)
-      | inr later ↦ in_turn s.start t.start (rank_of q) (rank_of r) (few_ranks q) (few_ranks r) later
+      | inr later ↦ in_turn s.start t.start (violation_rank q) (violation_rank r) (few_ranks q) (few_ranks r) later
     ])
 
-pub none_of_all : (F : Joined) → ((q : ResolveReason) (s : Span) → HasFirst F q s → ⊥) → IsClean F
+pub none_of_all : (F : Joined) → ((q : ResolveReason) (s : Span) → HasFirstViolation F q s → ⊥) → HasNoViolation F
 none_of_all F never q s is =
-    none_before (Offends F) (λ r t here first. never r t (record { offence = here; first = first })) (suc (turn q s))
+    none_before (IsViolated F) (λ r t here first. never r t (record { offence = here; first = first })) (suc (turn q s))
     q s (omega arith) is
 
-pub no_offence : (F : File) → ((q : ResolveReason) (s : Span) → HasOffence F q s → ⊥) → (q : ResolveReason) (s : Span)
-    → IsOffence F q s → ⊥
+pub no_offence : (F : File) → ((q : ResolveReason) (s : Span) → HasFirstFileViolation F q s → ⊥) → (q : ResolveReason) (s : Span)
+    → IsFileViolation F q s → ⊥
 no_offence F never q s is =
-    none_before (IsOffence F) (λ r t here first. never r t (record { offence = here; first = first })) (suc (turn q s))
+    none_before (IsFileViolation F) (λ r t here first. never r t (record { offence = here; first = first })) (suc (turn q s))
     q s (omega arith) is

@@ -8,7 +8,7 @@ use Rattle.std.proofs.lemmas.Option.{slice_get_within, get_or_from_slice_get, sl
 use Rattle.std.proofs.lemmas.List.{get_or-map, length-map, length-append}
 use Rattle.std.proofs.lemmas.List.Elements.{Contains-append_cases, All-contains}
 use Rattle.mrpc_table.specs.Text.{table_text}
-use Rattle.mrpc_table.specs.Valid.{Ascends, AreDistinct, IsBelow, IsValid}
+use Rattle.mrpc_table.specs.Valid.{IsAscendingBy, AreDistinct, IsBelow, IsValid}
 use Rattle.mrpc_table.specs.declared.limits.TheConstants.{MAX_METHODS, MAX_TEXT}
 use Rattle.mrpc_table.specs.declared.table.Message.{Message}
 use Rattle.mrpc_table.specs.declared.table.Choices.{Choices}
@@ -24,17 +24,17 @@ use Rattle.proto_ast.specs.Together
 use Rattle.schema_symbols.specs.Scopes
 use Rattle.schema_symbols.specs.Scopes.{a_message, an_enum, no_type, text_of}
 use Rattle.schema_validation.specs.Methods.{rpcs_of, service_rpcs}
-use Rattle.schema_validation.specs.Those.{AreThoseInOrder, none, next}
+use Rattle.schema_validation.specs.Correspondence.{AreCorrespondingInOrder, none, next}
 use Rattle.schema_validation.specs.Members.{too_many_methods}
-use Rattle.schema_validation.specs.Offences
+use Rattle.schema_validation.specs.Violations
 use Rattle.schema_validation.specs.declared.reason.ResolveReason.TheVariants.{DuplicateName, Limit}
 use Rattle.schema_resolve.specs.Tables.{IsMethodOf, IsTableOf}
-use Rattle.schema_resolve.specs.Resolving.{IsClean}
-use Rattle.schema_resolve.specs.Placing.{name_at, IsPlan, HasNames}
+use Rattle.schema_resolve.specs.Resolving.{HasNoViolation}
+use Rattle.schema_resolve.specs.Placing.{name_at_index, IsTablePlan, HasTableNames}
 use Rattle.schema_resolve.specs.InOrder.{IsEnumAt, IsMethodIn}
 use Rattle.schema_resolve.specs.Joining.{IsMessageAt}
 use Rattle.schema_resolve.specs.Making.{IsMadeTable}
-use Rattle.schema_resolve.specs.declared.plan.Plan.{Plan}
+use Rattle.schema_resolve.specs.declared.plan.TablePlan.{TablePlan}
 use Rattle.schema_resolve.proofs.FullNames.{AreNames, package_names, names_more}
 use Rattle.schema_resolve.proofs.Orders.{apart_distinct, ascends_apart, below_trans, below_strict}
 use Rattle.schema_resolve.proofs.CleanFiles.{in_list, at_in, some_at, one_declaration, here_message, here_enum, message_text, enum_text, few_messages, few_enums}
@@ -44,19 +44,19 @@ use Rattle.schema_resolve.proofs.MessageTables.{in_order_weaker, in_order_get, i
 -- ---- in an order
 
 ascends_by : {X Y : Type 0} (Q : X → Y → Type 0) (A : X → X → Type 0) (B : Y → Y → Type 0) {xs : List X} {ys : List Y}
-    → ((x z : X) (y w : Y) → Q x y → Q z w → A x z → B y w) → AreThoseInOrder Q xs ys → Ascends A xs → Ascends B ys
+    → ((x z : X) (y w : Y) → Q x y → Q z w → A x z → B y w) → AreCorrespondingInOrder Q xs ys → IsAscendingBy A xs → IsAscendingBy B ys
 ascends_by Q A B h none a = tt
 ascends_by Q A B h (next r none) a = tt
 ascends_by Q A B h (next {x} {y} r (next {x = z} {y = w} s rest)) a =
     (h x z y w r s a.0, ascends_by Q A B h (next s rest) a.1)
 
-ascends_map : {X Y : Type 0} (f : X → Y) (R : Y → Y → Type 0) (xs : List X) → Ascends (λ a b. R (f a) (f b)) xs
-    → Ascends R (map f xs)
+ascends_map : {X Y : Type 0} (f : X → Y) (R : Y → Y → Type 0) (xs : List X) → IsAscendingBy (λ a b. R (f a) (f b)) xs
+    → IsAscendingBy R (map f xs)
 ascends_map f R [] h = tt
 ascends_map f R (x ∷ []) h = tt
 ascends_map f R (x ∷ y ∷ xs) h = (h.0, ascends_map f R (y ∷ xs) h.1)
 
-names_distinct : {X : Type 0} (name : X → List ℕ) (xs : List X) → Ascends (λ a b. IsBelow (name a) (name b)) xs
+names_distinct : {X : Type 0} (name : X → List ℕ) (xs : List X) → IsAscendingBy (λ a b. IsBelow (name a) (name b)) xs
     → AreDistinct (map name xs)
 names_distinct name xs h =
     apart_distinct (map name xs)
@@ -73,45 +73,45 @@ distinct_append (x ∷ xs) ys a b h = (
   distinct_append xs ys a.1 b (λ y c d. h y (suc c.0, omega (arith, c.1), c.2) d),
 )
 
-in_order_length : {X Y : Type 0} (R : X → Y → Type 0) {xs : List X} {ys : List Y} → AreThoseInOrder R xs ys
+in_order_length : {X Y : Type 0} (R : X → Y → Type 0) {xs : List X} {ys : List Y} → AreCorrespondingInOrder R xs ys
     → length xs ≡ length ys
 in_order_length R none = refl
 in_order_length R (next r rest) = ap suc (in_order_length R rest)
 
 -- ---- names
 
-pub has_names : (F : Joined) (T : Table) (made : IsMadeTable F T) → HasNames made.plan T
+pub has_names : (F : Joined) (T : Table) (made : IsMadeTable F T) → HasTableNames made.plan T
 has_names F T made = record {
-  messages = sym (in_order_map (IsMessageAt F made.plan) (name_at made.plan.messages.names.items)
+  messages = sym (in_order_map (IsMessageAt F made.plan) (name_at_index made.plan.messages.names.items)
       (λ (m : Message). m.name) (λ i m h. sym h.name) made.messages_are);
-  enums = sym (in_order_map (IsEnumAt F made.plan) (name_at made.plan.enums.names.items)
+  enums = sym (in_order_map (IsEnumAt F made.plan) (name_at_index made.plan.enums.names.items)
       (λ (e : Choices). e.name) (λ i e h. sym h.name) made.enums_are);
 }
 
 messages_ascend : (F : Joined) (T : Table) (made : IsMadeTable F T)
-    → Ascends (λ (m n : Message). IsBelow m.name n.name) T.messages
+    → IsAscendingBy (λ (m n : Message). IsBelow m.name n.name) T.messages
 messages_ascend F T made =
     let names = made.plan.messages.names.items in
-    ascends_by (IsMessageAt F made.plan) (λ i j. IsBelow (name_at names i) (name_at names j))
+    ascends_by (IsMessageAt F made.plan) (λ i j. IsBelow (name_at_index names i) (name_at_index names j))
     (λ (m n : Message). IsBelow m.name n.name)
     (λ i j m n p q b. subst (λ (a : List ℕ). IsBelow a n.name) (sym p.name)
-    (subst (λ (a : List ℕ). IsBelow (name_at names i) a) (sym q.name) b)) made.messages_are
+    (subst (λ (a : List ℕ). IsBelow (name_at_index names i) a) (sym q.name) b)) made.messages_are
     made.is_plan.message_places.order.ascend
 
 enums_ascend : (F : Joined) (T : Table) (made : IsMadeTable F T)
-    → Ascends (λ (e f : Choices). IsBelow e.name f.name) T.enums
+    → IsAscendingBy (λ (e f : Choices). IsBelow e.name f.name) T.enums
 enums_ascend F T made =
     let names = made.plan.enums.names.items in
-    ascends_by (IsEnumAt F made.plan) (λ i j. IsBelow (name_at names i) (name_at names j))
+    ascends_by (IsEnumAt F made.plan) (λ i j. IsBelow (name_at_index names i) (name_at_index names j))
     (λ (e f : Choices). IsBelow e.name f.name)
     (λ i j e f p q b. subst (λ (a : List ℕ). IsBelow a f.name) (sym p.name)
-    (subst (λ (a : List ℕ). IsBelow (name_at names i) a) (sym q.name) b)) made.enums_are
+    (subst (λ (a : List ℕ). IsBelow (name_at_index names i) a) (sym q.name) b)) made.enums_are
     made.is_plan.enum_places.order.ascend
 
 -- no enum has the name of a message
-types_apart : (F : Joined) (p : Plan) (i j : ℕ) → IsFormed F → IsOrdered F → IsClean F → IsPlan F p
+types_apart : (F : Joined) (p : TablePlan) (i j : ℕ) → IsFormed F → IsOrdered F → HasNoViolation F → IsTablePlan F p
     → i < length F.enums → j < length F.messages
-    → name_at p.enums.names.items i ≡ name_at p.messages.names.items j → ⊥
+    → name_at_index p.enums.names.items i ≡ name_at_index p.messages.names.items j → ⊥
 types_apart F p i j formed ordered clean plan a b e =
     let x = here_enum F i formed a in
     let y = here_message F j formed b in
@@ -123,7 +123,7 @@ types_apart F p i j formed ordered clean plan a b e =
     ∙ message_text F p.messages.names.items j y plan.messages (omega (arith, plan.all_messages)) []) in
     cc
 
-record EnumHere (F : Joined) (p : Plan) (n : ℕ) (c : Choices) : Type 0 where
+record EnumHere (F : Joined) (p : TablePlan) (n : ℕ) (c : Choices) : Type 0 where
   place : ℕ
   within : place < length F.enums
   is_at : IsEnumAt F p place c
@@ -143,7 +143,7 @@ enum_here F T made k c e =
       is_at = h.2;
     }
 
-record MessageHere (F : Joined) (p : Plan) (n : ℕ) (m : Message) : Type 0 where
+record MessageHere (F : Joined) (p : TablePlan) (n : ℕ) (m : Message) : Type 0 where
   place : ℕ
   within : place < length F.messages
   is_at : IsMessageAt F p place m
@@ -163,7 +163,7 @@ message_here F T made k m e =
       is_at = h.2;
     }
 
-types_distinct : (F : Joined) (T : Table) → IsFormed F → IsOrdered F → IsClean F → IsMadeTable F T
+types_distinct : (F : Joined) (T : Table) → IsFormed F → IsOrdered F → HasNoViolation F → IsMadeTable F T
     → AreDistinct (map (λ (e : Choices). e.name) T.enums ++ map (λ (m : Message). m.name) T.messages)
 types_distinct F T formed ordered clean made =
     let en : Choices → List ℕ = λ e. e.name in
@@ -235,19 +235,19 @@ same_service : (i j : ℕ) → service_decl i ≡ service_decl j → i ≡ j
 same_service i j e = cc
 
 -- if two rpcs of one service have the same name, the later one is a violation
-not_two_rpcs : (F : Joined) (s : ServiceDecl) (k i j : ℕ) (r u : RpcDecl) → IsOrdered F → IsClean F
+not_two_rpcs : (F : Joined) (s : ServiceDecl) (k i j : ℕ) (r u : RpcDecl) → IsOrdered F → HasNoViolation F
     → slice_get F.services k ≡ Some s → slice_get s.rpcs i ≡ Some r → slice_get s.rpcs j ≡ Some u
     → r.name.name ≡ u.name.name → i < j → ⊥
 not_two_rpcs F s k i j r u ordered clean at rat uat name l =
     clean DuplicateName u.name.span
-    (Offences.twice u.name.span
-    (Offences.two_rpcs s r u (in_list F.services k s at) (in_list s.rpcs i r rat) (in_list s.rpcs j u uat) name
+    (Violations.twice u.name.span
+    (Violations.two_rpcs s r u (in_list F.services k s at) (in_list s.rpcs i r rat) (in_list s.rpcs j u uat) name
     (ordered.ascend (rpc_decl k i) (rpc_decl k j) its_name its_name r.name.span u.name.span (Together.rpcs k i j l)
     (Together.rpc k i s r at rat (Order.rpc_name refl)) (Together.rpc k j s u at uat (Order.rpc_name refl))) refl)
     (refl, refl))
 
 -- rpcs of one service with the same name are one
-one_rpc : (F : Joined) (s : ServiceDecl) (k i j : ℕ) (r u : RpcDecl) → IsOrdered F → IsClean F
+one_rpc : (F : Joined) (s : ServiceDecl) (k i j : ℕ) (r u : RpcDecl) → IsOrdered F → HasNoViolation F
     → slice_get F.services k ≡ Some s → slice_get s.rpcs i ≡ Some r → slice_get s.rpcs j ≡ Some u
     → r.name.name ≡ u.name.name → i ≡ j
 one_rpc F s k i j r u ordered clean at rat uat name = elim (cases_order i j) [
@@ -256,7 +256,7 @@ one_rpc F s k i j r u ordered clean at rat uat name = elim (cases_order i j) [
   | inr (inr l) ↦ absurd (not_two_rpcs F s k j i u r ordered clean at uat rat (sym name) l)
 ]
 
-rpcs_apart : (F : Joined) (i j : ℕ) (s t : ServiceDecl) (r u : RpcDecl) → IsFormed F → IsOrdered F → IsClean F
+rpcs_apart : (F : Joined) (i j : ℕ) (s t : ServiceDecl) (r u : RpcDecl) → IsFormed F → IsOrdered F → HasNoViolation F
     → slice_get (rpcs_of F) i ≡ Some (s, r) → slice_get (rpcs_of F) j ≡ Some (t, u)
     → text_of (package_at F s.file ++ s.name.name ∷ []) ≡ text_of (package_at F t.file ++ t.name.name ∷ [])
     → r.name.name ≡ u.name.name → i ≡ j
@@ -284,7 +284,7 @@ rpcs_apart F i j s t r u formed ordered clean a b texts names =
     x.is_place ∙ ap (λ (k : ℕ). length (flat_map service_rpcs (take k F.services)) + x.rpc) place
     ∙ ap (λ (k : ℕ). length (flat_map service_rpcs (take y.service F.services)) + k) rpc ∙ sym y.is_place
 
-methods_distinct : (F : Joined) (T : Table) → IsFormed F → IsOrdered F → IsClean F → IsMadeTable F T
+methods_distinct : (F : Joined) (T : Table) → IsFormed F → IsOrdered F → HasNoViolation F → IsMadeTable F T
     → AreDistinct {X = List ℕ × List ℕ} (map (λ (m : Method). (m.service, m.name)) T.methods)
 methods_distinct F T formed ordered clean made =
     let pair : Method → List ℕ × List ℕ = λ m. (m.service, m.name) in
@@ -306,18 +306,18 @@ methods_distinct F T formed ordered clean made =
     (sym xr.2.is.service ∙ ap (λ (q : List ℕ × List ℕ). q.0) same ∙ yr.2.is.service)
     (sym xr.2.is.name ∙ ap (λ (q : List ℕ × List ℕ). q.1) same ∙ yr.2.is.name))
 
-few_methods : (F : Joined) → IsClean F → length (rpcs_of F) ≤ MAX_METHODS
+few_methods : (F : Joined) → HasNoViolation F → length (rpcs_of F) ≤ MAX_METHODS
 few_methods F clean = elim (cases_lt MAX_METHODS (length (rpcs_of F))) [
   | inl more ↦
       let p = some_at (rpcs_of F) MAX_METHODS more in
-      absurd (clean Limit p.0.1.name.span (Offences.of_method MAX_METHODS p.0.0 p.0.1 p.1
+      absurd (clean Limit p.0.1.name.span (Violations.of_method MAX_METHODS p.0.0 p.0.1 p.1
       (too_many_methods (omega arith) (refl, refl))))
   | inr few ↦ few
 ]
 
 -- ---- the table
 
-pub valid_table : (F : Joined) (T : Table) → IsFormed F → IsOrdered F → IsClean F → IsMadeTable F T
+pub valid_table : (F : Joined) (T : Table) → IsFormed F → IsOrdered F → HasNoViolation F → IsMadeTable F T
     → length (table_text T) ≤ MAX_TEXT → IsValid T
 valid_table F T formed ordered clean made short =
     let has = has_names F T made in
@@ -351,7 +351,7 @@ valid_table F T formed ordered clean made short =
       short = short;
     }
 
-pub made_is_table : (F : Joined) (T : Table) → IsFormed F → IsOrdered F → IsClean F → IsMadeTable F T
+pub made_is_table : (F : Joined) (T : Table) → IsFormed F → IsOrdered F → HasNoViolation F → IsMadeTable F T
     → length (table_text T) ≤ MAX_TEXT → IsTableOf F T
 made_is_table F T formed ordered clean made short =
     let has = has_names F T made in record {

@@ -7,16 +7,16 @@ use Rattle.std.specs.List.{flat_map, AllByRecursion}
 use Rattle.std.proofs.lemmas.Bool.{cases_lt, ltb-true, ltb-false}
 use Rattle.std.proofs.lemmas.List.{length-append, append_assoc}
 use Rattle.std.proofs.lemmas.List.Elements.{All-from_recursion}
-use Rattle.mrpc_table.specs.Valid.{Ascends}
+use Rattle.mrpc_table.specs.Valid.{IsAscendingBy}
 use Rattle.mrpc_table.specs.declared.limits.TheConstants.{MAX_TEXT}
 use Rattle.proto_ast.specs.Order.{its_name}
-use Rattle.proto_ast.specs.Together.{Declaration, IsOrdered, StandsAt}
+use Rattle.proto_ast.specs.Together.{DeclIndex, IsOrdered, IsPartSpan}
 use Rattle.proto_ast.specs.declared.file.Span.{Span}
 use Rattle.proto_ast.specs.Joined.{Joined}
-use Rattle.schema_validation.specs.Lines.{HasLine, PassesAt}
-use Rattle.schema_validation.specs.Offences
+use Rattle.schema_validation.specs.Lines.{HasLine, IsPastTextLimit}
+use Rattle.schema_validation.specs.Violations
 use Rattle.schema_validation.specs.declared.reason.ResolveReason.TheVariants.{Limit}
-use Rattle.schema_resolve.specs.Resolving.{IsClean}
+use Rattle.schema_resolve.specs.Resolving.{HasNoViolation}
 
 -- ---- lines by their starts
 
@@ -73,18 +73,18 @@ sort_total : (es : List Line) → total (sort es) ≡ total es
 sort_total [] = refl
 sort_total (e ∷ es) = insert_total e (sort es) ∙ ap (λ (n : ℕ). length e.1 + n) (sort_total es)
 
-ascends_cond : (b : Bool) (z : Line) (xs ys : List Line) → (b ≡ true → Ascends Starts (z ∷ xs))
-    → (b ≡ false → Ascends Starts (z ∷ ys)) → Ascends Starts (z ∷ cond b xs ys)
+ascends_cond : (b : Bool) (z : Line) (xs ys : List Line) → (b ≡ true → IsAscendingBy Starts (z ∷ xs))
+    → (b ≡ false → IsAscendingBy Starts (z ∷ ys)) → IsAscendingBy Starts (z ∷ cond b xs ys)
 ascends_cond true z xs ys p q = p refl
 ascends_cond false z xs ys p q = q refl
 
-cond_ascends : (b : Bool) (xs ys : List Line) → (b ≡ true → Ascends Starts xs) → (b ≡ false → Ascends Starts ys)
-    → Ascends Starts (cond b xs ys)
+cond_ascends : (b : Bool) (xs ys : List Line) → (b ≡ true → IsAscendingBy Starts xs) → (b ≡ false → IsAscendingBy Starts ys)
+    → IsAscendingBy Starts (cond b xs ys)
 cond_ascends true xs ys p q = p refl
 cond_ascends false xs ys p q = q refl
 
-insert_behind : (z e : Line) (xs : List Line) → Starts z e → AllByRecursion (IsApart e) xs → Ascends Starts (z ∷ xs)
-    → Ascends Starts (z ∷ insert e xs)
+insert_behind : (z e : Line) (xs : List Line) → Starts z e → AllByRecursion (IsApart e) xs → IsAscendingBy Starts (z ∷ xs)
+    → IsAscendingBy Starts (z ∷ insert e xs)
 insert_behind z e [] l h a = (l, tt)
 insert_behind z e (x ∷ xs) l h a =
     ascends_cond (ltb e.0.start x.0.start) z (e ∷ x ∷ xs) (x ∷ insert e xs)
@@ -94,8 +94,8 @@ insert_behind z e (x ∷ xs) l h a =
     let ne : e.0.start ≢ x.0.start = h.0 in
     (a.0, insert_behind x e xs (omega arith) h.1 a.1))
 
-insert_ascends : (e : Line) (xs : List Line) → AllByRecursion (IsApart e) xs → Ascends Starts xs
-    → Ascends Starts (insert e xs)
+insert_ascends : (e : Line) (xs : List Line) → AllByRecursion (IsApart e) xs → IsAscendingBy Starts xs
+    → IsAscendingBy Starts (insert e xs)
 insert_ascends e [] h a = tt
 insert_ascends e (x ∷ xs) h a =
     cond_ascends (ltb e.0.start x.0.start) (e ∷ x ∷ xs) (x ∷ insert e xs)
@@ -105,7 +105,7 @@ insert_ascends e (x ∷ xs) h a =
     let ne : e.0.start ≢ x.0.start = h.0 in
     insert_behind x e xs (omega arith) h.1 a)
 
-sort_ascends : (es : List Line) → StartApart es → Ascends Starts (sort es)
+sort_ascends : (es : List Line) → StartApart es → IsAscendingBy Starts (sort es)
 sort_ascends [] h = tt
 sort_ascends (e ∷ es) h = insert_ascends e (sort es) (sort_all (IsApart e) es h.0) (sort_ascends es h.1)
 
@@ -120,7 +120,7 @@ record Last (xs : List Line) : Type 0 where
   inside : Contains xs line
   behind : AllByRecursion (λ l. l.0.start ≤ line.0.start) xs
 
-last_of : (x : Line) (xs : List Line) → Ascends Starts (x ∷ xs) → Last (x ∷ xs)
+last_of : (x : Line) (xs : List Line) → IsAscendingBy Starts (x ∷ xs) → Last (x ∷ xs)
 last_of x [] a = record { line = x; inside = (0, omega arith, refl); behind = (omega arith, tt) }
 last_of x (y ∷ ys) a =
     let r = last_of y ys a.1 in
@@ -131,13 +131,13 @@ last_of x (y ∷ ys) a =
       behind = (omega arith, r.behind);
     }
 
-pass_from : (F : Joined) (xs : List Line) → IsClean F → AllByRecursion (λ (l : Line). HasLine F l.0 l.1) xs
-    → Ascends Starts xs → MAX_TEXT < total xs → ⊥
+pass_from : (F : Joined) (xs : List Line) → HasNoViolation F → AllByRecursion (λ (l : Line). HasLine F l.0 l.1) xs
+    → IsAscendingBy Starts xs → MAX_TEXT < total xs → ⊥
 pass_from F [] clean h a more = omega arith
 pass_from F (x ∷ xs) clean h a more =
     let r = last_of x xs a in
     let n : length (flat_map (λ (l : Line). l.1) (x ∷ xs)) ≡ total (x ∷ xs) = total_length (x ∷ xs) in
-    let pass : PassesAt F r.line.0 = record {
+    let pass : IsPastTextLimit F r.line.0 = record {
       lines = x ∷ xs;
       are = All-from_recursion (λ (l : Line). HasLine F l.0 l.1) (x ∷ xs) h;
       ascend = a;
@@ -146,18 +146,18 @@ pass_from F (x ∷ xs) clean h a more =
       none_behind = All-from_recursion (λ (l : Line). l.0.start ≤ r.line.0.start) (x ∷ xs) r.behind;
       pass = subst (λ (k : ℕ). MAX_TEXT < k) (sym n) more;
     } in
-    clean Limit r.line.0 (Offences.long_text r.line.0 pass (refl, refl))
+    clean Limit r.line.0 (Violations.long_text r.line.0 pass (refl, refl))
 
 -- ---- lines of declarations
 
 pub record Entry : Type 0 where
-  pub decl : Declaration
+  pub decl : DeclIndex
   pub span : Span
   pub line : List ℕ
 
 pub record IsEntry (F : Joined) (e : Entry) : Type 0 where
   pub has : HasLine F e.span e.line
-  pub stands : StandsAt F e.span e.decl its_name
+  pub stands : IsPartSpan F e.span e.decl its_name
 
 abbrev pub Differ : Entry → Entry → Type 0
 Differ a b = a.decl ≢ b.decl
@@ -195,7 +195,7 @@ entries_total [] = refl
 entries_total (e ∷ es) = ap (λ (n : ℕ). length e.line + n) (entries_total es) ∙ sym (length-append e.line (text_in es))
 
 -- the text of distinct declarations of clean files isn't too long
-pub entries_short : (F : Joined) (es : List Entry) → IsOrdered F → IsClean F → AllByRecursion (IsEntry F) es
+pub entries_short : (F : Joined) (es : List Entry) → IsOrdered F → HasNoViolation F → AllByRecursion (IsEntry F) es
     → AllDiffer es → length (text_in es) ≤ MAX_TEXT
 entries_short F es ordered clean h d = elim (cases_lt MAX_TEXT (length (text_in es))) [
   | inl more ↦

@@ -19,7 +19,7 @@ use Rattle.mrpc_table.specs.declared.table.Choices.{Choices}
 use Rattle.mrpc_table.specs.declared.table.Method.{Method}
 use Rattle.mrpc_table.specs.declared.table.Table.{Table}
 use Rattle.proto_ast.specs.Order
-use Rattle.proto_ast.specs.Together.{Declaration, IsOrdered, enum_decl, field_decl, message_decl, rpc_decl, value_decl}
+use Rattle.proto_ast.specs.Together.{DeclIndex, IsOrdered, enum_decl, field_decl, message_decl, rpc_decl, value_decl}
 use Rattle.proto_ast.specs.declared.file.Span.{Span}
 use Rattle.proto_ast.specs.declared.file.FieldLabel.{FieldLabel}
 use Rattle.proto_ast.specs.declared.file.FieldLabel.TheVariants.{Plain, Optional, Repeated}
@@ -30,21 +30,21 @@ use Rattle.proto_ast.specs.declared.file.EnumDecl.{EnumDecl}
 use Rattle.proto_ast.specs.declared.file.RpcDecl.{RpcDecl}
 use Rattle.proto_ast.specs.declared.file.ServiceDecl.{ServiceDecl}
 use Rattle.proto_ast.specs.Joined.{Joined, package_at}
-use Rattle.proto_ast.specs.declared.joined.Home.TheVariants as home
+use Rattle.proto_ast.specs.declared.joined.Enclosing.TheVariants as home
 use Rattle.proto_ast.specs.Together
 use Rattle.schema_symbols.specs.Scopes.{text_of, IsScope, of_message}
 use Rattle.schema_validation.specs.Methods.{rpcs_of, service_rpcs}
-use Rattle.schema_validation.specs.Those.{AreThoseInOrder, none, next}
-use Rattle.schema_validation.specs.Types.{value_of, isnt_false, single_label, label_in, HasForm, single, a_map}
+use Rattle.schema_validation.specs.Correspondence.{AreCorrespondingInOrder, none, next}
+use Rattle.schema_validation.specs.Types.{signed_value, isnt_false, single_label, label_in, HasShape, single, a_map}
 use Rattle.schema_validation.specs.Lines
 use Rattle.schema_validation.specs.Lines.{HasLine}
 use Rattle.schema_resolve.specs.Tables.{IsFieldOf, IsValueOf}
-use Rattle.schema_resolve.specs.Resolving.{IsClean}
-use Rattle.schema_resolve.specs.Placing.{IsOrder, HasNames}
+use Rattle.schema_resolve.specs.Resolving.{HasNoViolation}
+use Rattle.schema_resolve.specs.Placing.{IsOrder, HasTableNames}
 use Rattle.schema_resolve.specs.InOrder.{IsEnumAt, IsMethodIn}
 use Rattle.schema_resolve.specs.Joining.{IsMessageAt}
 use Rattle.schema_resolve.specs.Making.{IsMadeTable}
-use Rattle.schema_resolve.specs.declared.plan.Plan.{Plan}
+use Rattle.schema_resolve.specs.declared.plan.TablePlan.{TablePlan}
 use Rattle.schema_resolve.proofs.CleanFiles.{in_list, at_in, some_at}
 use Rattle.schema_resolve.proofs.KindWords.{scalar_text}
 use Rattle.schema_resolve.proofs.TextLines.{Entry, IsEntry, Differ, AllDiffer, text_in, entries_short, all_append, differ_append, text_append}
@@ -53,7 +53,7 @@ use Rattle.schema_resolve.proofs.TableParts.{has_names, RpcHere, rpc_here, same_
 
 -- ---- parts of a text
 
-record Part (F : Joined) (text : List ℕ) (P : Declaration → Type 0) : Type 0 where
+record Part (F : Joined) (text : List ℕ) (P : DeclIndex → Type 0) : Type 0 where
   entries : List Entry
   are : AllByRecursion (IsEntry F) entries
   differ : AllDiffer entries
@@ -65,11 +65,11 @@ all_weaker : (P Q : Entry → Type 0) (es : List Entry) → ((e : Entry) → P e
 all_weaker P Q [] h a = tt
 all_weaker P Q (e ∷ es) h a = (h e a.0, all_weaker P Q es h a.1)
 
-no_part : (F : Joined) (P : Declaration → Type 0) → Part F [] P
+no_part : (F : Joined) (P : DeclIndex → Type 0) → Part F [] P
 no_part F P = record { entries = []; are = tt; differ = tt; text_is = refl; owned = tt }
 
-cons_part : (F : Joined) (e : Entry) (text : List ℕ) (P Q : Declaration → Type 0) → IsEntry F e → Part F text P
-    → ((d : Declaration) → P d → e.decl ≡ d → ⊥) → Q e.decl → ((d : Declaration) → P d → Q d)
+cons_part : (F : Joined) (e : Entry) (text : List ℕ) (P Q : DeclIndex → Type 0) → IsEntry F e → Part F text P
+    → ((d : DeclIndex) → P d → e.decl ≡ d → ⊥) → Q e.decl → ((d : DeclIndex) → P d → Q d)
     → Part F (e.line ++ text) Q
 cons_part F e text P Q is p apart own more = record {
   entries = e ∷ p.entries;
@@ -79,8 +79,8 @@ cons_part F e text P Q is p apart own more = record {
   owned = (own, all_weaker (λ x. P x.decl) (λ x. Q x.decl) p.entries (λ x h. more x.decl h) p.owned);
 }
 
-join_parts : (F : Joined) (a b : List ℕ) (P Q R : Declaration → Type 0) → Part F a P → Part F b Q
-    → ((d f : Declaration) → P d → Q f → d ≡ f → ⊥) → ((d : Declaration) → P d → R d) → ((d : Declaration) → Q d → R d)
+join_parts : (F : Joined) (a b : List ℕ) (P Q R : DeclIndex → Type 0) → Part F a P → Part F b Q
+    → ((d f : DeclIndex) → P d → Q f → d ≡ f → ⊥) → ((d : DeclIndex) → P d → R d) → ((d : DeclIndex) → Q d → R d)
     → Part F (a ++ b) R
 join_parts F a b P Q R p q apart l r = record {
   entries = p.entries ++ q.entries;
@@ -97,7 +97,7 @@ join_parts F a b P Q R p q apart l r = record {
 
 -- ---- the values of an enum, the fields of a message
 
-record Found (F : Joined) (D : ℕ → Declaration) {X : Type 0} (xs : List X) (name : X → List ℕ) (own n : List ℕ)
+record Found (F : Joined) (D : ℕ → DeclIndex) {X : Type 0} (xs : List X) (name : X → List ℕ) (own n : List ℕ)
     : Type 0 where
   at : ℕ
   item : X
@@ -106,15 +106,15 @@ record Found (F : Joined) (D : ℕ → Declaration) {X : Type 0} (xs : List X) (
   span : Span
   entry : IsEntry F (record { decl = D at; span = span; line = own })
 
-record Owned (D : ℕ → Declaration) {X : Type 0} (xs : List X) (name : X → List ℕ) (names : List (List ℕ))
-    (d : Declaration) : Type 0 where
+record Owned (D : ℕ → DeclIndex) {X : Type 0} (xs : List X) (name : X → List ℕ) (names : List (List ℕ))
+    (d : DeclIndex) : Type 0 where
   at : ℕ
   item : X
   is : d ≡ D at
   here : slice_get xs at ≡ Some item
   among : Contains names (name item)
 
-items_part : (F : Joined) (D : ℕ → Declaration) {X W : Type 0} (xs : List X) (name : X → List ℕ) (wname wline : W → List ℕ)
+items_part : (F : Joined) (D : ℕ → DeclIndex) {X W : Type 0} (xs : List X) (name : X → List ℕ) (wname wline : W → List ℕ)
     (ws : List W) → ((i j : ℕ) → D i ≡ D j → i ≡ j) → AreDistinct (map wname ws)
     → ((w : W) → Contains ws w → Found F D xs name (wline w) (wname w))
     → Part F (flat_map wline ws) (Owned D xs name (map wname ws))
@@ -145,34 +145,34 @@ items_part F D {X} {W} xs name wname wline (w ∷ ws) one distinct found =
     })
 
 -- the class of the enum, message or service that encloses a declaration, and its index
-abbrev class : Declaration → ℕ
+abbrev class : DeclIndex → ℕ
 class (enum_decl i) = 1
 class (value_decl i j) = 1
 class (message_decl i) = 2
 class (field_decl i j) = 2
 class _ = 3
 
-abbrev place : Declaration → ℕ
+abbrev place : DeclIndex → ℕ
 place (enum_decl i) = i
 place (value_decl i j) = i
 place (message_decl i) = i
 place (field_decl i j) = i
 place _ = 0
 
-abbrev IsAt : ℕ → ℕ → Declaration → Type 0
+abbrev IsAt : ℕ → ℕ → DeclIndex → Type 0
 IsAt c i d = (class d ≡ c) × (place d ≡ i)
 
-abbrev IsAtOne : ℕ → List ℕ → Declaration → Type 0
+abbrev IsAtOne : ℕ → List ℕ → DeclIndex → Type 0
 IsAtOne c is d = (class d ≡ c) × Contains is (place d)
 
 -- ---- enums
 
-value_entry : (F : Joined) (p : Plan) (i : ℕ) (e : EnumDecl) (v : ValueDecl) (j : ℕ) (w : ℤ × List ℕ)
+value_entry : (F : Joined) (p : TablePlan) (i : ℕ) (e : EnumDecl) (v : ValueDecl) (j : ℕ) (w : ℤ × List ℕ)
     → slice_get F.enums i ≡ Some e → slice_get e.values j ≡ Some v → FitsSigned w32 w.0 → IsValueOf v w
     → IsEntry F (record { decl = value_decl i j; span = v.name.span; line = value_line w })
 value_entry F p i e v j w at here fits is =
     let V : ℤ → List ℕ → Type 0 = λ x n. HasLine F v.name.span (value_line (x, n)) in
-    let has : V (value_of v.number) v.name.name =
+    let has : V (signed_value v.number) v.name.name =
     Lines.of_value e v (record { enum = in_list F.enums i e at; value = in_list e.values j v here })
     (subst (FitsSigned w32) is.0 fits) in
     record {
@@ -186,7 +186,7 @@ same_value i j k e = cc
 not_enum_value : (i j k : ℕ) → enum_decl i ≡ value_decl j k → ⊥
 not_enum_value i j k e = cc
 
-enum_part : (F : Joined) (p : Plan) (i : ℕ) (c : Choices) → IsEnumAt F p i c → i < length F.enums
+enum_part : (F : Joined) (p : TablePlan) (i : ℕ) (c : Choices) → IsEnumAt F p i c → i < length F.enums
     → Part F (enum_lines c) (IsAt 1 i)
 enum_part F p i c h l =
     let x = some_at F.enums i l in
@@ -217,7 +217,7 @@ enum_part F p i c h l =
     values (λ d o s. not_enum_value i i o.at (s ∙ o.is)) (refl, refl)
     (λ d o. (ap class o.is, ap place o.is))
 
-enums_part : (F : Joined) (p : Plan) (is : List ℕ) (cs : List Choices) → AreThoseInOrder (IsEnumAt F p) is cs
+enums_part : (F : Joined) (p : TablePlan) (is : List ℕ) (cs : List Choices) → AreCorrespondingInOrder (IsEnumAt F p) is cs
     → AreDistinct is → All (λ i. i < length F.enums) is → Part F (flat_map enum_lines cs) (IsAtOne 1 is)
 enums_part F p is cs none distinct within = no_part F (IsAtOne 1 [])
 enums_part F p is cs (next {x = i} {y = c} {xs} {ys} r rest) distinct within =
@@ -249,7 +249,7 @@ oneof_alike T ns (Some i) l h = refl
 
 -- the text of a label doesn't depend on the table
 pub form_alike : (T : Table) (ns : List (List ℕ)) (F : Joined) (file : ℕ) (scope : List (List ℕ)) (f : FieldDecl) (label : Label)
-    (word : List ℕ) → HasForm F file scope f label word → label_text T ns label ≡ label_text no_table ns label
+    (word : List ℕ) → HasShape F file scope f label word → label_text T ns label ≡ label_text no_table ns label
 form_alike T ns F file scope f label word (single w text im pk is typ) =
     oneof_alike T ns f.oneof (single_label f.label f.packed im pk) (single_alike T ns f.label f.packed im pk)
 form_alike T ns F file scope f label word (a_map key value k text im pk is plain alone_here s keyed typ) =
@@ -289,7 +289,7 @@ same_field i j k e = cc
 not_message_field : (i j k : ℕ) → message_decl i ≡ field_decl j k → ⊥
 not_message_field i j k e = cc
 
-message_part : (F : Joined) (p : Plan) (T : Table) (i : ℕ) (t : Message) → HasNames p T → IsMessageAt F p i t
+message_part : (F : Joined) (p : TablePlan) (T : Table) (i : ℕ) (t : Message) → HasTableNames p T → IsMessageAt F p i t
     → i < length F.messages → Part F (message_lines T t) (IsAt 2 i)
 message_part F p T i t has h l =
     let x = some_at F.messages i l in
@@ -323,8 +323,8 @@ message_part F p T i t has h l =
     fields (λ d o s. not_message_field i i o.at (s ∙ o.is)) (refl, refl)
     (λ d o. (ap class o.is, ap place o.is))
 
-messages_part : (F : Joined) (p : Plan) (T : Table) (is : List ℕ) (ts : List Message) → HasNames p T
-    → AreThoseInOrder (IsMessageAt F p) is ts → AreDistinct is → All (λ i. i < length F.messages) is
+messages_part : (F : Joined) (p : TablePlan) (T : Table) (is : List ℕ) (ts : List Message) → HasTableNames p T
+    → AreCorrespondingInOrder (IsMessageAt F p) is ts → AreDistinct is → All (λ i. i < length F.messages) is
     → Part F (flat_map (message_lines T) ts) (IsAtOne 2 is)
 messages_part F p T is ts has none distinct within = no_part F (IsAtOne 2 [])
 messages_part F p T is ts has (next {x = i} {y = t} {xs} {ys} r rest) distinct within =
@@ -337,7 +337,7 @@ messages_part F p T is ts has (next {x = i} {y = t} {xs} {ys} r rest) distinct w
 
 -- ---- methods
 
-record IsRpcFrom (F : Joined) (n : ℕ) (d : Declaration) : Type 0 where
+record IsRpcFrom (F : Joined) (n : ℕ) (d : DeclIndex) : Type 0 where
   index : ℕ
   from : n ≤ index
   service : ServiceDecl
@@ -373,7 +373,7 @@ one_place F m n s t r u a b e =
     ∙ ap (λ (k : ℕ). length (flat_map service_rpcs (take b.service F.services)) + k) p.1 ∙ sym b.is_place
 
 methods_part : (F : Joined) (T : Table) (n : ℕ) (rs : List (ServiceDecl × RpcDecl)) (ms : List Method)
-    → AreThoseInOrder (IsMethodIn F T) rs ms
+    → AreCorrespondingInOrder (IsMethodIn F T) rs ms
     → ((k i : ℕ) (q : ServiceDecl × RpcDecl) → i ≡ n + k → slice_get rs k ≡ Some q → slice_get (rpcs_of F) i ≡ Some q)
     → Part F (flat_map (method_line T) (enumerate_from n ms)) (IsRpcFrom F n)
 methods_part F T n rs ms none known = no_part F (IsRpcFrom F n)
@@ -406,7 +406,7 @@ order_distinct names order h =
     (λ i j d a b e. (order_all names order h).once i j (get_or order i d) (slice_get-get_or order i d a)
     (slice_get-get_or order j d b ∙ ap Some (sym e)))
 
-pub text_short : (F : Joined) (T : Table) → IsOrdered F → IsClean F → IsMadeTable F T → length (table_text T) ≤ MAX_TEXT
+pub text_short : (F : Joined) (T : Table) → IsOrdered F → HasNoViolation F → IsMadeTable F T → length (table_text T) ≤ MAX_TEXT
 text_short F T ordered clean made =
     let has = has_names F T made in
     let eo : List ℕ = made.plan.enums.order.items in

@@ -2,6 +2,6 @@ pub mod Tables
 pub mod Resolving
 pub mod Placing
 pub mod InOrder
-pub mod Judged
+pub mod ShapedFields
 pub mod Joining
 pub mod Making

@@ -4,7 +4,7 @@ ghost use Rattle.std.specs.Prelude.{◌≡◌};
 ghost use Rattle.schema_resolve.specs.declared.fault.ResolveFault.TheVariants.{At, Memory as NoMemory};
 
 use mrpc_table::Memory;
-use schema_validation::{Offence, ResolveReason};
+use schema_validation::{ResolveReason, Violation};
 use std::alloc::{AllocError, AllocFailed};
 use thiserror::Error;
 
@@ -49,10 +49,10 @@ impl<T: Drop> From<AllocFailed<T>> for ResolveFault {
 }
 
 // The fault of a violation.
-pub(crate) fn fault_of(offence: Offence) -> ResolveFault
+pub(crate) fn fault_of(offence: Violation) -> ResolveFault
     ensures { result ≡ At offence.reason offence.span.start offence.span.end offence.span.line }
 {
-    let Offence { reason, span } = offence;
+    let Violation { reason, span } = offence;
     ResolveFault::At {
         reason,
         start: span.start,

@@ -6,7 +6,7 @@
 //! `mrpc_table` and `thiserror`. The layer above relies on the contracts of [`resolve`], for a file alone, and of
 //! [`resolve_together`]. A table that they return is that of the file or files, and a violation that they return is
 //! the first one. Well-formed files in order, such as all files that were read, have exactly one of the two
-//! ([`table_or_offence`]).
+//! ([`table_or_violation`]).
 #![tactic(auto)]
 
 mod enum_table;
@@ -25,6 +25,6 @@ mod same_text;
 mod table;
 
 pub use fault::ResolveFault;
-pub use laws::{one_offence, one_table, table_or_offence};
+pub use laws::{file_violation_is_unique, resolved_table_is_unique, table_or_violation};
 pub use resolved::resolve_together;
 pub use resolver::resolve;

@@ -1,29 +1,29 @@
 //! The messages of a table.
 
 ghost use Rattle.std.specs.Prelude.{◌≡◌, ◌<◌, ◌^◌, length, IfOk};
-ghost use Rattle.proto_ast.specs.Order.{IsPlaceBelow};
+ghost use Rattle.proto_ast.specs.Order.{IsIndexBelow};
 ghost use Rattle.proto_ast.specs.Together.{IsFormed, IsOrdered};
-ghost use Rattle.schema_resolve.specs.Resolving.{IsClean};
-ghost use Rattle.schema_resolve.specs.Placing.{IsPlan};
-ghost use Rattle.schema_resolve.specs.Joining.{KeepsOneofs, IsLabelled, kind_in, IsInPlan, IsNextField, IsMessageAt};
+ghost use Rattle.schema_resolve.specs.Resolving.{HasNoViolation};
+ghost use Rattle.schema_resolve.specs.Placing.{IsTablePlan};
+ghost use Rattle.schema_resolve.specs.Joining.{HasOneofs, IsLabelled, table_kind, IsInPlan, IsNextField, IsMessageAt};
 
-use crate::field_table::{Judged, by_number};
+use crate::field_table::{ShapedField, by_number};
 use crate::oneof_table::Oneofs;
-use crate::plan::Plan;
+use crate::plan::TablePlan;
 use mrpc_table::{Field, Kind, Label, Memory, Message, Sequence};
 use proto_ast::{Joined, Word};
-use schema_symbols::{Named, Scopes};
+use schema_symbols::{Symbol, SymbolTable};
 use schema_validation::TypeOf;
 use std::alloc::Global;
 
-fn kind_in(plan: &Plan, type_of: TypeOf) -> Kind
+fn table_kind(plan: &TablePlan, type_of: TypeOf) -> Kind
     requires { IsInPlan plan.now type_of }
-    ensures { result ≡ kind_in plan.now type_of }
+    ensures { result ≡ table_kind plan.now type_of }
 {
     match type_of {
         TypeOf::Scalar(kind) => kind,
-        TypeOf::Named(Named::Message(i)) => Kind::Message(plan.messages.places[i]),
-        TypeOf::Named(Named::Enum(i)) => Kind::Choice(plan.enums.places[i]),
+        TypeOf::Named(Symbol::Message(i)) => Kind::Message(plan.messages.places[i]),
+        TypeOf::Named(Symbol::Enum(i)) => Kind::Choice(plan.enums.places[i]),
     }
 }
 
@@ -32,12 +32,12 @@ fn label_in<'a>(
     alloc: Global,
     oneofs: &mut Oneofs,
     words: &[Word],
-    judged: &Judged<'a>,
+    judged: &ShapedField<'a>,
 ) -> Result<Label, Memory>
-    requires keeps { KeepsOneofs words.now oneofs.old }
-    requires oneof { IsPlaceBelow (length words.now) judged.now.decl.now.oneof }
+    requires keeps { HasOneofs words.now oneofs.old }
+    requires oneof { IsIndexBelow (length words.now) judged.now.decl.now.oneof }
     requires few { length oneofs.old.names < 2 ^ 32 }
-    ensures keeps { IfOk result (λ l. KeepsOneofs words.now oneofs.new) }
+    ensures keeps { IfOk result (λ l. HasOneofs words.now oneofs.new) }
     ensures label { IfOk result
         (IsLabelled words.now judged.now.decl.now.oneof judged.now.form.label oneofs.old oneofs.new) }
 {
@@ -49,13 +49,13 @@ fn label_in<'a>(
 
 fn field_in<'a>(
     alloc: Global,
-    plan: &Plan,
+    plan: &TablePlan,
     oneofs: &mut Oneofs,
     words: &[Word],
-    judged: &Judged<'a>,
+    judged: &ShapedField<'a>,
 ) -> Result<Field, Memory>
-    requires keeps { KeepsOneofs words.now oneofs.old }
-    requires oneof { IsPlaceBelow (length words.now) judged.now.decl.now.oneof }
+    requires keeps { HasOneofs words.now oneofs.old }
+    requires oneof { IsIndexBelow (length words.now) judged.now.decl.now.oneof }
     requires few { length oneofs.old.names < 2 ^ 32 }
     requires known { IsInPlan plan.now judged.now.form.type_of }
     ensures { IfOk result (IsNextField plan.now words.now judged.now oneofs.old oneofs.new) }
@@ -65,7 +65,7 @@ fn field_in<'a>(
     Ok(Field {
         number: judged.number,
         name,
-        kind: kind_in(plan, judged.form.type_of),
+        kind: table_kind(plan, judged.form.type_of),
         label,
     })
 }
@@ -74,15 +74,15 @@ fn field_in<'a>(
 pub(crate) fn message_in<'a>(
     alloc: Global,
     files: &Joined<'a>,
-    scopes: &Scopes<'a>,
-    plan: &Plan,
+    scopes: &SymbolTable<'a>,
+    plan: &TablePlan,
     place: usize,
 ) -> Result<Message, Memory>
     requires formed { IsFormed files.now }
     requires ordered { IsOrdered files.now }
     requires scopes { scopes.now ≡ files.now }
-    requires clean { IsClean files.now }
-    requires plan { IsPlan files.now plan.now }
+    requires clean { HasNoViolation files.now }
+    requires plan { IsTablePlan files.now plan.now }
     requires within { place < length files.now.messages }
     ensures { IfOk result (IsMessageAt files.now plan.now place) }
 {

@@ -8,24 +8,24 @@ ghost use Rattle.proto_ast.specs.Together.{IsFormed, IsOrdered};
 ghost use Rattle.proto_ast.specs.Joined.{package_at};
 ghost use Rattle.schema_validation.specs.Methods.{rpcs_of, service_rpcs};
 ghost use Rattle.schema_validation.specs.Members.{IsNoMessage};
-ghost use Rattle.schema_resolve.specs.Resolving.{IsClean};
-ghost use Rattle.schema_resolve.specs.Placing.{AreFronts, IsPlan, HasNames};
+ghost use Rattle.schema_resolve.specs.Resolving.{HasNoViolation};
+ghost use Rattle.schema_resolve.specs.Placing.{ArePackageNames, IsTablePlan, HasTableNames};
 ghost use Rattle.schema_resolve.specs.InOrder.{IsPlaceNamed, IsMethodIn, AreMethods};
 
-use crate::plan::{Plan, behind};
+use crate::plan::{TablePlan, qualified_name};
 use mrpc_table::{Memory, Method, Methods, Sequence};
 use proto_ast::{Joined, RpcDecl, ServiceDecl, Word};
-use schema_symbols::Scopes;
+use schema_symbols::SymbolTable;
 use schema_validation::message_of;
 use std::alloc::Global;
 
 // The index of the message that the type of a file's rpc names.
-fn message_place<'a>(scopes: &Scopes<'a>, file: usize, plan: &Plan, word: &'a Word) -> u32
+fn message_place<'a>(scopes: &SymbolTable<'a>, file: usize, plan: &TablePlan, word: &'a Word) -> u32
     requires file { file < length scopes.now.heads }
     requires ordered { IsOrdered scopes.now }
-    requires plan { IsPlan scopes.now plan.now }
+    requires plan { IsTablePlan scopes.now plan.now }
     requires some { IsNoMessage scopes.now file (package_at scopes.now file) word.now.name → ⊥ }
-    ensures { (T : Table) → HasNames plan.now T → IsPlaceNamed scopes.now file T word.now.name result }
+    ensures { (T : Table) → HasTableNames plan.now T → IsPlaceNamed scopes.now file T word.now.name result }
 {
     match message_of(scopes, file, word) {
         Some(message) => plan.messages.places[message],
@@ -35,26 +35,26 @@ fn message_place<'a>(scopes: &Scopes<'a>, file: usize, plan: &Plan, word: &'a Wo
 
 fn method_in<'a>(
     alloc: Global,
-    scopes: &Scopes<'a>,
-    plan: &Plan,
+    scopes: &SymbolTable<'a>,
+    plan: &TablePlan,
     service: &'a ServiceDecl,
     rpc: &'a RpcDecl,
 ) -> Result<Method, Memory>
     requires formed { IsFormed scopes.now }
     requires ordered { IsOrdered scopes.now }
-    requires clean { IsClean scopes.now }
-    requires fronts { AreFronts scopes.now plan.now.fronts.items }
-    requires plan { IsPlan scopes.now plan.now }
+    requires clean { HasNoViolation scopes.now }
+    requires fronts { ArePackageNames scopes.now plan.now.fronts.items }
+    requires plan { IsTablePlan scopes.now plan.now }
     requires service { Contains scopes.now.services service.now }
     requires rpc { Contains service.now.rpcs rpc.now }
-    ensures { IfOk result (λ m. (T : Table) → HasNames plan.now T
+    ensures { IfOk result (λ m. (T : Table) → HasTableNames plan.now T
         → IsMethodIn scopes.now T (service.now, rpc.now) m) }
 {
     let input = message_place(scopes, service.file, plan, &rpc.input);
     let output = message_place(scopes, service.file, plan, &rpc.output);
     let name = rpc.name.name.copied(alloc)?;
     Ok(Method {
-        service: behind(alloc, &plan.fronts[service.file], &service.name)?,
+        service: qualified_name(alloc, &plan.fronts[service.file], &service.name)?,
         name,
         input,
         output,
@@ -64,16 +64,16 @@ fn method_in<'a>(
 // Appends the methods of a service.
 fn add_methods<'a>(
     alloc: Global,
-    scopes: &Scopes<'a>,
-    plan: &Plan,
+    scopes: &SymbolTable<'a>,
+    plan: &TablePlan,
     service: &'a ServiceDecl,
     methods: &mut Methods,
 ) -> Result<(), Memory>
     requires formed { IsFormed scopes.now }
     requires ordered { IsOrdered scopes.now }
-    requires clean { IsClean scopes.now }
-    requires fronts { AreFronts scopes.now plan.now.fronts.items }
-    requires plan { IsPlan scopes.now plan.now }
+    requires clean { HasNoViolation scopes.now }
+    requires fronts { ArePackageNames scopes.now plan.now.fronts.items }
+    requires plan { IsTablePlan scopes.now plan.now }
     requires service { Contains scopes.now.services service.now }
     ensures { OnOk result ((done : List (ServiceDecl × RpcDecl)) → AreMethods scopes.now plan.now done methods.old
         → AreMethods scopes.now plan.now (done ++ service_rpcs service.now) methods.new) }
@@ -90,15 +90,15 @@ fn add_methods<'a>(
 pub(crate) fn methods_in<'a>(
     alloc: Global,
     files: &Joined<'a>,
-    scopes: &Scopes<'a>,
-    plan: &Plan,
+    scopes: &SymbolTable<'a>,
+    plan: &TablePlan,
 ) -> Result<Methods, Memory>
     requires formed { IsFormed files.now }
     requires ordered { IsOrdered files.now }
     requires scopes { scopes.now ≡ files.now }
-    requires clean { IsClean files.now }
-    requires fronts { AreFronts files.now plan.now.fronts.items }
-    requires plan { IsPlan files.now plan.now }
+    requires clean { HasNoViolation files.now }
+    requires fronts { ArePackageNames files.now plan.now.fronts.items }
+    requires plan { IsTablePlan files.now plan.now }
     ensures { IfOk result (AreMethods files.now plan.now (rpcs_of files.now)) }
 {
     let mut methods = Sequence::new(alloc);

@@ -1,7 +1,7 @@
 //! The oneofs of a message in a table.
 
 ghost use Rattle.std.specs.Prelude.{◌≡◌, ◌<◌, ◌^◌, [], length, IfOk};
-ghost use Rattle.schema_resolve.specs.Joining.{AreUnplaced, KeepsOneofs, HasPlace, IsPlacedOneof};
+ghost use Rattle.schema_resolve.specs.Joining.{AreUnplaced, HasOneofs, HasPlace, IsPlacedOneof};
 
 use mrpc_table::{Memory, Names};
 use proto_ast::Word;
@@ -29,7 +29,7 @@ fn unplaced(alloc: Global, count: usize) -> Result<Vec<Option<u32>>, Memory>
 impl Oneofs {
     // No oneof is added yet.
     pub(crate) fn new(alloc: Global, words: &[Word]) -> Result<Oneofs, Memory>
-        ensures keeps { IfOk result (KeepsOneofs words.now) }
+        ensures keeps { IfOk result (HasOneofs words.now) }
         ensures none { IfOk result (λ o. o.names ≡ []) }
     {
         Ok(Oneofs {
@@ -45,10 +45,10 @@ impl Oneofs {
         words: &[Word],
         i: usize,
     ) -> Result<u32, Memory>
-        requires keeps { KeepsOneofs words.now self.old }
+        requires keeps { HasOneofs words.now self.old }
         requires within { i < length words.now }
         requires few { length self.old.names < 2 ^ 32 }
-        ensures keeps { IfOk result (λ p. KeepsOneofs words.now self.new) }
+        ensures keeps { IfOk result (λ p. HasOneofs words.now self.new) }
         ensures place { IfOk result (HasPlace self.old.names self.new.names) }
         ensures named { IfOk result (IsPlacedOneof words.now self.new.names i) }
     {

@@ -2,7 +2,7 @@
 
 ghost use Rattle.std.specs.Prelude.{◌≡◌, ◌<◌, ◌^◌, length, IfOk, map};
 ghost use Rattle.mrpc_table.specs.Valid.{AreDistinct};
-ghost use Rattle.schema_resolve.specs.Placing.{IsOrder, AreAll, ArePlaces, IsPlaced};
+ghost use Rattle.schema_resolve.specs.Placing.{IsOrder, IsPermutationOfIndices, AreInverseIndices, IsOrderedNames};
 
 use mrpc_table::{Memory, Name};
 use std::alloc::Global;
@@ -52,8 +52,8 @@ fn unplaced(alloc: Global, count: usize) -> Result<Vec<u32>, Memory>
 // The index of each name in an order.
 fn places(alloc: Global, order: &[usize]) -> Result<Vec<u32>, Memory>
     requires few { length order.now < 2 ^ 32 }
-    requires all { AreAll order.now }
-    ensures { IfOk result (λ v. ArePlaces order.now v.items) }
+    requires all { IsPermutationOfIndices order.now }
+    ensures { IfOk result (λ v. AreInverseIndices order.now v.items) }
 {
     let mut places = unplaced(alloc, order.len())?;
     for place in 0..order.len() {
@@ -67,7 +67,7 @@ impl PlacedNames {
     pub(crate) fn new(alloc: Global, names: Vec<Name>) -> Result<PlacedNames, Memory>
         requires few { length names.items < 2 ^ 32 }
         requires distinct { AreDistinct names.items }
-        ensures { IfOk result (IsPlaced names.items) }
+        ensures { IfOk result (IsOrderedNames names.items) }
     {
         let order = order(alloc, names.as_slice())?;
         let places = places(alloc, order.as_slice())?;

@@ -4,17 +4,17 @@ ghost use Rattle.std.specs.Prelude.{◌≡◌, length, IfOk};
 ghost use Rattle.proto_ast.specs.Joined.{package_parts};
 ghost use Rattle.proto_ast.specs.Together.{IsFormed, IsOrdered};
 ghost use Rattle.schema_symbols.specs.Scopes.{text_of};
-ghost use Rattle.schema_resolve.specs.Resolving.{IsClean};
-ghost use Rattle.schema_resolve.specs.Placing.{behind, front_of, AreFronts, IsPlaceAmong, AreMessageNames, AreEnumNames, IsPlan};
+ghost use Rattle.schema_resolve.specs.Resolving.{HasNoViolation};
+ghost use Rattle.schema_resolve.specs.Placing.{qualified_name, enclosing_name, ArePackageNames, IsEnclosingAmong, AreMessageNames, AreEnumNames, IsTablePlan};
 
 use crate::placed::PlacedNames;
 use mrpc_table::{Memory, Name};
-use proto_ast::{Head, Home, Joined, Word};
+use proto_ast::{Enclosing, Head, Joined, Word};
 use std::alloc::Global;
 
 // The full names of messages and enums, and their indices in the table.
 #[derive(Drop)]
-pub(crate) struct Plan {
+pub(crate) struct TablePlan {
     // The names of the files' packages.
     pub fronts: Vec<Name>,
     pub messages: PlacedNames,
@@ -22,8 +22,8 @@ pub(crate) struct Plan {
 }
 
 // A name after the full name that encloses it.
-pub(crate) fn behind(alloc: Global, front: &Name, word: &Word) -> Result<Name, Memory>
-    ensures { IfOk result (λ name. name ≡ behind front.now word.now.name) }
+pub(crate) fn qualified_name(alloc: Global, front: &Name, word: &Word) -> Result<Name, Memory>
+    ensures { IfOk result (λ name. name ≡ qualified_name front.now word.now.name) }
 {
     let mut name = front.copied(alloc)?;
     if !name.is_empty() {
@@ -38,19 +38,19 @@ fn full_name(
     alloc: Global,
     fronts: &[Name],
     messages: &[Name],
-    home: Home,
+    home: Enclosing,
     word: &Word,
 ) -> Result<Name, Memory>
-    requires { IsPlaceAmong (length fronts.now) (length messages.now) home }
-    ensures { IfOk result (λ name. name ≡ behind (front_of fronts.now messages.now home) word.now.name) }
+    requires { IsEnclosingAmong (length fronts.now) (length messages.now) home }
+    ensures { IfOk result (λ name. name ≡ qualified_name (enclosing_name fronts.now messages.now home) word.now.name) }
 {
     match home {
-        Home::Message(i) => behind(alloc, &messages[i], word),
-        Home::File(k) => behind(alloc, &fronts[k], word),
+        Enclosing::Message(i) => qualified_name(alloc, &messages[i], word),
+        Enclosing::File(k) => qualified_name(alloc, &fronts[k], word),
     }
 }
 
-fn front_name(alloc: Global, head: &Head) -> Result<Name, Memory>
+fn package_name_of(alloc: Global, head: &Head) -> Result<Name, Memory>
     ensures { IfOk result (λ name. name ≡ text_of (package_parts head.now.package)) }
 {
     match &head.package {
@@ -59,13 +59,13 @@ fn front_name(alloc: Global, head: &Head) -> Result<Name, Memory>
     }
 }
 
-fn front_names(alloc: Global, files: &Joined<'_>) -> Result<Vec<Name>, Memory>
-    ensures { IfOk result (λ v. AreFronts files.now v.items) }
+fn all_package_names(alloc: Global, files: &Joined<'_>) -> Result<Vec<Name>, Memory>
+    ensures { IfOk result (λ v. ArePackageNames files.now v.items) }
 {
     let heads = files.heads();
     let mut fronts = Vec::with_capacity(alloc, heads.len())?;
     for i in 0..heads.len() {
-        let name = front_name(alloc, &heads[i])?;
+        let name = package_name_of(alloc, &heads[i])?;
         fronts.push(name)?;
     }
     Ok(fronts)
@@ -73,7 +73,7 @@ fn front_names(alloc: Global, files: &Joined<'_>) -> Result<Vec<Name>, Memory>
 
 fn message_names(alloc: Global, files: &Joined<'_>, fronts: &[Name]) -> Result<Vec<Name>, Memory>
     requires formed { IsFormed files.now }
-    requires fronts { AreFronts files.now fronts.now }
+    requires fronts { ArePackageNames files.now fronts.now }
     ensures count { IfOk result (λ v. length v.items ≡ length files.now.messages) }
     ensures names { IfOk result (λ v. AreMessageNames files.now v.items) }
 {
@@ -81,7 +81,13 @@ fn message_names(alloc: Global, files: &Joined<'_>, fronts: &[Name]) -> Result<V
     let mut messages = Vec::with_capacity(alloc, decls.len())?;
     for i in 0..decls.len() {
         let decl = &decls[i];
-        let name = full_name(alloc, fronts, messages.as_slice(), decl.home(), &decl.name)?;
+        let name = full_name(
+            alloc,
+            fronts,
+            messages.as_slice(),
+            decl.enclosing(),
+            &decl.name,
+        )?;
         messages.push(name)?;
     }
     Ok(messages)
@@ -94,7 +100,7 @@ fn enum_names(
     messages: &[Name],
 ) -> Result<Vec<Name>, Memory>
     requires formed { IsFormed files.now }
-    requires fronts { AreFronts files.now fronts.now }
+    requires fronts { ArePackageNames files.now fronts.now }
     requires count { length messages.now ≡ length files.now.messages }
     requires names { AreMessageNames files.now messages.now }
     ensures count { IfOk result (λ v. length v.items ≡ length files.now.enums) }
@@ -104,24 +110,24 @@ fn enum_names(
     let mut enums = Vec::with_capacity(alloc, decls.len())?;
     for i in 0..decls.len() {
         let decl = &decls[i];
-        let name = full_name(alloc, fronts, messages, decl.home(), &decl.name)?;
+        let name = full_name(alloc, fronts, messages, decl.enclosing(), &decl.name)?;
         enums.push(name)?;
     }
     Ok(enums)
 }
 
 // The plan of files without a violation.
-pub(crate) fn plan_of(alloc: Global, files: &Joined<'_>) -> Result<Plan, Memory>
+pub(crate) fn plan_of(alloc: Global, files: &Joined<'_>) -> Result<TablePlan, Memory>
     requires formed { IsFormed files.now }
     requires ordered { IsOrdered files.now }
-    requires clean { IsClean files.now }
-    ensures fronts { IfOk result (λ p. AreFronts files.now p.fronts.items) }
-    ensures plan { IfOk result (IsPlan files.now) }
+    requires clean { HasNoViolation files.now }
+    ensures fronts { IfOk result (λ p. ArePackageNames files.now p.fronts.items) }
+    ensures plan { IfOk result (IsTablePlan files.now) }
 {
-    let fronts = front_names(alloc, files)?;
+    let fronts = all_package_names(alloc, files)?;
     let messages = message_names(alloc, files, fronts.as_slice())?;
     let enums = enum_names(alloc, files, fronts.as_slice(), messages.as_slice())?;
-    Ok(Plan {
+    Ok(TablePlan {
         fronts,
         messages: PlacedNames::new(alloc, messages)?,
         enums: PlacedNames::new(alloc, enums)?,

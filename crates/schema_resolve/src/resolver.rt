@@ -10,12 +10,12 @@ ghost use Rattle.schema_resolve.specs.declared.fault.ResolveFault.TheVariants as
 
 use crate::fault::{ResolveFault, fault_of};
 use crate::head::head_of;
-use crate::laws::one_table;
+use crate::laws::resolved_table_is_unique;
 use crate::table::table_of;
 use mrpc_table::Table;
 use proto_ast::{File, Joined};
-use schema_symbols::Scopes;
-use schema_validation::{first_offence, with_import};
+use schema_symbols::SymbolTable;
+use schema_validation::{first_violation, with_import};
 use std::alloc::Global;
 
 /// Returns the table of a well-formed file in order, such as any file that was read, or its first violation. That is
@@ -38,7 +38,7 @@ pub fn resolve(alloc: Global, file: &File) -> Result<Table, ResolveFault>
     // A returned violation is the file's first one.
     ensures offence { IfErr result (λ e. IsFaultOf file.now e) }
 {
-    one_table();
+    resolved_table_is_unique();
     let heads = head_of(alloc, file)?;
     let files = Joined::new(
         heads.as_slice(),
@@ -46,8 +46,8 @@ pub fn resolve(alloc: Global, file: &File) -> Result<Table, ResolveFault>
         file.enums.as_slice(),
         file.services.as_slice(),
     );
-    let scopes = Scopes::new(alloc, &files)?;
-    let found = first_offence(alloc, &files, &scopes)?;
+    let scopes = SymbolTable::new(alloc, &files)?;
+    let found = first_violation(alloc, &files, &scopes)?;
     match with_import(file, found) {
         Some(offence) => Err(fault_of(offence)),
         None => Ok(table_of(alloc, &files, &scopes)?),

@@ -7,11 +7,11 @@ ghost use Rattle.proto_ast.specs.Joined.{Joined};
 ghost use Rattle.proto_ast.specs.Together.{IsOrdered};
 ghost use Rattle.schema_resolve.specs.Tables.{IsTableOf};
 
-use schema_symbols::one_name;
+use schema_symbols::reference_is_unique;
 
 // Two tables of the same files have the same text.
-pub(crate) fn one_table_text()
+pub(crate) fn table_text_is_determined()
     ensures { (F : Joined) (T U : Table) → IsOrdered F → IsTableOf F T → IsTableOf F U → table_text T ≡ table_text U }
 {
-    one_name();
+    reference_is_unique();
 }

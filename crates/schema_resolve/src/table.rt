@@ -2,10 +2,10 @@
 
 ghost use Rattle.std.specs.Prelude.{◌≡◌, IfOk};
 ghost use Rattle.proto_ast.specs.Together.{IsFormed, IsOrdered};
-ghost use Rattle.schema_validation.specs.Those.{AreThoseInOrder};
+ghost use Rattle.schema_validation.specs.Correspondence.{AreCorrespondingInOrder};
 ghost use Rattle.schema_resolve.specs.Tables.{IsTableOf};
-ghost use Rattle.schema_resolve.specs.Resolving.{IsClean};
-ghost use Rattle.schema_resolve.specs.Placing.{IsPlan};
+ghost use Rattle.schema_resolve.specs.Resolving.{HasNoViolation};
+ghost use Rattle.schema_resolve.specs.Placing.{IsTablePlan};
 ghost use Rattle.schema_resolve.specs.InOrder.{IsEnumAt};
 ghost use Rattle.schema_resolve.specs.Joining.{IsMessageAt};
 ghost use Rattle.schema_resolve.specs.Making.{IsMadeTable};
@@ -13,25 +13,25 @@ ghost use Rattle.schema_resolve.specs.Making.{IsMadeTable};
 use crate::enum_table::enum_in;
 use crate::message_table::message_in;
 use crate::method_table::methods_in;
-use crate::plan::{Plan, plan_of};
+use crate::plan::{TablePlan, plan_of};
 use mrpc_table::{Enums, Memory, Messages, Sequence, Table};
 use proto_ast::Joined;
-use schema_symbols::Scopes;
+use schema_symbols::SymbolTable;
 use std::alloc::Global;
 
 // The messages by ascending name.
 fn messages_in<'a>(
     alloc: Global,
     files: &Joined<'a>,
-    scopes: &Scopes<'a>,
-    plan: &Plan,
+    scopes: &SymbolTable<'a>,
+    plan: &TablePlan,
 ) -> Result<Messages, Memory>
     requires formed { IsFormed files.now }
     requires ordered { IsOrdered files.now }
     requires scopes { scopes.now ≡ files.now }
-    requires clean { IsClean files.now }
-    requires plan { IsPlan files.now plan.now }
-    ensures { IfOk result (AreThoseInOrder (IsMessageAt files.now plan.now) plan.now.messages.order.items) }
+    requires clean { HasNoViolation files.now }
+    requires plan { IsTablePlan files.now plan.now }
+    ensures { IfOk result (AreCorrespondingInOrder (IsMessageAt files.now plan.now) plan.now.messages.order.items) }
 {
     let order = plan.messages.order.as_slice();
     let mut messages = Sequence::with_room(alloc, order.len())?;
@@ -43,12 +43,12 @@ fn messages_in<'a>(
 }
 
 // The enums by ascending name.
-fn enums_in(alloc: Global, files: &Joined<'_>, plan: &Plan) -> Result<Enums, Memory>
+fn enums_in(alloc: Global, files: &Joined<'_>, plan: &TablePlan) -> Result<Enums, Memory>
     requires formed { IsFormed files.now }
     requires ordered { IsOrdered files.now }
-    requires clean { IsClean files.now }
-    requires plan { IsPlan files.now plan.now }
-    ensures { IfOk result (AreThoseInOrder (IsEnumAt files.now plan.now) plan.now.enums.order.items) }
+    requires clean { HasNoViolation files.now }
+    requires plan { IsTablePlan files.now plan.now }
+    ensures { IfOk result (AreCorrespondingInOrder (IsEnumAt files.now plan.now) plan.now.enums.order.items) }
 {
     let order = plan.enums.order.as_slice();
     let mut enums = Sequence::with_room(alloc, order.len())?;
@@ -59,11 +59,15 @@ fn enums_in(alloc: Global, files: &Joined<'_>, plan: &Plan) -> Result<Enums, Mem
     Ok(enums)
 }
 
-fn made_table<'a>(alloc: Global, files: &Joined<'a>, scopes: &Scopes<'a>) -> Result<Table, Memory>
+fn made_table<'a>(
+    alloc: Global,
+    files: &Joined<'a>,
+    scopes: &SymbolTable<'a>,
+) -> Result<Table, Memory>
     requires formed { IsFormed files.now }
     requires ordered { IsOrdered files.now }
     requires scopes { scopes.now ≡ files.now }
-    requires clean { IsClean files.now }
+    requires clean { HasNoViolation files.now }
     ensures { IfOk result (IsMadeTable files.now) }
 {
     let plan = plan_of(alloc, files)?;
@@ -81,12 +85,12 @@ fn made_table<'a>(alloc: Global, files: &Joined<'a>, scopes: &Scopes<'a>) -> Res
 pub(crate) fn table_of<'a>(
     alloc: Global,
     files: &Joined<'a>,
-    scopes: &Scopes<'a>,
+    scopes: &SymbolTable<'a>,
 ) -> Result<Table, Memory>
     requires formed { IsFormed files.now }
     requires ordered { IsOrdered files.now }
     requires scopes { scopes.now ≡ files.now }
-    requires clean { IsClean files.now }
+    requires clean { HasNoViolation files.now }
     ensures { IfOk result (λ t. IsTableOf files.now t) }
 {
     made_table(alloc, files, scopes)

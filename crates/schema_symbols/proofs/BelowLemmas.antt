@@ -8,66 +8,66 @@ use Rattle.std.proofs.lemmas.List.{append_assoc, take_at, take_all, length-take-
 use Rattle.std.proofs.lemmas.List.Elements.{Contains-push_cases, Contains-append_left, Contains-push}
 use Rattle.std.proofs.lemmas.Option.{slice_get_within, slice_get-get_or, get_or_from_slice_get}
 use Rattle.std.specs.Global.{Vec}
-use Rattle.proto_ast.specs.Joined.{Joined, package_at, home_of, enum_home_of}
+use Rattle.proto_ast.specs.Joined.{Joined, package_at, enclosing_of, enclosing_of_enum}
 use Rattle.proto_ast.specs.declared.file.Span.{Span}
-use Rattle.proto_ast.specs.declared.joined.Home.{Home}
-use Rattle.proto_ast.specs.declared.joined.Home.TheVariants as home
+use Rattle.proto_ast.specs.declared.joined.Enclosing.{Enclosing}
+use Rattle.proto_ast.specs.declared.joined.Enclosing.TheVariants as home
 use Rattle.schema_symbols.specs.Scopes.{IsScope, of_file}
-use Rattle.schema_symbols.specs.Numbers.{StandBehind, IsPlace, IsNumber, StandsAt, message, enum}
-use Rattle.schema_symbols.specs.Below.{with_front, is_one, Has, Grows, Notes, Tells, OnlyOwn, IsBusyFrom, IsBusy, AreBusy}
-use Rattle.schema_symbols.specs.declared.named.Named.{Named}
-use Rattle.schema_symbols.specs.declared.below.Below.{Below}
-use Rattle.schema_symbols.specs.declared.below.Below.TheVariants.{Nothing, One, Several}
+use Rattle.schema_symbols.specs.Numbers.{AreWellNested, IsEnclosing, IsScopeNumber, IsSymbolAt, message, enum}
+use Rattle.schema_symbols.specs.Below.{with_prefix, is_one, IsKnownBelow, KnowsMore, KnowsPackage, KnowsBelow, HasOnlyNextPart, IsBusyFrom, IsBusy, AreBusy}
+use Rattle.schema_symbols.specs.declared.symbol.Symbol.{Symbol}
+use Rattle.schema_symbols.specs.declared.below.KnownBelow.{KnownBelow}
+use Rattle.schema_symbols.specs.declared.below.KnownBelow.TheVariants.{Nothing, One, Several}
 use Rattle.schema_symbols.proofs.ScopeLemmas.{last_same, some_at, scope_one, number_full, message_place, enum_place}
 use Rattle.schema_symbols.proofs.NumberLemmas.{front_more}
 
 -- ---- more is known
 
-at_same : (b : Bool) (other scope s : ℕ) → (other == scope) ≡ b → other ≡ s → Has (cond b (One other) Several) s
+at_same : (b : Bool) (other scope s : ℕ) → (other == scope) ≡ b → other ≡ s → IsKnownBelow (cond b (One other) Several) s
 at_same true other scope s e same = same
 at_same false other scope s e same = tt
 
-pub with_has : (b : Below) (scope s : ℕ) → Has b s → Has (with_front b scope) s
+pub with_has : (b : KnownBelow) (scope s : ℕ) → IsKnownBelow b s → IsKnownBelow (with_prefix b scope) s
 with_has Nothing scope s h = absurd h
 with_has (One other) scope s h = at_same (other == scope) other scope s refl h
 with_has Several scope s h = tt
 
-at_new : (b : Bool) (other scope : ℕ) → (other == scope) ≡ b → Has (cond b (One other) Several) scope
+at_new : (b : Bool) (other scope : ℕ) → (other == scope) ≡ b → IsKnownBelow (cond b (One other) Several) scope
 at_new true other scope e = eqb-true other scope e
 at_new false other scope e = tt
 
-pub with_new : (b : Below) (scope : ℕ) → Has (with_front b scope) scope
+pub with_new : (b : KnownBelow) (scope : ℕ) → IsKnownBelow (with_prefix b scope) scope
 with_new Nothing scope = refl
 with_new (One other) scope = at_new (other == scope) other scope refl
 with_new Several scope = tt
 
-pub with_several : (b : Below) (scope : ℕ) → b ≡ Several → with_front b scope ≡ Several
-with_several b scope e = ap (λ (q : Below). with_front q scope) e
+pub with_several : (b : KnownBelow) (scope : ℕ) → b ≡ Several → with_prefix b scope ≡ Several
+with_several b scope e = ap (λ (q : KnownBelow). with_prefix q scope) e
 
-pub grows_more : {xs ys zs : List Below} → Grows xs ys → Grows ys zs → Grows xs zs
+pub grows_more : {xs ys zs : List KnownBelow} → KnowsMore xs ys → KnowsMore ys zs → KnowsMore xs zs
 grows_more g h = record {
   same_length = h.same_length ∙ g.same_length;
   has = λ k s x. h.has k s (g.has k s x);
   several = λ k e. h.several k (g.several k e);
 }
 
-set_cases : (xs : List Below) (i k : ℕ) (b : Below) → i < length xs → ((k ≡ i) × (get_or (set xs i b) k Nothing ≡ b)) ⊎ (get_or (set xs i b) k Nothing ≡ get_or xs k Nothing)
+set_cases : (xs : List KnownBelow) (i k : ℕ) (b : KnownBelow) → i < length xs → ((k ≡ i) × (get_or (set xs i b) k Nothing ≡ b)) ⊎ (get_or (set xs i b) k Nothing ≡ get_or xs k Nothing)
 set_cases xs i k b l =
     ⊎_elim
     (λ (e : k ≡ i). inl (e, subst (λ (j : ℕ). get_or (set xs i b) j Nothing ≡ b) (sym e) (get_or-set_same xs i b Nothing l)))
     (λ (ne : k ≡ i → ⊥). inr (get_or-set_other xs i k b Nothing ne))
     (cases_eq k i)
 
-pub grows_set : (xs : List Below) (i : ℕ) (b : Below) → i < length xs
-    → ((s : ℕ) → Has (get_or xs i Nothing) s → Has b s) → (get_or xs i Nothing ≡ Several → b ≡ Several)
-    → Grows xs (set xs i b)
+pub grows_set : (xs : List KnownBelow) (i : ℕ) (b : KnownBelow) → i < length xs
+    → ((s : ℕ) → IsKnownBelow (get_or xs i Nothing) s → IsKnownBelow b s) → (get_or xs i Nothing ≡ Several → b ≡ Several)
+    → KnowsMore xs (set xs i b)
 grows_set xs i b l has several = record {
   same_length = length-set xs i b;
   has = λ k s h.
       ⊎_elim
       (λ (at : (k ≡ i) × (get_or (set xs i b) k Nothing ≡ b)).
-      subst (λ (q : Below). Has q s) (sym at.1) (has s (subst (λ (j : ℕ). Has (get_or xs j Nothing) s) at.0 h)))
-      (λ (same : get_or (set xs i b) k Nothing ≡ get_or xs k Nothing). subst (λ (q : Below). Has q s) (sym same) h)
+      subst (λ (q : KnownBelow). IsKnownBelow q s) (sym at.1) (has s (subst (λ (j : ℕ). IsKnownBelow (get_or xs j Nothing) s) at.0 h)))
+      (λ (same : get_or (set xs i b) k Nothing ≡ get_or xs k Nothing). subst (λ (q : KnownBelow). IsKnownBelow q s) (sym same) h)
       (set_cases xs i k b l);
   several = λ k e.
       ⊎_elim
@@ -77,17 +77,17 @@ grows_set xs i b l has several = record {
       (set_cases xs i k b l);
 }
 
-pub grows_front : (xs : List Below) (i scope : ℕ) (d : Below) → i < length xs → d ≡ get_or xs i d → Grows xs (set xs i (with_front d scope))
+pub grows_front : (xs : List KnownBelow) (i scope : ℕ) (d : KnownBelow) → i < length xs → d ≡ get_or xs i d → KnowsMore xs (set xs i (with_prefix d scope))
 grows_front xs i scope d l is =
     let e : get_or xs i Nothing ≡ d = get_or_default xs i Nothing d l ∙ sym is in
-    grows_set xs i (with_front d scope) l
-    (λ s h. with_has d scope s (subst (λ (q : Below). Has q s) e h))
+    grows_set xs i (with_prefix d scope) l
+    (λ s h. with_has d scope s (subst (λ (q : KnownBelow). IsKnownBelow q s) e h))
     (λ h. with_several d scope (sym e ∙ h))
 
-pub grows_several : (xs : List Below) (i : ℕ) → i < length xs → Grows xs (set xs i Several)
+pub grows_several : (xs : List KnownBelow) (i : ℕ) → i < length xs → KnowsMore xs (set xs i Several)
 grows_several xs i l = grows_set xs i Several l (λ s h. tt) (λ h. refl)
 
-pub notes_more : {F : Joined} {file : ℕ} {xs ys : List Below} → Grows xs ys → Notes F file xs → Notes F file ys
+pub notes_more : {F : Joined} {file : ℕ} {xs ys : List KnownBelow} → KnowsMore xs ys → KnowsPackage F file xs → KnowsPackage F file ys
 notes_more g n = record {
   next = λ m k l number. let w = n.next m k l number in (w.0, w.1, g.has k w.0 w.2);
   last = λ k number. g.several k (n.last k number);
@@ -96,16 +96,16 @@ notes_more g n = record {
 -- ---- the enclosing scope of a type
 
 pub record TypeHome (F : Joined) (full : List (List ℕ)) : Type 0 where
-  pub its_home : Home
+  pub its_home : Enclosing
   pub outer : List (List ℕ)
   pub name : List ℕ
-  pub place : IsPlace F its_home
+  pub place : IsEnclosing F its_home
   pub up : IsScope F its_home outer
   pub is : full ≡ outer ++ name ∷ []
 
-pub type_home : {F : Joined} {named : Named} {full : List (List ℕ)} {span : Span} → StandBehind F → StandsAt F named full span → TypeHome F full
+pub type_home : {F : Joined} {named : Symbol} {full : List (List ℕ)} {span : Span} → AreWellNested F → IsSymbolAt F named full span → TypeHome F full
 type_home behind (message i m {outer} at up) = record {
-  its_home = home_of m;
+  its_home = enclosing_of m;
   outer = outer;
   name = m.name.name;
   place = message_place behind i m at;
@@ -113,7 +113,7 @@ type_home behind (message i m {outer} at up) = record {
   is = refl;
 }
 type_home behind (enum i e {outer} at up) = record {
-  its_home = enum_home_of e;
+  its_home = enclosing_of_enum e;
   outer = outer;
   name = e.name.name;
   place = enum_place behind i e at;
@@ -122,42 +122,42 @@ type_home behind (enum i e {outer} at up) = record {
 }
 
 -- the enclosing scope of a declaration is known to have more
-pub home_several : {F : Joined} {below : List Below} → Tells F below → (p : Home) (s : List (List ℕ)) (k : ℕ)
-    → IsPlace F p → IsScope F p s → IsNumber F s k → get_or below k Nothing ≡ Several
+pub home_several : {F : Joined} {below : List KnownBelow} → KnowsBelow F below → (p : Enclosing) (s : List (List ℕ)) (k : ℕ)
+    → IsEnclosing F p → IsScope F p s → IsScopeNumber F s k → get_or below k Nothing ≡ Several
 home_several {F} tells (home.File g) s k place up number =
     let e : s ≡ package_at F g = scope_one up (of_file g) in
-    (tells.files g place).last k (subst (λ (q : List (List ℕ)). IsNumber F q k) e number)
+    (tells.files g place).last k (subst (λ (q : List (List ℕ)). IsScopeNumber F q k) e number)
 home_several tells (home.Message i) s k place up number = tells.messages i k s up number
 
 -- ---- only the next part is below
 
-module _ (F : Joined) (below : List Below) (file n k w : ℕ) (behind : StandBehind F) (tells : Tells F below)
+module _ (F : Joined) (below : List KnownBelow) (file n k w : ℕ) (behind : AreWellNested F) (tells : KnowsBelow F below)
     (there : file < length F.heads) (short : n ≤ length (package_at F file))
-    (number : IsNumber F (take n (package_at F file)) k) (one : get_or below k Nothing ≡ One w) where
+    (number : IsScopeNumber F (take n (package_at F file)) k) (one : get_or below k Nothing ≡ One w) where
   not_several : get_or below k Nothing ≡ Several → ⊥
   not_several e = let z : One w ≡ Several = sym one ∙ e in cc
 
-  only_types : (named : Named) (name : List ℕ) (span : Span) → StandsAt F named (take n (package_at F file) ++ name ∷ []) span → ⊥
+  only_types : (named : Symbol) (name : List ℕ) (span : Span) → IsSymbolAt F named (take n (package_at F file) ++ name ∷ []) span → ⊥
   only_types named name span stands =
       let t = type_home behind stands in
       let e = last_same (take n (package_at F file)) t.outer name t.name t.is in
-      not_several (home_several tells t.its_home t.outer k t.place t.up (subst (λ (q : List (List ℕ)). IsNumber F q k) e.0 number))
+      not_several (home_several tells t.its_home t.outer k t.place t.up (subst (λ (q : List (List ℕ)). IsScopeNumber F q k) e.0 number))
 
   less : n < length (package_at F file)
   less =
       ⊎_elim
       (λ (l : n < length (package_at F file)). l)
       (λ (all : length (package_at F file) ≤ n).
-      absurd (not_several ((tells.files file there).last k (subst (λ (q : List (List ℕ)). IsNumber F q k) (take_all n (package_at F file) all) number))))
+      absurd (not_several ((tells.files file there).last k (subst (λ (q : List (List ℕ)). IsScopeNumber F q k) (take_all n (package_at F file) all) number))))
       (cases_lt n (length (package_at F file)))
 
   -- the next prefix of a file whose package starts there
   next_is : (other : ℕ) → other < length F.heads → n < length (package_at F other)
-      → take n (package_at F other) ≡ take n (package_at F file) → IsNumber F (take (n + 1) (package_at F other)) w
+      → take n (package_at F other) ≡ take n (package_at F file) → IsScopeNumber F (take (n + 1) (package_at F other)) w
   next_is other l long same =
-      let v = (tells.files other l).next n k long (subst (λ (q : List (List ℕ)). IsNumber F q k) (sym same) number) in
-      let e : w ≡ v.0 = subst (λ (q : Below). Has q v.0) one v.2 in
-      subst (IsNumber F (take (n + 1) (package_at F other))) (sym e) v.1
+      let v = (tells.files other l).next n k long (subst (λ (q : List (List ℕ)). IsScopeNumber F q k) (sym same) number) in
+      let e : w ≡ v.0 = subst (λ (q : KnownBelow). IsKnownBelow q v.0) one v.2 in
+      subst (IsScopeNumber F (take (n + 1) (package_at F other))) (sym e) v.1
 
   only_fronts : (other : ℕ) (name : List ℕ) (rest : List (List ℕ)) → other < length F.heads
       → package_at F other ≡ take n (package_at F file) ++ name ∷ rest → slice_get (package_at F file) n ≡ Some name
@@ -173,7 +173,7 @@ module _ (F : Joined) (below : List Below) (file n k w : ℕ) (behind : StandBeh
       sym more ∙ number_full (next_is other l long same) (next_is file there less refl) ∙ front_more (package_at F file) n own.0 own.1 in
       own.1 ∙ ap Some (sym (last_same (take n (package_at F file)) (take n (package_at F file)) name own.0 whole).1)
 
-  pub only_own : OnlyOwn F file n
+  pub only_own : HasOnlyNextPart F file n
   only_own = record { no_types = only_types; fronts = only_fronts }
 
 -- ---- the busy prefixes
@@ -186,14 +186,14 @@ busy_none file n past = record {
   others = λ m a b. absurd (omega arith);
 }
 
-pub busy_skip : {F : Joined} {file n : ℕ} {busy : List ℕ} → 0 < n → OnlyOwn F file (n - 1) → IsBusyFrom F file n busy → IsBusyFrom F file (n - 1) busy
+pub busy_skip : {F : Joined} {file n : ℕ} {busy : List ℕ} → 0 < n → HasOnlyNextPart F file (n - 1) → IsBusyFrom F file n busy → IsBusyFrom F file (n - 1) busy
 busy_skip {F} {file} {n} {busy} some only h = record {
   within = h.within;
   above = λ j l. omega (arith, h.above j l);
   descend = h.descend;
   others = λ m a b.
       ⊎_elim
-      (λ (new : m < n). let e : n - 1 ≡ m = omega arith in inr (subst (OnlyOwn F file) e only))
+      (λ (new : m < n). let e : n - 1 ≡ m = omega arith in inr (subst (HasOnlyNextPart F file) e only))
       (λ (old : n ≤ m). h.others m old b)
       (cases_lt m n);
 }
@@ -230,7 +230,7 @@ busy_more {F} {file} {n} {busy} some short h =
           (λ (old : n ≤ m).
           ⊎_elim
           (λ (c : Contains busy m). inl (Contains-append_left busy ((n - 1) ∷ []) m c))
-          (λ (only : OnlyOwn F file m). inr only)
+          (λ (only : HasOnlyNextPart F file m). inr only)
           (h.others m old b))
           (cases_lt m n);
     }
@@ -238,7 +238,7 @@ busy_more {F} {file} {n} {busy} some short h =
 pub busy_all : {F : Joined} {file n : ℕ} {busy : List ℕ} → n ≡ 0 → IsBusyFrom F file n busy → IsBusy F file busy
 busy_all e h = record { within = h.within; descend = h.descend; others = λ m b. h.others m (omega arith) b }
 
-pub is_one_of : (b : Below) → is_one b ≡ true → (w : ℕ) × (b ≡ One w)
+pub is_one_of : (b : KnownBelow) → is_one b ≡ true → (w : ℕ) × (b ≡ One w)
 is_one_of Nothing e = absurd cc
 is_one_of (One w) e = (w, refl)
 is_one_of Several e = absurd cc

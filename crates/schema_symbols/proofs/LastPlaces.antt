@@ -12,7 +12,7 @@ use Rattle.std.proofs.lemmas.Cmp.{tied_itself, nat_list_cmp_total}
 use Rattle.std.proofs.lemmas.Map.Lookups.{exact_bytes}
 use Rattle.std.proofs.lemmas.Option.{slice_get_within}
 use Rattle.std.proofs.lemmas.List.{take_more, length_push, length-take-le, length-map, get_or_default}
-use Rattle.schema_symbols.specs.Parts.{KnowsLast, IsLast, last_in, values_of}
+use Rattle.schema_symbols.specs.Parts.{KnowsLastIndices, IsLastIndex, last_in, values_of}
 use Rattle.schema_symbols.proofs.ListParts.{part_at}
 
 get_push : (xs : List (List ℕ)) (x q : List ℕ) (j : ℕ) → slice_get (xs ++ x ∷ []) j ≡ Some q → (slice_get xs j ≡ Some q) ⊎ ((j ≡ length xs) × (x ≡ q))
@@ -32,7 +32,7 @@ get_last [] x = refl
 get_last (y ∷ ys) x = get_last ys x
 
 abbrev Known : List (List ℕ) → List ℕ → Option ℕ → Type 0
-Known xs q o = MatchOption o ((i : ℕ) → slice_get xs i ≡ Some q → ⊥) (IsLast xs q)
+Known xs q o = MatchOption o ((i : ℕ) → slice_get xs i ≡ Some q → ⊥) (IsLastIndex xs q)
 
 carry : (xs : List (List ℕ)) (x q : List ℕ) (o : Option ℕ) → x ≢ q → Known xs q o → Known (xs ++ x ∷ []) q o
 carry xs x q None apart none = λ i e.
@@ -65,20 +65,20 @@ other_bytes x q e same =
     cc
 
 pub last_push : (xs : List (List ℕ)) (x : List ℕ) (i : ℕ) (m n : BTreeMap (Bor (List ℕ)) ℕ) → i ≡ length xs
-    → KnowsLast xs m → ((q : List ℕ) → last_in n q ≡ cond (is_eq (slice_cmp nat_cmp x q)) (Some i) (last_in m q))
-    → KnowsLast (xs ++ x ∷ []) n
+    → KnowsLastIndices xs m → ((q : List ℕ) → last_in n q ≡ cond (is_eq (slice_cmp nat_cmp x q)) (Some i) (last_in m q))
+    → KnowsLastIndices (xs ++ x ∷ []) n
 last_push xs x i m n count known changed q =
     pick (is_eq (slice_cmp nat_cmp x q)) xs x q i (last_in m q) (last_in n q) count (same_bytes x q) (other_bytes x q) (changed q) (known q)
 
 -- the next part of a list
 pub last_next : (ps : List (Bor (List ℕ))) (i : ℕ) (d : Bor (List ℕ)) (m n : BTreeMap (Bor (List ℕ)) ℕ)
-    → i < length ps → KnowsLast (take i (values_of ps)) m
+    → i < length ps → KnowsLastIndices (take i (values_of ps)) m
     → ((q : List ℕ) → last_in n q ≡ cond (is_eq (slice_cmp nat_cmp (get_or ps i d).now q)) (Some i) (last_in m q))
-    → KnowsLast (take (i + 1) (values_of ps)) n
+    → KnowsLastIndices (take (i + 1) (values_of ps)) n
 last_next ps i d m n l known changed =
     let is : get_or ps i d ≡ get_or ps i (get_or ps i d) = get_or_default ps i d (get_or ps i d) l in
     let all : length (values_of ps) ≡ length ps = length-map ps (λ (p : Bor (List ℕ)). p.now) in
     let more : take (i + 1) (values_of ps) ≡ take i (values_of ps) ++ (get_or ps i d).now ∷ [] =
     take_more (values_of ps) i [] (omega arith) ∙ ap (λ (x : List ℕ). take i (values_of ps) ++ x ∷ []) (part_at ps (values_of ps) refl i (get_or ps i d) l is) in
     let count : i ≡ length (take i (values_of ps)) = sym (length-take-le i (values_of ps) (omega arith)) in
-    subst (λ (xs : List (List ℕ)). KnowsLast xs n) (sym more) (last_push (take i (values_of ps)) (get_or ps i d).now i m n count known changed)
+    subst (λ (xs : List (List ℕ)). KnowsLastIndices xs n) (sym more) (last_push (take i (values_of ps)) (get_or ps i d).now i m n count known changed)

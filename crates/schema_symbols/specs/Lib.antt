@@ -1,12 +1,12 @@
 pub mod Below
 pub mod Children
 pub mod Deepest
-pub mod Finding
-pub mod Known
+pub mod Lookups
+pub mod PackagePrefixes
 pub mod Numbered
 pub mod Numbers
 pub mod Parts
-pub mod PlacesKept
+pub mod ScopeIndicesKept
 pub mod Scopes
-pub mod ScopesKept
+pub mod SymbolTableKept
 pub mod Types

@@ -2,14 +2,14 @@
 
 ghost use Rattle.std.specs.Prelude.{◌≡◌, ◌+◌, ◌<◌, ◌++◌, ◌∷◌, [], ℕ, List, Some, None, IfOk, OnOk, length, cond};
 ghost use Rattle.std.specs.Option.{unwrap_or};
-ghost use Rattle.schema_symbols.specs.Numbers.{StandBehind, fronts_before, fronts, scope_count};
+ghost use Rattle.schema_symbols.specs.Numbers.{AreWellNested, prefixes_before, all_prefix_count, scope_count};
 ghost use Rattle.schema_symbols.specs.Children.{child, same_child};
-ghost use Rattle.schema_symbols.specs.Numbered.{IsNumbered, AreDepths, IsPackage, ArePackages, number_at, IsWithin};
+ghost use Rattle.schema_symbols.specs.Numbered.{HasNumberedScopes, AreDepths, IsPackage, ArePackages, scope_number_of, HasScopeNumber};
 
 use crate::children::Children;
 use crate::parts::{last_places, package_parts};
 use mrpc_table::Memory;
-use proto_ast::{Home, Joined};
+use proto_ast::{Enclosing, Joined};
 use std::alloc::Global;
 use std::collections::BTreeMap;
 
@@ -70,13 +70,18 @@ impl<'a> Numbering<'a> {
 }
 
 // The number of the scope inside a file or a message.
-pub(crate) fn number_in(packages: &[Package], fronts: usize, numbers: &[usize], home: Home) -> usize
-    requires { IsWithin packages.now fronts numbers.now home }
-    ensures { result ≡ number_at packages.now fronts numbers.now home }
+pub(crate) fn number_in(
+    packages: &[Package],
+    fronts: usize,
+    numbers: &[usize],
+    home: Enclosing,
+) -> usize
+    requires { HasScopeNumber packages.now fronts numbers.now home }
+    ensures { result ≡ scope_number_of packages.now fronts numbers.now home }
 {
     match home {
-        Home::File(file) => packages[file].number,
-        Home::Message(message) => numbers[fronts + message],
+        Enclosing::File(file) => packages[file].number,
+        Enclosing::Message(message) => numbers[fronts + message],
     }
 }
 
@@ -89,11 +94,11 @@ fn number_package<'a>(
     depths: &mut Vec<usize>,
 ) -> Result<Package<'a>, Memory>
     requires there { file < length files.now.heads }
-    requires numbers { IsNumbered files.now (fronts_before files.now file) numbering.old }
-    requires depths { AreDepths files.now (fronts_before files.now file) depths.old.items }
+    requires numbers { HasNumberedScopes files.now (prefixes_before files.now file) numbering.old }
+    requires depths { AreDepths files.now (prefixes_before files.now file) depths.old.items }
     ensures package { IfOk result (IsPackage files.now file) }
-    ensures numbers { OnOk result (IsNumbered files.now (fronts_before files.now (file + 1)) numbering.new) }
-    ensures depths { OnOk result (AreDepths files.now (fronts_before files.now (file + 1)) depths.new.items) }
+    ensures numbers { OnOk result (HasNumberedScopes files.now (prefixes_before files.now (file + 1)) numbering.new) }
+    ensures depths { OnOk result (AreDepths files.now (prefixes_before files.now (file + 1)) depths.new.items) }
 {
     let head = &files.heads()[file];
     let parts = package_parts(alloc, &head.package)?;
@@ -121,11 +126,11 @@ pub(crate) fn number_packages<'a>(
     numbering: &mut Numbering<'a>,
     depths: &mut Vec<usize>,
 ) -> Result<Vec<Package<'a>>, Memory>
-    requires numbers { IsNumbered files.now 0 numbering.old }
+    requires numbers { HasNumberedScopes files.now 0 numbering.old }
     requires depths { AreDepths files.now 0 depths.old.items }
     ensures packages { IfOk result (λ v. ArePackages files.now (length files.now.heads) v.items) }
-    ensures numbers { OnOk result (IsNumbered files.now (fronts files.now) numbering.new) }
-    ensures depths { OnOk result (AreDepths files.now (fronts files.now) depths.new.items) }
+    ensures numbers { OnOk result (HasNumberedScopes files.now (all_prefix_count files.now) numbering.new) }
+    ensures depths { OnOk result (AreDepths files.now (all_prefix_count files.now) depths.new.items) }
 {
     let count = files.heads().len();
     let mut packages = Vec::with_capacity(alloc, count)?;
@@ -141,16 +146,16 @@ pub(crate) fn number_messages<'a>(
     packages: &[Package],
     numbering: &mut Numbering<'a>,
 ) -> Result<(), Memory>
-    requires behind { StandBehind files.now }
+    requires behind { AreWellNested files.now }
     requires packages { ArePackages files.now (length files.now.heads) packages.now }
-    requires numbers { IsNumbered files.now (fronts files.now) numbering.old }
-    ensures { OnOk result (IsNumbered files.now (scope_count files.now) numbering.new) }
+    requires numbers { HasNumberedScopes files.now (all_prefix_count files.now) numbering.old }
+    ensures { OnOk result (HasNumberedScopes files.now (scope_count files.now) numbering.new) }
 {
     let fronts = numbering.numbers.len();
     let messages = files.messages();
     for i in 0..messages.len() {
         let message = &messages[i];
-        let outer = number_in(packages, fronts, &numbering.numbers, message.home());
+        let outer = number_in(packages, fronts, &numbering.numbers, message.enclosing());
         numbering.list(outer, message.name.name.as_slice())?;
     }
     Ok(())

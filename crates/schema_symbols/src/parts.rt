@@ -3,9 +3,9 @@
 ghost use Rattle.std.specs.Prelude.{◌≡◌, ◌≢◌, ◌∷◌, ℕ, List, Some, IfOk, OnOk, MatchOption, cond};
 ghost use Rattle.mrpc_table.specs.Names.{parts_of};
 ghost use Rattle.proto_ast.specs.Joined.{package_parts};
-ghost use Rattle.schema_symbols.specs.Parts.{KnowsLast, last_in, is_same, values_of};
+ghost use Rattle.schema_symbols.specs.Parts.{KnowsLastIndices, last_in, is_same_name, values_of};
 
-use mrpc_table::{Memory, cut};
+use mrpc_table::{Memory, split_once};
 use proto_ast::Word;
 use std::alloc::Global;
 use std::collections::BTreeMap;
@@ -24,7 +24,7 @@ pub(crate) fn after_dot(name: &[u8]) -> Option<&[u8]>
 pub(crate) fn first_part(name: &[u8]) -> &[u8]
     ensures { (others : List (List ℕ)) × (parts_of name.now ≡ result.now ∷ others) }
 {
-    match cut(name, b'.') {
+    match split_once(name, b'.') {
         Some((part, _)) => part,
         None => name,
     }
@@ -36,7 +36,7 @@ fn name_parts(alloc: Global, name: &[u8]) -> Result<Vec<&[u8]>, Memory>
 {
     let mut parts = Vec::new(alloc);
     let mut rest = name;
-    while let Some((part, others)) = cut(rest, b'.') {
+    while let Some((part, others)) = split_once(rest, b'.') {
         parts.push(part)?;
         rest = others;
     }
@@ -61,7 +61,7 @@ fn put_last<'a>(
     place: usize,
 ) -> Result<(), Memory>
     ensures { OnOk result ((q : List ℕ) → last_in places.new q
-        ≡ cond (is_same part.now q) (Some place) (last_in places.old q)) }
+        ≡ cond (is_same_name part.now q) (Some place) (last_in places.old q)) }
 {
     places.insert(part, place)?;
     Ok(())
@@ -72,7 +72,7 @@ pub(crate) fn last_places<'a>(
     alloc: Global,
     parts: &[&'a [u8]],
 ) -> Result<BTreeMap<&'a [u8], usize>, Memory>
-    ensures { IfOk result (KnowsLast (values_of parts.now)) }
+    ensures { IfOk result (KnowsLastIndices (values_of parts.now)) }
 {
     let mut places = BTreeMap::new(alloc);
     for i in 0..parts.len() {

@@ -14,12 +14,12 @@ use Rattle.std.proofs.lemmas.List.Elements.{Contains-append_left, Contains-push,
 use Rattle.std.proofs.lemmas.List.{get_or_default}
 use Rattle.std.proofs.lemmas.Option.{same_Some, slice_get_read}
 use Rattle.proto_ast.specs.declared.file.Span.{Span}
-use Rattle.schema_validation.specs.Meeting.{first_of, Meets, OfFirst, OfElement}
-use Rattle.schema_validation.specs.Entries.{Entry, StartsBefore, IsBefore, start_in, AreStarts, IsLater, entry_of, entries_of}
+use Rattle.schema_validation.specs.Recording.{first_violation_of, HasRecorded, IsOfFirst, IsOfElement}
+use Rattle.schema_validation.specs.Entries.{NameEntry, HasEarlierStart, IsEarlierThan, start_in, AreStarts, IsRedeclared, name_entry_of, entries_of}
 use Rattle.schema_validation.specs.declared.reason.ResolveReason.{ResolveReason}
 use Rattle.schema_validation.specs.declared.reason.ResolveReason.TheVariants.{DuplicateName}
-use Rattle.schema_validation.specs.declared.first.First.{First}
-use Rattle.schema_validation.specs.declared.names.Declared.{Declared}
+use Rattle.schema_validation.specs.declared.first.FirstViolation.{FirstViolation}
+use Rattle.schema_validation.specs.declared.names.DeclaredName.{DeclaredName}
 use Rattle.schema_validation.specs.declared.names.Starts.{Starts}
 use Rattle.schema_validation.proofs.Meetings.{meets_when, meets_next}
 use Rattle.schema_validation.proofs.EntryLists.{mapped_get}
@@ -46,8 +46,8 @@ same_from a x k y e f =
     subst (λ (b : ℕ). same_child a x b y ≡ true) e
     (subst (λ (z : List ℕ). same_child a x a z ≡ true) f (same_itself a x))
 
-starts_wider : (es : List Entry) (d : Entry) (k : ℕ) (name : List ℕ) (place : ℕ) → StartsBefore es k name place
-    → StartsBefore (es ++ d ∷ []) k name place
+starts_wider : (es : List NameEntry) (d : NameEntry) (k : ℕ) (name : List ℕ) (place : ℕ) → HasEarlierStart es k name place
+    → HasEarlierStart (es ++ d ∷ []) k name place
 starts_wider es d k name place s = record {
   earlier = s.earlier;
   among = Contains-append_left es (d ∷ []) s.earlier s.among;
@@ -56,9 +56,9 @@ starts_wider es d k name place s = record {
   before = s.before;
 }
 
-starts_split : (es : List Entry) (d : Entry) (k : ℕ) (name : List ℕ) (place : ℕ)
-    → StartsBefore (es ++ d ∷ []) k name place
-    → StartsBefore es k name place ⊎ ((d.scope ≡ k) × (d.name ≡ name) × (d.span.start < place))
+starts_split : (es : List NameEntry) (d : NameEntry) (k : ℕ) (name : List ℕ) (place : ℕ)
+    → HasEarlierStart (es ++ d ∷ []) k name place
+    → HasEarlierStart es k name place ⊎ ((d.scope ≡ k) × (d.name ≡ name) × (d.span.start < place))
 starts_split es d k name place s = elim (Contains-push_cases es d s.earlier s.among) [
   | inl c ↦ inl (record {
     earlier = s.earlier;
@@ -68,32 +68,32 @@ starts_split es d k name place s = elim (Contains-push_cases es d s.earlier s.am
     before = s.before;
   })
   | inr e ↦ inr (
-    ap (λ (x : Entry). x.scope) e ∙ s.in_scope,
-    ap (λ (x : Entry). x.name) e ∙ s.named,
-    subst (λ (x : Entry). x.span.start < place) (sym e) s.before,
+    ap (λ (x : NameEntry). x.scope) e ∙ s.in_scope,
+    ap (λ (x : NameEntry). x.name) e ∙ s.named,
+    subst (λ (x : NameEntry). x.span.start < place) (sym e) s.before,
   )
 ]
 
-is_first : (o : Option ℕ) (start place : ℕ) → o ≡ Some start → IsBefore o place → start < place
+is_first : (o : Option ℕ) (start place : ℕ) → o ≡ Some start → IsEarlierThan o place → start < place
 is_first o start place e b =
     let same : b.first ≡ start = same_Some b.first start (sym b.is ∙ e) in
     let l : b.first < place = b.before in
     omega arith
 
-module _ (old new : Starts) (es : List Entry) (d : Entry) (start : ℕ)
-    (lesser : (place : ℕ) → (start < place) ↔ (IsBefore (start_in old d.scope d.name) place ⊎ (d.span.start < place)))
+module _ (old new : Starts) (es : List NameEntry) (d : NameEntry) (start : ℕ)
+    (lesser : (place : ℕ) → (start < place) ↔ (IsEarlierThan (start_in old d.scope d.name) place ⊎ (d.span.start < place)))
     (put : (k : ℕ) (name : List ℕ)
     → start_in new k name ≡ cond (same_child d.scope d.name k name) (Some start) (start_in old k name))
     (known : AreStarts es old) where
   abbrev Agrees : ℕ → List ℕ → Type 0
-  Agrees k name = (place : ℕ) → IsBefore (start_in new k name) place ↔ StartsBefore (es ++ d ∷ []) k name place
+  Agrees k name = (place : ℕ) → IsEarlierThan (start_in new k name) place ↔ HasEarlierStart (es ++ d ∷ []) k name place
 
   own_start : start_in new d.scope d.name ≡ Some start
   own_start =
       put d.scope d.name
       ∙ ap (λ (b : Bool). cond b (Some start) (start_in old d.scope d.name)) (same_itself d.scope d.name)
 
-  own_to : (place : ℕ) → IsBefore (start_in new d.scope d.name) place → StartsBefore (es ++ d ∷ []) d.scope d.name place
+  own_to : (place : ℕ) → IsEarlierThan (start_in new d.scope d.name) place → HasEarlierStart (es ++ d ∷ []) d.scope d.name place
   own_to place b = elim ((lesser place).0 (is_first (start_in new d.scope d.name) start place own_start b)) [
     | inl p ↦ starts_wider es d d.scope d.name place ((known d.scope d.name place).0 p)
     | inr p ↦ record {
@@ -105,8 +105,8 @@ module _ (old new : Starts) (es : List Entry) (d : Entry) (start : ℕ)
     }
   ]
 
-  own_from : (place : ℕ) → StartsBefore (es ++ d ∷ []) d.scope d.name place
-      → IsBefore (start_in new d.scope d.name) place
+  own_from : (place : ℕ) → HasEarlierStart (es ++ d ∷ []) d.scope d.name place
+      → IsEarlierThan (start_in new d.scope d.name) place
   own_from place s =
       let l : start < place = elim (starts_split es d d.scope d.name place s) [
         | inl p ↦ (lesser place).1 (inl ((known d.scope d.name place).1 p))
@@ -122,9 +122,9 @@ module _ (old new : Starts) (es : List Entry) (d : Entry) (start : ℕ)
       let same : start_in new k name ≡ start_in old k name =
       put k name ∙ ap (λ (b : Bool). cond b (Some start) (start_in old k name)) apart in (
         λ b. starts_wider es d k name place
-            ((known k name place).0 (subst (λ (o : Option ℕ). IsBefore o place) same b)),
+            ((known k name place).0 (subst (λ (o : Option ℕ). IsEarlierThan o place) same b)),
         λ s. elim (starts_split es d k name place s) [
-          | inl p ↦ subst (λ (o : Option ℕ). IsBefore o place) (sym same) ((known k name place).1 p)
+          | inl p ↦ subst (λ (o : Option ℕ). IsEarlierThan o place) (sym same) ((known k name place).1 p)
           | inr p ↦ absurd (false≢true (sym apart ∙ same_from d.scope d.name k name p.0 p.1))
         ],
       )
@@ -140,23 +140,23 @@ module _ (old new : Starts) (es : List Entry) (d : Entry) (start : ℕ)
 
 -- ---- a name that also starts earlier
 
-module _ (names : List Declared) (starts : Starts) (known : AreStarts (entries_of names) starts) where
-  abbrev Later : ℕ → Entry → ResolveReason → Span → Type 0
-  Later = IsLater (entries_of names)
+module _ (names : List DeclaredName) (starts : Starts) (known : AreStarts (entries_of names) starts) where
+  abbrev Later : ℕ → NameEntry → ResolveReason → Span → Type 0
+  Later = IsRedeclared (entries_of names)
 
   -- the next name is checked
-  pub meets_later : (i : ℕ) (d : Declared) (later : Bool) (a b c : First) → i < length names
+  pub meets_later : (i : ℕ) (d : DeclaredName) (later : Bool) (a b c : FirstViolation) → i < length names
       → ((later ≡ true)
-      ↔ IsBefore (start_in starts (get_or names i d).scope (get_or names i d).name.now) (get_or names i d).span.start)
+      ↔ IsEarlierThan (start_in starts (get_or names i d).scope (get_or names i d).name.now) (get_or names i d).span.start)
       → c.found
-      ≡ cond later (Some (first_of b.found (record { reason = DuplicateName; span = (get_or names i d).span }))) b.found
-      → Meets (OfFirst i (OfElement (entries_of names) Later)) a b
-      → Meets (OfFirst (i + 1) (OfElement (entries_of names) Later)) a c
+      ≡ cond later (Some (first_violation_of b.found (record { reason = DuplicateName; span = (get_or names i d).span }))) b.found
+      → HasRecorded (IsOfFirst i (IsOfElement (entries_of names) Later)) a b
+      → HasRecorded (IsOfFirst (i + 1) (IsOfElement (entries_of names) Later)) a c
   meets_later i d later a b c l test noted met =
-      let x : Declared = get_or names i d in
-      let at : slice_get (entries_of names) i ≡ Some (entry_of x) =
-      mapped_get entry_of names i x (slice_get_read names (length names) i x refl l (get_or_default names i d x l)) in
+      let x : DeclaredName = get_or names i d in
+      let at : slice_get (entries_of names) i ≡ Some (name_entry_of x) =
+      mapped_get name_entry_of names i x (slice_get_read names (length names) i x refl l (get_or_default names i d x l)) in
       let agrees = known x.scope x.name.now x.span.start in
-      meets_next (entries_of names) Later i (entry_of x) a b c at met
-      (meets_when (StartsBefore (entries_of names) x.scope x.name.now x.span.start) later DuplicateName x.span b c
+      meets_next (entries_of names) Later i (name_entry_of x) a b c at met
+      (meets_when (HasEarlierStart (entries_of names) x.scope x.name.now x.span.start) later DuplicateName x.span b c
       (λ e. agrees.0 (test.0 e)) (λ s. test.1 (agrees.1 s)) noted)

@@ -15,13 +15,13 @@ use Rattle.proto_ast.specs.declared.file.FieldType.TheVariants.{Named, Map}
 use Rattle.proto_ast.specs.declared.file.FieldDecl.{FieldDecl}
 use Rattle.proto_ast.specs.Joined.{Joined}
 use Rattle.schema_symbols.specs.Scopes.{text_of}
-use Rattle.schema_symbols.specs.declared.named.Named.TheVariants.{Message, Enum}
+use Rattle.schema_symbols.specs.declared.symbol.Symbol.TheVariants.{Message, Enum}
 use Rattle.schema_validation.specs.Types
-use Rattle.schema_validation.specs.Types.{IsScalar, IsNoScalar, HasType, HasForm, label_in, single_label}
+use Rattle.schema_validation.specs.Types.{IsScalar, IsNoScalar, HasType, HasShape, label_in, single_label}
 use Rattle.schema_validation.specs.Members
-use Rattle.schema_symbols.specs.Finding.{NamesNothing}
-use Rattle.schema_validation.specs.Members.{IsMisplaced}
-use Rattle.schema_validation.specs.Forms.{IsType, IsWordOf, IsForm, is_message, is_packable}
+use Rattle.schema_symbols.specs.Lookups.{IsUnresolved}
+use Rattle.schema_validation.specs.Members.{IsMisplacedMap}
+use Rattle.schema_validation.specs.Shapes.{IsType, IsWordOf, IsShape, is_message, is_packable}
 use Rattle.schema_validation.specs.declared.types.TypeOf.{TypeOf}
 use Rattle.schema_validation.specs.declared.types.TypeOf.TheVariants.{Scalar, Named as OfName}
 
@@ -40,36 +40,36 @@ isnt_plain Repeated e = λ h. absurd cc
 -- ---- misplaced maps
 
 is_misplaced_at : (f : FieldDecl) (key value : Word) (oneof : Option ℕ) → f.kind ≡ Map key value → f.oneof ≡ oneof
-    → is_some oneof ≡ true → IsMisplaced f
+    → is_some oneof ≡ true → IsMisplacedMap f
 is_misplaced_at f key value None e h t = absurd cc
 is_misplaced_at f key value (Some o) e h t = Members.in_oneof key value o e h
 
 -- a map without a label is misplaced if it is in a oneof
 pub misplaced_in_oneof : (f : FieldDecl) (key value : Word) → f.kind ≡ Map key value
-    → is_some f.oneof ≡ true → IsMisplaced f
+    → is_some f.oneof ≡ true → IsMisplacedMap f
 misplaced_in_oneof f key value e t = is_misplaced_at f key value f.oneof e refl t
 
-pub in_some_oneof : (f : FieldDecl) (key value : Word) → f.kind ≡ Map key value → f.label ≡ Plain → IsMisplaced f
+pub in_some_oneof : (f : FieldDecl) (key value : Word) → f.kind ≡ Map key value → f.label ≡ Plain → IsMisplacedMap f
     → is_some f.oneof ≡ true
 in_some_oneof f key value e p (Members.nested k n) = absurd cc
 in_some_oneof f key value e p (Members.labelled a b k l) = absurd (l p)
 in_some_oneof f key value e p (Members.in_oneof a b o k is) = ap (λ (x : Option ℕ). is_some x) is
 
 label_at : (f : FieldDecl) (key value : Word) (l : FieldLabel) → f.kind ≡ Map key value → f.label ≡ l
-    → (IsMisplaced f → ⊥) → l ≡ Plain
+    → (IsMisplacedMap f → ⊥) → l ≡ Plain
 label_at f key value Plain e h none = refl
 label_at f key value Optional e h none = absurd (none (Members.labelled key value e (λ p. absurd cc)))
 label_at f key value Repeated e h none = absurd (none (Members.labelled key value e (λ p. absurd cc)))
 
-map_label : (f : FieldDecl) (key value : Word) → f.kind ≡ Map key value → (IsMisplaced f → ⊥) → f.label ≡ Plain
+map_label : (f : FieldDecl) (key value : Word) → f.kind ≡ Map key value → (IsMisplacedMap f → ⊥) → f.label ≡ Plain
 map_label f key value e none = label_at f key value f.label e refl none
 
 oneof_at : (f : FieldDecl) (key value : Word) (o : Option ℕ) → f.kind ≡ Map key value → f.oneof ≡ o
-    → (IsMisplaced f → ⊥) → o ≡ None
+    → (IsMisplacedMap f → ⊥) → o ≡ None
 oneof_at f key value None e h none = refl
 oneof_at f key value (Some o) e h none = absurd (none (Members.in_oneof key value o e h))
 
-map_oneof : (f : FieldDecl) (key value : Word) → f.kind ≡ Map key value → (IsMisplaced f → ⊥) → f.oneof ≡ None
+map_oneof : (f : FieldDecl) (key value : Word) → f.kind ≡ Map key value → (IsMisplacedMap f → ⊥) → f.oneof ≡ None
 map_oneof f key value e none = oneof_at f key value f.oneof e refl none
 
 -- ---- types
@@ -96,7 +96,7 @@ has_word F file scope w (OfName (Enum i)) is = record {
 
 pub no_type : (F : Joined) (file : ℕ) (scope : List (List ℕ)) (w : Word) (word : List ℕ) (m p : Bool)
     → IsNoScalar w.name
-    → NamesNothing F file scope w.name → HasType F file scope w word m p → ⊥
+    → IsUnresolved F file scope w.name → HasType F file scope w word m p → ⊥
 no_type F file scope w word m p none unknown (Types.scalar k is) = none k is
 no_type F file scope w word m p none unknown (Types.message full s names) = unknown _ full names
 no_type F file scope w word m p none unknown (Types.enum full s names) = unknown _ full names
@@ -104,8 +104,8 @@ no_type F file scope w word m p none unknown (Types.enum full s names) = unknown
 -- ---- shapes
 
 module _ (F : Joined) (file : ℕ) (scope : List (List ℕ)) (f : FieldDecl) where
-  pub no_single : (w : Word) → f.kind ≡ Named w → IsNoScalar w.name → NamesNothing F file scope w.name
-      → (label : Label) (word : List ℕ) → HasForm F file scope f label word → ⊥
+  pub no_single : (w : Word) → f.kind ≡ Named w → IsNoScalar w.name → IsUnresolved F file scope w.name
+      → (label : Label) (word : List ℕ) → HasShape F file scope f label word → ⊥
   no_single w e none unknown label word (Types.single x other m p k has) =
       let same : x ≡ w = cc in
       no_type F file scope w other m p none unknown
@@ -113,7 +113,7 @@ module _ (F : Joined) (file : ℕ) (scope : List (List ℕ)) (f : FieldDecl) whe
   no_single w e none unknown label word (Types.a_map a b k other m p kind plain out scalar key has) = absurd cc
 
   pub no_value : (key value : Word) → f.kind ≡ Map key value → IsNoScalar value.name
-      → NamesNothing F file scope value.name → (label : Label) (word : List ℕ) → HasForm F file scope f label word → ⊥
+      → IsUnresolved F file scope value.name → (label : Label) (word : List ℕ) → HasShape F file scope f label word → ⊥
   no_value key value e none unknown label word (Types.single x other m p k has) = absurd cc
   no_value key value e none unknown label word (Types.a_map a b k other m p kind plain out scalar is_key has) =
       let same : b ≡ value = cc in
@@ -123,19 +123,19 @@ module _ (F : Joined) (file : ℕ) (scope : List (List ℕ)) (f : FieldDecl) whe
 module _ (F : Joined) (file : ℕ) (scope : List (List ℕ)) (f : FieldDecl) where
   pub single_form : (w : Word) (t : TypeOf) (l : Label) → f.kind ≡ Named w → IsType F file scope w.name t
       → l ≡ single_label f.label f.packed (is_message t) (is_packable t)
-      → IsForm F file scope f (record { label = l; oneof = f.oneof; type_of = t })
+      → IsShape F file scope f (record { label = l; oneof = f.oneof; type_of = t })
   single_form w t l e is same =
       let h = has_word F file scope w t is in
       record {
         word = h.word;
         of_type = h.of_type;
-        has = subst (λ (x : Label). HasForm F file scope f (label_in f.oneof x) h.word) (sym same)
+        has = subst (λ (x : Label). HasShape F file scope f (label_in f.oneof x) h.word) (sym same)
             (Types.single w h.word (is_message t) (is_packable t) e h.has);
       }
 
-  pub map_form : (key value : Word) (k : Kind) (t : TypeOf) → f.kind ≡ Map key value → (IsMisplaced f → ⊥)
+  pub map_form : (key value : Word) (k : Kind) (t : TypeOf) → f.kind ≡ Map key value → (IsMisplacedMap f → ⊥)
       → IsScalar key.name k → is_key k ≡ true → IsType F file scope value.name t
-      → IsForm F file scope f (record { label = labels.Map k; oneof = None; type_of = t })
+      → IsShape F file scope f (record { label = labels.Map k; oneof = None; type_of = t })
   map_form key value k t e placed scalar may is =
       let h = has_word F file scope value t is in
       record {

@@ -7,27 +7,27 @@ use Rattle.proto_ast.specs.declared.file.Span.{Span}
 use Rattle.proto_ast.specs.declared.file.MessageDecl.{MessageDecl}
 use Rattle.proto_ast.specs.declared.file.EnumDecl.{EnumDecl}
 use Rattle.proto_ast.specs.declared.file.ServiceDecl.{ServiceDecl}
-use Rattle.proto_ast.specs.Joined.{Joined, home_in, home_of, enum_home_of, package_at}
-use Rattle.proto_ast.specs.Order.{IsPlaceBelow, its_name}
+use Rattle.proto_ast.specs.Joined.{Joined, enclosing_in, enclosing_of, enclosing_of_enum, package_at}
+use Rattle.proto_ast.specs.Order.{IsIndexBelow, its_name}
 use Rattle.proto_ast.specs.Together.{IsFormed, IsOrdered, message_decl, enum_decl}
 use Rattle.proto_ast.specs.Together
-use Rattle.schema_symbols.specs.Scopes.{a_message, an_enum, Sort, Names}
+use Rattle.schema_symbols.specs.Scopes.{a_message, an_enum, DeclKind, IsReferenceTo}
 use Rattle.schema_symbols.specs.Numbers
-use Rattle.schema_symbols.specs.Numbers.{StandBehind, IsPlace, StandsAt, StartApart, IsFirstAt}
-use Rattle.schema_symbols.specs.Finding.{IsAnswer}
-use Rattle.schema_symbols.specs.declared.named.Named.{Named}
-use Rattle.schema_symbols.specs.declared.named.Named.TheVariants.{Message, Enum}
+use Rattle.schema_symbols.specs.Numbers.{AreWellNested, IsEnclosing, IsSymbolAt, HaveDistinctStarts, IsFirstSymbol}
+use Rattle.schema_symbols.specs.Lookups.{IsLookupResult}
+use Rattle.schema_symbols.specs.declared.symbol.Symbol.{Symbol}
+use Rattle.schema_symbols.specs.declared.symbol.Symbol.TheVariants.{Message, Enum}
 use Rattle.schema_validation.specs.Members.{IsNoMessage}
 
-below : (n p : ℕ) (place : Option ℕ) → place ≡ Some p → IsPlaceBelow n place → p < n
-below n p place e h = subst (IsPlaceBelow n) e h
+below : (n p : ℕ) (place : Option ℕ) → place ≡ Some p → IsIndexBelow n place → p < n
+below n p place e h = subst (IsIndexBelow n) e h
 
-pub stand_behind : (F : Joined) → IsFormed F → StandBehind F
+pub stand_behind : (F : Joined) → IsFormed F → AreWellNested F
 stand_behind F formed = record {
   messages = λ i p m at e. below i p m.parent e (formed.parents i m at);
   enums = λ x p c e.
       below (length F.messages) p x.parent e
-      (All-contains (λ (y : EnumDecl). IsPlaceBelow (length F.messages) y.parent) F.enums x formed.enum_parents c);
+      (All-contains (λ (y : EnumDecl). IsIndexBelow (length F.messages) y.parent) F.enums x formed.enum_parents c);
   message_files = formed.message_files;
   enum_files = formed.enum_files;
 }
@@ -54,13 +54,13 @@ service_file F formed i x at =
     (at_contains F.services i x at)
 
 place_at : (F : Joined) (file : ℕ) (parent : Option ℕ) → file < length F.heads
-    → ((p : ℕ) → parent ≡ Some p → p < length F.messages) → IsPlace F (home_in file parent)
+    → ((p : ℕ) → parent ≡ Some p → p < length F.messages) → IsEnclosing F (enclosing_in file parent)
 place_at F file None here h = here
 place_at F file (Some p) here h = h p refl
 
 -- the file or message that encloses a message or an enum exists
-pub message_place : (F : Joined) → StandBehind F → (i : ℕ) (m : MessageDecl) → slice_get F.messages i ≡ Some m
-    → IsPlace F (home_of m)
+pub message_place : (F : Joined) → AreWellNested F → (i : ℕ) (m : MessageDecl) → slice_get F.messages i ≡ Some m
+    → IsEnclosing F (enclosing_of m)
 message_place F behind i m at =
     place_at F m.file m.parent
     (All-contains (λ (y : MessageDecl). y.file < length F.heads) F.messages m behind.message_files
@@ -70,8 +70,8 @@ message_place F behind i m at =
     let w : i < length F.messages = slice_get_within F.messages i m at in
     omega arith)
 
-pub enum_place : (F : Joined) → StandBehind F → (i : ℕ) (x : EnumDecl) → slice_get F.enums i ≡ Some x
-    → IsPlace F (enum_home_of x)
+pub enum_place : (F : Joined) → AreWellNested F → (i : ℕ) (x : EnumDecl) → slice_get F.enums i ≡ Some x
+    → IsEnclosing F (enclosing_of_enum x)
 enum_place F behind i x at =
     place_at F x.file x.parent
     (All-contains (λ (y : EnumDecl). y.file < length F.heads) F.enums x behind.enum_files (at_contains F.enums i x at))
@@ -83,8 +83,8 @@ one_message i j e = cc
 one_enum : (i j : ℕ) → enum_decl i ≡ enum_decl j → i ≡ j
 one_enum i j e = cc
 
-apart_types : (F : Joined) → IsOrdered F → (a b : Named) (f g : List (List ℕ)) (s t : Span) → StandsAt F a f s
-    → StandsAt F b g t
+apart_types : (F : Joined) → IsOrdered F → (a b : Symbol) (f g : List (List ℕ)) (s t : Span) → IsSymbolAt F a f s
+    → IsSymbolAt F b g t
     → s.start ≡ t.start → a ≡ b
 apart_types F order a b f g s t (Numbers.message i m at h) (Numbers.message j n bt k) e =
     ap Message (one_message i j (order.apart (message_decl i) (message_decl j) its_name its_name s t
@@ -99,27 +99,27 @@ apart_types F order a b f g s t (Numbers.enum i m at h) (Numbers.enum j n bt k) 
     ap Enum (one_enum i j (order.apart (enum_decl i) (enum_decl j) its_name its_name s t
     (Together.enum i m at refl) (Together.enum j n bt refl) e).0)
 
-pub start_apart : (F : Joined) → IsOrdered F → StartApart F
+pub start_apart : (F : Joined) → IsOrdered F → HaveDistinctStarts F
 start_apart F order = record { apart = apart_types F order }
 
 -- what the result of a look-up means for an rpc's type
-pub message_some : (F : Joined) (file : ℕ) (name : List ℕ) (o : Option Named) (i : ℕ) → o ≡ Some (Message i)
-    → IsAnswer F file (package_at F file) name o
-    → (full : List (List ℕ)) × Names F file (package_at F file) name a_message full × IsFirstAt F file (Message i) full
-message_some F file name o i e answer = subst (IsAnswer F file (package_at F file) name) e answer
+pub message_some : (F : Joined) (file : ℕ) (name : List ℕ) (o : Option Symbol) (i : ℕ) → o ≡ Some (Message i)
+    → IsLookupResult F file (package_at F file) name o
+    → (full : List (List ℕ)) × IsReferenceTo F file (package_at F file) name a_message full × IsFirstSymbol F file (Message i) full
+message_some F file name o i e answer = subst (IsLookupResult F file (package_at F file) name) e answer
 
-pub message_none : (F : Joined) (file : ℕ) (name : List ℕ) (o : Option Named) → o ≡ None
-    → IsAnswer F file (package_at F file) name o → IsNoMessage F file (package_at F file) name
-message_none F file name o e answer = subst (IsAnswer F file (package_at F file) name) e answer a_message
+pub message_none : (F : Joined) (file : ℕ) (name : List ℕ) (o : Option Symbol) → o ≡ None
+    → IsLookupResult F file (package_at F file) name o → IsNoMessage F file (package_at F file) name
+message_none F file name o e answer = subst (IsLookupResult F file (package_at F file) name) e answer a_message
 
 abbrev pub OneName : Joined → ℕ → List ℕ → Type 0
-OneName F file name = (a b : Sort) (f g : List (List ℕ)) → Names F file (package_at F file) name a f
-    → Names F file (package_at F file) name b g → a ≡ b
+OneName F file name = (a b : DeclKind) (f g : List (List ℕ)) → IsReferenceTo F file (package_at F file) name a f
+    → IsReferenceTo F file (package_at F file) name b g → a ≡ b
 
-pub message_enum : (F : Joined) (file : ℕ) (name : List ℕ) (o : Option Named) (i : ℕ) → o ≡ Some (Enum i)
-    → IsAnswer F file (package_at F file) name o → OneName F file name → IsNoMessage F file (package_at F file) name
+pub message_enum : (F : Joined) (file : ℕ) (name : List ℕ) (o : Option Symbol) (i : ℕ) → o ≡ Some (Enum i)
+    → IsLookupResult F file (package_at F file) name o → OneName F file name → IsNoMessage F file (package_at F file) name
 message_enum F file name o i e answer one full names =
-    let found : (f : List (List ℕ)) × Names F file (package_at F file) name an_enum f × IsFirstAt F file (Enum i) f =
-    subst (IsAnswer F file (package_at F file) name) e answer in
+    let found : (f : List (List ℕ)) × IsReferenceTo F file (package_at F file) name an_enum f × IsFirstSymbol F file (Enum i) f =
+    subst (IsLookupResult F file (package_at F file) name) e answer in
     let same : a_message ≡ an_enum = one a_message an_enum full found.0 names found.1 in
     cc

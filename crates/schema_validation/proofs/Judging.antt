@@ -8,16 +8,16 @@ use Rattle.proto_ast.specs.declared.file.EnumDecl.{EnumDecl}
 use Rattle.proto_ast.specs.declared.file.RpcDecl.{RpcDecl}
 use Rattle.proto_ast.specs.Joined.{Joined}
 use Rattle.schema_validation.specs.Members
-use Rattle.schema_validation.specs.Members.{Is, IsLong, IsReservedName, TypeOffends, NumberOffends, ValueOffends, NameOffends, MessageOffends, EnumOffends, MethodOffends, IsNoMessage}
-use Rattle.proto_ast.specs.declared.joined.Home.TheVariants as home
+use Rattle.schema_validation.specs.Members.{Is, IsLong, IsReservedName, IsTypeViolation, IsNumberViolation, IsValueViolation, IsNameViolation, IsMessageViolation, IsEnumViolation, IsMethodViolation, IsNoMessage}
+use Rattle.proto_ast.specs.declared.joined.Enclosing.TheVariants as home
 use Rattle.schema_symbols.specs.Scopes.{IsScope}
 use Rattle.schema_validation.specs.Methods.{rpcs_of}
-use Rattle.schema_validation.specs.Offences
-use Rattle.schema_validation.specs.Offences.{Offends}
-use Rattle.schema_validation.specs.Meeting.{Meets, AtSome, OfElement, MessageIn, MethodIn, IsLongService, PackageIn, TwiceIn, LongIn, PassesIn}
+use Rattle.schema_validation.specs.Violations
+use Rattle.schema_validation.specs.Violations.{IsViolated}
+use Rattle.schema_validation.specs.Recording.{HasRecorded, IsOfAny, IsOfElement, IsMessageViolationAt, IsMethodViolationAt, IsLongService, IsPackageViolationAt, IsDuplicateViolation, IsLongNameViolation, IsLongTextViolation}
 use Rattle.schema_validation.specs.declared.reason.ResolveReason.{ResolveReason}
 use Rattle.schema_validation.specs.declared.reason.ResolveReason.TheVariants.{UnknownName, Reserved, Limit}
-use Rattle.schema_validation.specs.declared.first.First.{First}
+use Rattle.schema_validation.specs.declared.first.FirstViolation.{FirstViolation}
 use Rattle.schema_validation.proofs.Meetings.{meets_as}
 
 -- ---- names
@@ -27,13 +27,13 @@ NameParts names limit i w q s =
     ((IsReservedName names w.name × Is Reserved w.span q s) ⊎ IsLong w q s) ⊎ ((limit ≤ i) × Is Limit w.span q s)
 
 pub name_to : (names : List Word) (limit i : ℕ) (w : Word) (q : ResolveReason) (s : Span)
-    → NameParts names limit i w q s → NameOffends names limit i w q s
+    → NameParts names limit i w q s → IsNameViolation names limit i w q s
 name_to names limit i w q s (inl (inl p)) = Members.name_reserved p.0 p.1
 name_to names limit i w q s (inl (inr p)) = Members.name_long p
 name_to names limit i w q s (inr p) = Members.name_too_many p.0 p.1
 
 pub name_from : (names : List Word) (limit i : ℕ) (w : Word) (q : ResolveReason) (s : Span)
-    → NameOffends names limit i w q s → NameParts names limit i w q s
+    → IsNameViolation names limit i w q s → NameParts names limit i w q s
 name_from names limit i w q s (Members.name_reserved p is) = inl (inl (p, is))
 name_from names limit i w q s (Members.name_long p) = inl (inr p)
 name_from names limit i w q s (Members.name_too_many p is) = inr (p, is)
@@ -42,16 +42,16 @@ name_from names limit i w q s (Members.name_too_many p is) = inr (p, is)
 
 abbrev pub EnumParts : ℕ → EnumDecl → ResolveReason → Span → Type 0
 EnumParts n e q s =
-    ((((MAX_ENUMS ≤ n) × Is Limit e.name.span q s) ⊎ IsLong e.name q s) ⊎ AtSome (ValueOffends e) q s)
-    ⊎ AtSome (OfElement e.values (λ i v. NameOffends e.names MAX_VALUES i v.name)) q s
+    ((((MAX_ENUMS ≤ n) × Is Limit e.name.span q s) ⊎ IsLong e.name q s) ⊎ IsOfAny (IsValueViolation e) q s)
+    ⊎ IsOfAny (IsOfElement e.values (λ i v. IsNameViolation e.names MAX_VALUES i v.name)) q s
 
-pub enum_to : (n : ℕ) (e : EnumDecl) (q : ResolveReason) (s : Span) → EnumParts n e q s → EnumOffends n e q s
+pub enum_to : (n : ℕ) (e : EnumDecl) (q : ResolveReason) (s : Span) → EnumParts n e q s → IsEnumViolation n e q s
 enum_to n e q s (inl (inl (inl p))) = Members.too_many_enums p.0 p.1
 enum_to n e q s (inl (inl (inr p))) = Members.long_enum p
 enum_to n e q s (inl (inr p)) = Members.of_value p.place p.is
 enum_to n e q s (inr p) = Members.of_value_name p.place p.is.element p.is.at p.is.is
 
-pub enum_from : (n : ℕ) (e : EnumDecl) (q : ResolveReason) (s : Span) → EnumOffends n e q s → EnumParts n e q s
+pub enum_from : (n : ℕ) (e : EnumDecl) (q : ResolveReason) (s : Span) → IsEnumViolation n e q s → EnumParts n e q s
 enum_from n e q s (Members.too_many_enums p is) = inl (inl (inl (p, is)))
 enum_from n e q s (Members.long_enum p) = inl (inl (inr p))
 enum_from n e q s (Members.of_value i p) = inl (inr (record { place = i; is = p }))
@@ -63,14 +63,14 @@ enum_from n e q s (Members.of_value_name i v at p) =
 abbrev pub MessageParts : Joined → ℕ → List (List ℕ) → ℕ → MessageDecl → ResolveReason → Span → Type 0
 MessageParts F file scope n m q s =
     ((((((MAX_MESSAGES ≤ n) × Is Limit m.name.span q s) ⊎ IsLong m.name q s)
-    ⊎ AtSome (OfElement m.fields (λ i. TypeOffends F file scope)) q s)
-    ⊎ AtSome (NumberOffends m) q s)
-    ⊎ AtSome (OfElement m.fields (λ i f. NameOffends m.names MAX_FIELDS i f.name)) q s)
-    ⊎ AtSome (OfElement m.oneofs (λ i. IsLong)) q s
+    ⊎ IsOfAny (IsOfElement m.fields (λ i. IsTypeViolation F file scope)) q s)
+    ⊎ IsOfAny (IsNumberViolation m) q s)
+    ⊎ IsOfAny (IsOfElement m.fields (λ i f. IsNameViolation m.names MAX_FIELDS i f.name)) q s)
+    ⊎ IsOfAny (IsOfElement m.oneofs (λ i. IsLong)) q s
 
 pub message_to : (F : Joined) (file : ℕ) (scope : List (List ℕ)) (n : ℕ) (m : MessageDecl) (q : ResolveReason)
     (s : Span)
-    → MessageParts F file scope n m q s → MessageOffends F file scope n m q s
+    → MessageParts F file scope n m q s → IsMessageViolation F file scope n m q s
 message_to F file scope n m q s (inl (inl (inl (inl (inl p))))) = Members.too_many_messages p.0 p.1
 message_to F file scope n m q s (inl (inl (inl (inl (inr p))))) = Members.long_message p
 message_to F file scope n m q s (inl (inl (inl (inr p)))) = Members.of_type p.place p.is.element p.is.at p.is.is
@@ -80,7 +80,7 @@ message_to F file scope n m q s (inr p) = Members.of_oneof p.place p.is.element 
 
 pub message_from : (F : Joined) (file : ℕ) (scope : List (List ℕ)) (n : ℕ) (m : MessageDecl) (q : ResolveReason)
     (s : Span)
-    → MessageOffends F file scope n m q s → MessageParts F file scope n m q s
+    → IsMessageViolation F file scope n m q s → MessageParts F file scope n m q s
 message_from F file scope n m q s (Members.too_many_messages p is) = inl (inl (inl (inl (inl (p, is)))))
 message_from F file scope n m q s (Members.long_message p) = inl (inl (inl (inl (inr p))))
 message_from F file scope n m q s (Members.of_type i f at p) =
@@ -91,12 +91,12 @@ message_from F file scope n m q s (Members.of_name i f at p) =
 message_from F file scope n m q s (Members.of_oneof i o at p) =
     inr (record { place = i; is = record { element = o; at = at; is = p } })
 
-pub meets_message_in : (F : Joined) (i : ℕ) (m : MessageDecl) (scope : List (List ℕ)) (a b : First)
+pub meets_message_in : (F : Joined) (i : ℕ) (m : MessageDecl) (scope : List (List ℕ)) (a b : FirstViolation)
     → IsScope F (home.Message i) scope → ((t : List (List ℕ)) → IsScope F (home.Message i) t → t ≡ scope)
-    → Meets (MessageOffends F m.file scope i m) a b → Meets (MessageIn F i m) a b
+    → HasRecorded (IsMessageViolation F m.file scope i m) a b → HasRecorded (IsMessageViolationAt F i m) a b
 meets_message_in F i m scope a b h one met =
-    meets_as (MessageOffends F m.file scope i m) (MessageIn F i m) a b met (λ q s p. (scope, h, p))
-    (λ q s p. subst (λ (t : List (List ℕ)). MessageOffends F m.file t i m q s) (one p.0 p.1) p.2)
+    meets_as (IsMessageViolation F m.file scope i m) (IsMessageViolationAt F i m) a b met (λ q s p. (scope, h, p))
+    (λ q s p. subst (λ (t : List (List ℕ)). IsMessageViolation F m.file t i m q s) (one p.0 p.1) p.2)
 
 -- ---- methods
 
@@ -107,14 +107,14 @@ MethodParts F file scope n r q s =
     ⊎ (IsNoMessage F file scope r.output.name × Is UnknownName r.output.span q s)
 
 pub method_to : (F : Joined) (file : ℕ) (scope : List (List ℕ)) (n : ℕ) (r : RpcDecl) (q : ResolveReason) (s : Span)
-    → MethodParts F file scope n r q s → MethodOffends F file scope n r q s
+    → MethodParts F file scope n r q s → IsMethodViolation F file scope n r q s
 method_to F file scope n r q s (inl (inl (inl p))) = Members.too_many_methods p.0 p.1
 method_to F file scope n r q s (inl (inl (inr p))) = Members.long_method p
 method_to F file scope n r q s (inl (inr p)) = Members.no_input p.0 p.1
 method_to F file scope n r q s (inr p) = Members.no_output p.0 p.1
 
 pub method_from : (F : Joined) (file : ℕ) (scope : List (List ℕ)) (n : ℕ) (r : RpcDecl) (q : ResolveReason) (s : Span)
-    → MethodOffends F file scope n r q s → MethodParts F file scope n r q s
+    → IsMethodViolation F file scope n r q s → MethodParts F file scope n r q s
 method_from F file scope n r q s (Members.too_many_methods p is) = inl (inl (inl (p, is)))
 method_from F file scope n r q s (Members.long_method p) = inl (inl (inr p))
 method_from F file scope n r q s (Members.no_input p is) = inl (inr (p, is))
@@ -124,36 +124,36 @@ method_from F file scope n r q s (Members.no_output p is) = inr (p, is)
 
 abbrev pub FileParts : Joined → ResolveReason → Span → Type 0
 FileParts F q s =
-    ((((((AtSome (OfElement F.heads PackageIn) q s ⊎ TwiceIn F q s)
-    ⊎ AtSome (OfElement F.messages (MessageIn F)) q s)
-    ⊎ AtSome (OfElement F.enums EnumOffends) q s)
-    ⊎ AtSome (OfElement F.services IsLongService) q s)
-    ⊎ AtSome (OfElement (rpcs_of F) (MethodIn F)) q s)
-    ⊎ LongIn F q s) ⊎ PassesIn F q s
+    ((((((IsOfAny (IsOfElement F.heads IsPackageViolationAt) q s ⊎ IsDuplicateViolation F q s)
+    ⊎ IsOfAny (IsOfElement F.messages (IsMessageViolationAt F)) q s)
+    ⊎ IsOfAny (IsOfElement F.enums IsEnumViolation) q s)
+    ⊎ IsOfAny (IsOfElement F.services IsLongService) q s)
+    ⊎ IsOfAny (IsOfElement (rpcs_of F) (IsMethodViolationAt F)) q s)
+    ⊎ IsLongNameViolation F q s) ⊎ IsLongTextViolation F q s
 
-pub file_to : (F : Joined) (q : ResolveReason) (s : Span) → FileParts F q s → Offends F q s
+pub file_to : (F : Joined) (q : ResolveReason) (s : Span) → FileParts F q s → IsViolated F q s
 file_to F q s (inl (inl (inl (inl (inl (inl (inl p))))))) =
-    Offences.of_package p.place p.is.element p.is.is.name p.is.at p.is.is.declared p.is.is.long p.is.is.is
-file_to F q s (inl (inl (inl (inl (inl (inl (inr p))))))) = Offences.twice p.0 p.1 p.2
+    Violations.of_package p.place p.is.element p.is.is.name p.is.at p.is.is.declared p.is.is.long p.is.is.is
+file_to F q s (inl (inl (inl (inl (inl (inl (inr p))))))) = Violations.twice p.0 p.1 p.2
 file_to F q s (inl (inl (inl (inl (inl (inr p)))))) =
-    Offences.of_message p.place p.is.element p.is.at p.is.is.1 p.is.is.2
-file_to F q s (inl (inl (inl (inl (inr p))))) = Offences.of_enum p.place p.is.element p.is.at p.is.is
-file_to F q s (inl (inl (inl (inr p)))) = Offences.of_service p.place p.is.element p.is.at p.is.is
+    Violations.of_message p.place p.is.element p.is.at p.is.is.1 p.is.is.2
+file_to F q s (inl (inl (inl (inl (inr p))))) = Violations.of_enum p.place p.is.element p.is.at p.is.is
+file_to F q s (inl (inl (inl (inr p)))) = Violations.of_service p.place p.is.element p.is.at p.is.is
 file_to F q s (inl (inl (inr p))) =
-    Offences.of_method p.place p.is.element.0 p.is.element.1 p.is.at p.is.is
-file_to F q s (inl (inr p)) = Offences.long_in_full p.0 p.1 p.2
-file_to F q s (inr p) = Offences.long_text p.0 p.1 p.2
+    Violations.of_method p.place p.is.element.0 p.is.element.1 p.is.at p.is.is
+file_to F q s (inl (inr p)) = Violations.long_in_full p.0 p.1 p.2
+file_to F q s (inr p) = Violations.long_text p.0 p.1 p.2
 
-pub file_from : (F : Joined) (q : ResolveReason) (s : Span) → Offends F q s → FileParts F q s
-file_from F q s (Offences.of_message i m {scope = scope} at is o) =
+pub file_from : (F : Joined) (q : ResolveReason) (s : Span) → IsViolated F q s → FileParts F q s
+file_from F q s (Violations.of_message i m {scope = scope} at is o) =
     inl (inl (inl (inl (inl (inr (record { place = i; is = record { element = m; at = at; is = (scope, is, o) } }))))))
-file_from F q s (Offences.of_enum i e at o) =
+file_from F q s (Violations.of_enum i e at o) =
     inl (inl (inl (inl (inr (record { place = i; is = record { element = e; at = at; is = o } })))))
-file_from F q s (Offences.of_service i x at o) =
+file_from F q s (Violations.of_service i x at o) =
     inl (inl (inl (inr (record { place = i; is = record { element = x; at = at; is = o } }))))
-file_from F q s (Offences.of_method i x r at o) =
+file_from F q s (Violations.of_method i x r at o) =
     inl (inl (inr (record { place = i; is = record { element = (x, r); at = at; is = o } })))
-file_from F q s (Offences.of_package k h w at declared long is) =
+file_from F q s (Violations.of_package k h w at declared long is) =
     inl (inl (inl (inl (inl (inl (inl (record {
       place = k;
       is = record {
@@ -162,6 +162,6 @@ file_from F q s (Offences.of_package k h w at declared long is) =
         is = record { name = w; declared = declared; long = long; is = is };
       };
     })))))))
-file_from F q s (Offences.twice span t is) = inl (inl (inl (inl (inl (inl (inr (span, t, is)))))))
-file_from F q s (Offences.long_in_full span t is) = inl (inr (span, t, is))
-file_from F q s (Offences.long_text span t is) = inr (span, t, is)
+file_from F q s (Violations.twice span t is) = inl (inl (inl (inl (inl (inl (inr (span, t, is)))))))
+file_from F q s (Violations.long_in_full span t is) = inl (inr (span, t, is))
+file_from F q s (Violations.long_text span t is) = inr (span, t, is)

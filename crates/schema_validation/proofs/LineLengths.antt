@@ -17,23 +17,23 @@ use Rattle.proto_ast.specs.declared.file.ValueDecl.{ValueDecl}
 use Rattle.proto_ast.specs.declared.file.EnumDecl.{EnumDecl}
 use Rattle.proto_ast.specs.declared.file.RpcDecl.{RpcDecl}
 use Rattle.proto_ast.specs.declared.file.ServiceDecl.{ServiceDecl}
-use Rattle.proto_ast.specs.declared.joined.Home.TheVariants as home
-use Rattle.proto_ast.specs.Joined.{Joined, home_of, enum_home_of, package_at}
+use Rattle.proto_ast.specs.declared.joined.Enclosing.TheVariants as home
+use Rattle.proto_ast.specs.Joined.{Joined, enclosing_of, enclosing_of_enum, package_at}
 use Rattle.schema_symbols.specs.Scopes
-use Rattle.schema_symbols.specs.Scopes.{a_message, text_of, IsScope, Names}
+use Rattle.schema_symbols.specs.Scopes.{a_message, text_of, IsScope, IsReferenceTo}
 use Rattle.schema_symbols.specs.Numbers
-use Rattle.schema_symbols.specs.Numbers.{StandsAt, IsFirstAt}
-use Rattle.schema_symbols.specs.declared.named.Named.TheVariants.{Message, Enum}
-use Rattle.schema_validation.specs.Types.{value_of, label_in, HasForm}
+use Rattle.schema_symbols.specs.Numbers.{IsSymbolAt, IsFirstSymbol}
+use Rattle.schema_symbols.specs.declared.symbol.Symbol.TheVariants.{Message, Enum}
+use Rattle.schema_validation.specs.Types.{signed_value, label_in, HasShape}
 use Rattle.schema_validation.specs.Members.{IsNoMessage, IsFieldNumberOf}
-use Rattle.schema_validation.specs.Forms.{IsWordOf, IsForm}
+use Rattle.schema_validation.specs.Shapes.{IsWordOf, IsShape}
 use Rattle.schema_validation.specs.Lengths
 use Rattle.mrpc_table.specs.Capped.{capped}
-use Rattle.schema_validation.specs.Lengths.{AreLengths, full_length, IsKept, type_length, LineAt, IsLineOf, IsLengthAt, rpcs_before}
+use Rattle.schema_validation.specs.Lengths.{AreLengths, full_length, IsKeptType, type_length, IsNameLine, IsMeasuredLine, IsLengthAt, rpcs_before}
 use Rattle.schema_validation.specs.declared.lines.Lengths.{Lengths}
 use Rattle.schema_validation.specs.declared.types.TypeOf.{TypeOf}
 use Rattle.schema_validation.specs.declared.types.TypeOf.TheVariants.{Scalar, Named as OfName}
-use Rattle.schema_validation.specs.declared.types.Form.{Form}
+use Rattle.schema_validation.specs.declared.types.FieldShape.{FieldShape}
 use Rattle.schema_validation.proofs.FullLengths.{full_is, file_kept}
 
 -- ---- words in a line
@@ -98,21 +98,21 @@ sums_four d digits l len n i j a b c e p q x y z w = cc
 -- ---- types
 
 module _ (F : Joined) (kept : Lengths) (k : AreLengths F kept) where
-  pub message_within : (i : ℕ) (full : List (List ℕ)) (s : Span) → StandsAt F (Message i) full s → i < length F.messages
+  pub message_within : (i : ℕ) (full : List (List ℕ)) (s : Span) → IsSymbolAt F (Message i) full s → i < length F.messages
   message_within i full s (Numbers.message j m at up) = slice_get_within F.messages j m at
 
-  enum_within : (i : ℕ) (full : List (List ℕ)) (s : Span) → StandsAt F (Enum i) full s → i < length F.enums
+  enum_within : (i : ℕ) (full : List (List ℕ)) (s : Span) → IsSymbolAt F (Enum i) full s → i < length F.enums
   enum_within i full s (Numbers.enum j e at up) = slice_get_within F.enums j e at
 
-  pub message_kept : (i : ℕ) (full : List (List ℕ)) (s : Span) → StandsAt F (Message i) full s
+  pub message_kept : (i : ℕ) (full : List (List ℕ)) (s : Span) → IsSymbolAt F (Message i) full s
       → get_or kept.messages.items i 0 ≡ capped (length (text_of full))
   message_kept i full s st = k.of_message i full s (message_within i full s st) st
 
-  pub message_in : (i : ℕ) (full : List (List ℕ)) (s : Span) → StandsAt F (Message i) full s
+  pub message_in : (i : ℕ) (full : List (List ℕ)) (s : Span) → IsSymbolAt F (Message i) full s
       → i < length kept.messages.items
   message_in i full s st = omega (arith, message_within i full s st, k.all_messages)
 
-  pub is_kept : (t : TypeOf) (word : List ℕ) → IsWordOf F t word → IsKept kept t
+  pub is_kept : (t : TypeOf) (word : List ℕ) → IsWordOf F t word → IsKeptType kept t
   is_kept (Scalar kind) word is = tt
   is_kept (OfName (Message i)) word is = message_in i is.0 is.1 is.2
   is_kept (OfName (Enum i)) word is = omega (arith, enum_within i is.0 is.1 is.2, k.all_enums)
@@ -132,8 +132,8 @@ module _ (F : Joined) (kept : Lengths) (k : AreLengths F kept) where
   -- ---- lines
 
   pub message_line : (i : ℕ) (m : MessageDecl) (outer : List (List ℕ)) (n : ℕ) → slice_get F.messages i ≡ Some m
-      → IsScope F (home_of m) outer → n ≡ capped (get_or kept.messages.items i 0 + 9)
-      → IsLineOf F (message_decl i) (m.name.span, n)
+      → IsScope F (enclosing_of m) outer → n ≡ capped (get_or kept.messages.items i 0 + 9)
+      → IsMeasuredLine F (message_decl i) (m.name.span, n)
   message_line i m outer n at up e =
       let full = outer ++ m.name.name ∷ [] in
       let known : get_or kept.messages.items i 0 ≡ capped (length (text_of full)) =
@@ -148,8 +148,8 @@ module _ (F : Joined) (kept : Lengths) (k : AreLengths F kept) where
       }
 
   pub enum_line : (i : ℕ) (x : EnumDecl) (outer : List (List ℕ)) (n : ℕ) → slice_get F.enums i ≡ Some x
-      → IsScope F (enum_home_of x) outer → n ≡ capped (get_or kept.enums.items i 0 + 6)
-      → IsLineOf F (enum_decl i) (x.name.span, n)
+      → IsScope F (enclosing_of_enum x) outer → n ≡ capped (get_or kept.enums.items i 0 + 6)
+      → IsMeasuredLine F (enum_decl i) (x.name.span, n)
   enum_line i x outer n at up e =
       let full = outer ++ x.name.name ∷ [] in
       let known : get_or kept.enums.items i 0 ≡ capped (length (text_of full)) =
@@ -162,14 +162,14 @@ module _ (F : Joined) (kept : Lengths) (k : AreLengths F kept) where
         is = omega arith;
       }
 
-  pub field_line : (i j : ℕ) (m : MessageDecl) (f : FieldDecl) (scope : List (List ℕ)) (form : Form) (n l r : ℕ)
+  pub field_line : (i j : ℕ) (m : MessageDecl) (f : FieldDecl) (scope : List (List ℕ)) (form : FieldShape) (n l r : ℕ)
       → slice_get F.messages i ≡ Some m → slice_get m.fields j ≡ Some f → IsScope F (home.Message i) scope
-      → IsForm F m.file scope f form → value_of f.number ≡ pos n → IsFieldNumber n
+      → IsShape F m.file scope f form → signed_value f.number ≡ pos n → IsFieldNumber n
       → l ≡ capped (length (label_text no_table (map (λ o. o.name) m.oneofs) (label_in form.oneof form.label)))
       → r ≡ capped
       (capped (capped ((10 + length (decimal n)) + l) + type_length kept form.type_of)
       + length f.name.name)
-      → IsLineOf F (field_decl i j) (f.name.span, r)
+      → IsMeasuredLine F (field_decl i j) (f.name.span, r)
   field_line i j m f scope form n l r at fat is has number inside label e =
       let text = label_text no_table (map (λ o. o.name) m.oneofs) (label_in form.oneof form.label) in
       let sum : r ≡ capped ((10 + length (decimal n)) + length text + length has.word + length f.name.name) =
@@ -187,14 +187,14 @@ module _ (F : Joined) (kept : Lengths) (k : AreLengths F kept) where
   pub method_line : (i j n : ℕ) (x : ServiceDecl) (r : RpcDecl) (a b : ℕ) (input output : List (List ℕ)) (v : ℕ)
       → slice_get F.services i ≡ Some x → slice_get x.rpcs j ≡ Some r → n ≡ rpcs_before F i + j
       → x.file < length F.heads
-      → Names F x.file (package_at F x.file) r.input.name a_message input
-      → Names F x.file (package_at F x.file) r.output.name a_message output
-      → IsFirstAt F x.file (Message a) input → IsFirstAt F x.file (Message b) output
+      → IsReferenceTo F x.file (package_at F x.file) r.input.name a_message input
+      → IsReferenceTo F x.file (package_at F x.file) r.output.name a_message output
+      → IsFirstSymbol F x.file (Message a) input → IsFirstSymbol F x.file (Message b) output
       → v ≡ capped (capped
       (capped (capped ((12 + length (decimal n)) + full_length kept (home.File x.file) x.name)
       + length r.name.name)
       + get_or kept.messages.items a 0) + get_or kept.messages.items b 0)
-      → IsLineOf F (rpc_decl i j) (r.name.span, v)
+      → IsMeasuredLine F (rpc_decl i j) (r.name.span, v)
   method_line i j n x r a b input output v at rat count there names_in names_out first_in first_out e =
       let full = text_of (package_at F x.file ++ x.name.name ∷ []) in
       let sum : v ≡ capped ((12 + length (decimal n)) + length full + length r.name.name
@@ -229,19 +229,19 @@ module _ (F : Joined) (i j : ℕ) where
 
   pub no_form : (m : MessageDecl) (f : FieldDecl) → slice_get F.messages i ≡ Some m → slice_get m.fields j ≡ Some f
       → ((scope : List (List ℕ)) → IsScope F (home.Message i) scope → (label : Label) (word : List ℕ)
-      → HasForm F m.file scope f label word → ⊥)
-      → (s : Span) (text : List ℕ) → LineAt F (field_decl i j) s text → ⊥
+      → HasShape F m.file scope f label word → ⊥)
+      → (s : Span) (text : List ℕ) → IsNameLine F (field_decl i j) s text → ⊥
   no_form m f at fat none s text
       (Lengths.of_field x y n g v {scope = scope} {label = label} {word = word} nat gat is e inside form) =
       none scope is label word
-      (subst (λ (h : FieldDecl). HasForm F m.file scope h label word) (same_field m n f g at fat nat gat)
-      (subst (λ (z : MessageDecl). HasForm F z.file scope g label word) (same_message m n at nat) form))
+      (subst (λ (h : FieldDecl). HasShape F m.file scope h label word) (same_field m n f g at fat nat gat)
+      (subst (λ (z : MessageDecl). HasShape F z.file scope g label word) (same_message m n at nat) form))
 
   pub no_number : (m : MessageDecl) (f : FieldDecl) → slice_get F.messages i ≡ Some m → slice_get m.fields j ≡ Some f
-      → (IsFieldNumberOf (value_of f.number) → ⊥)
-      → (s : Span) (text : List ℕ) → LineAt F (field_decl i j) s text → ⊥
+      → (IsFieldNumberOf (signed_value f.number) → ⊥)
+      → (s : Span) (text : List ℕ) → IsNameLine F (field_decl i j) s text → ⊥
   no_number m f at fat none s text (Lengths.of_field x y n g v nat gat is e inside form) =
-      none (v, (ap (λ (h : FieldDecl). value_of h.number) (sym (same_field m n f g at fat nat gat)) ∙ e), inside)
+      none (v, (ap (λ (h : FieldDecl). signed_value h.number) (sym (same_field m n f g at fat nat gat)) ∙ e), inside)
 
   same_service : (x y : ServiceDecl) → slice_get F.services i ≡ Some x → slice_get F.services i ≡ Some y → y ≡ x
   same_service x y at nat = same_Some y x (sym nat ∙ at)
@@ -254,37 +254,37 @@ module _ (F : Joined) (i j : ℕ) where
 
   pub no_input : (x : ServiceDecl) (r : RpcDecl) → slice_get F.services i ≡ Some x → slice_get x.rpcs j ≡ Some r
       → IsNoMessage F x.file (package_at F x.file) r.input.name
-      → (s : Span) (text : List ℕ) → LineAt F (rpc_decl i j) s text → ⊥
+      → (s : Span) (text : List ℕ) → IsNameLine F (rpc_decl i j) s text → ⊥
   no_input x r at rat none s text (Lengths.of_method a b n y t {input = input} nat tat e names_in names_out) =
-      none input (subst (λ (z : RpcDecl). Names F x.file (package_at F x.file) z.input.name a_message input)
+      none input (subst (λ (z : RpcDecl). IsReferenceTo F x.file (package_at F x.file) z.input.name a_message input)
       (same_rpc x y r t at rat nat tat)
-      (subst (λ (z : ServiceDecl). Names F z.file (package_at F z.file) t.input.name a_message input)
+      (subst (λ (z : ServiceDecl). IsReferenceTo F z.file (package_at F z.file) t.input.name a_message input)
       (same_service x y at nat) names_in))
 
   pub no_output : (x : ServiceDecl) (r : RpcDecl) → slice_get F.services i ≡ Some x → slice_get x.rpcs j ≡ Some r
       → IsNoMessage F x.file (package_at F x.file) r.output.name
-      → (s : Span) (text : List ℕ) → LineAt F (rpc_decl i j) s text → ⊥
+      → (s : Span) (text : List ℕ) → IsNameLine F (rpc_decl i j) s text → ⊥
   no_output x r at rat none s text (Lengths.of_method a b n y t {output = output} nat tat e names_in names_out) =
-      none output (subst (λ (z : RpcDecl). Names F x.file (package_at F x.file) z.output.name a_message output)
+      none output (subst (λ (z : RpcDecl). IsReferenceTo F x.file (package_at F x.file) z.output.name a_message output)
       (same_rpc x y r t at rat nat tat)
-      (subst (λ (z : ServiceDecl). Names F z.file (package_at F z.file) t.output.name a_message output)
+      (subst (λ (z : ServiceDecl). IsReferenceTo F z.file (package_at F z.file) t.output.name a_message output)
       (same_service x y at nat) names_out))
 
 -- ---- values
 
 no_value_line : (F : Joined) (i j : ℕ) (e : EnumDecl) (v : ValueDecl) → slice_get F.enums i ≡ Some e
-    → slice_get e.values j ≡ Some v → (FitsSigned w32 (value_of v.number) → ⊥)
-    → (s : Span) (text : List ℕ) → LineAt F (value_decl i j) s text → ⊥
+    → slice_get e.values j ≡ Some v → (FitsSigned w32 (signed_value v.number) → ⊥)
+    → (s : Span) (text : List ℕ) → IsNameLine F (value_decl i j) s text → ⊥
 no_value_line F i j e v at vat none s text (Lengths.of_value a b x u xat uat fits) =
     let same : x ≡ e = same_Some x e (sym xat ∙ at) in
     let one : u ≡ v = same_Some u v (sym (subst (λ (y : EnumDecl). slice_get y.values j ≡ Some u) same uat) ∙ vat) in
-    none (subst (λ (y : ValueDecl). FitsSigned w32 (value_of y.number)) one fits)
+    none (subst (λ (y : ValueDecl). FitsSigned w32 (signed_value y.number)) one fits)
 
 pub value_at : (F : Joined) (i j : ℕ) (e : EnumDecl) (v : ValueDecl) (n : Option ℕ) → slice_get F.enums i ≡ Some e
     → slice_get e.values j ≡ Some v
-    → MatchOption n (FitsSigned w32 (value_of v.number) → ⊥) (λ r. FitsSigned w32 (value_of v.number)
-    × (r ≡ capped (length (value_line (value_of v.number, v.name.name)))))
+    → MatchOption n (FitsSigned w32 (signed_value v.number) → ⊥) (λ r. FitsSigned w32 (signed_value v.number)
+    × (r ≡ capped (length (value_line (signed_value v.number, v.name.name)))))
     → IsLengthAt F (value_decl i j) v.name.span n
 value_at F i j e v None at vat none = λ s text line. no_value_line F i j e v at vat none s text line
 value_at F i j e v (Some r) at vat p =
-    record { text = value_line (value_of v.number, v.name.name); at = Lengths.of_value i j e v at vat p.0; is = p.1 }
+    record { text = value_line (signed_value v.number, v.name.name); at = Lengths.of_value i j e v at vat p.0; is = p.1 }

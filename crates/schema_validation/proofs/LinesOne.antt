@@ -8,7 +8,7 @@ use Rattle.mrpc_table.specs.Text.{label_text, line, value_line}
 use Rattle.mrpc_table.specs.Words.{is_numeric}
 use Rattle.mrpc_table.specs.declared.table.Label.{Label}
 use Rattle.mrpc_table.specs.declared.table.Label.TheVariants as labels
-use Rattle.proto_ast.specs.Together.{Declaration}
+use Rattle.proto_ast.specs.Together.{DeclIndex}
 use Rattle.proto_ast.specs.declared.file.Span.{Span}
 use Rattle.proto_ast.specs.declared.file.Word.{Word}
 use Rattle.proto_ast.specs.declared.file.FieldDecl.{FieldDecl}
@@ -17,23 +17,23 @@ use Rattle.proto_ast.specs.declared.file.ValueDecl.{ValueDecl}
 use Rattle.proto_ast.specs.declared.file.EnumDecl.{EnumDecl}
 use Rattle.proto_ast.specs.declared.file.RpcDecl.{RpcDecl}
 use Rattle.proto_ast.specs.declared.file.ServiceDecl.{ServiceDecl}
-use Rattle.proto_ast.specs.declared.joined.Home.{Home}
-use Rattle.proto_ast.specs.declared.joined.Home.TheVariants as home
-use Rattle.proto_ast.specs.Joined.{Joined, home_of, enum_home_of, package_at}
-use Rattle.schema_symbols.specs.Scopes.{Sort, a_message, an_enum, IsScope, Names, text_of}
-use Rattle.schema_symbols.specs.Numbers.{StartApart}
+use Rattle.proto_ast.specs.declared.joined.Enclosing.{Enclosing}
+use Rattle.proto_ast.specs.declared.joined.Enclosing.TheVariants as home
+use Rattle.proto_ast.specs.Joined.{Joined, enclosing_of, enclosing_of_enum, package_at}
+use Rattle.schema_symbols.specs.Scopes.{DeclKind, a_message, an_enum, IsScope, IsReferenceTo, text_of}
+use Rattle.schema_symbols.specs.Numbers.{HaveDistinctStarts}
 use Rattle.schema_validation.specs.Types
-use Rattle.schema_validation.specs.Types.{value_of, HasType, HasForm, label_in, single_label}
+use Rattle.schema_validation.specs.Types.{signed_value, HasType, HasShape, label_in, single_label}
 use Rattle.schema_validation.specs.Lengths
-use Rattle.schema_validation.specs.Lengths.{LineAt}
+use Rattle.schema_validation.specs.Lengths.{IsNameLine}
 use Rattle.schema_validation.proofs.Scalars.{scalar_one}
 
 -- ---- types and shapes
 
-module _ (F : Joined) (apart : StartApart F)
-    (scopes : (G : Joined) (place : Home) (s t : List (List ℕ)) → IsScope G place s → IsScope G place t → s ≡ t)
-    (names : (G : Joined) (file : ℕ) (scope : List (List ℕ)) (name : List ℕ) (a b : Sort) (f g : List (List ℕ))
-    → StartApart G → Names G file scope name a f → Names G file scope name b g → (a ≡ b) × (f ≡ g)) where
+module _ (F : Joined) (apart : HaveDistinctStarts F)
+    (scopes : (G : Joined) (place : Enclosing) (s t : List (List ℕ)) → IsScope G place s → IsScope G place t → s ≡ t)
+    (names : (G : Joined) (file : ℕ) (scope : List (List ℕ)) (name : List ℕ) (a b : DeclKind) (f g : List (List ℕ))
+    → HaveDistinctStarts G → IsReferenceTo G file scope name a f → IsReferenceTo G file scope name b g → (a ≡ b) × (f ≡ g)) where
   pub record SameType (word other : List ℕ) (m n p q : Bool) : Type 0 where
     pub words : word ≡ other
     pub messages : m ≡ n
@@ -71,7 +71,7 @@ module _ (F : Joined) (apart : StartApart F)
       }
 
   form_one : (file : ℕ) (scope : List (List ℕ)) (f : FieldDecl) (label other : Label) (word text : List ℕ)
-      → HasForm F file scope f label word → HasForm F file scope f other text → (label ≡ other) × (word ≡ text)
+      → HasShape F file scope f label word → HasShape F file scope f other text → (label ≡ other) × (word ≡ text)
   form_one file scope f label other word text (Types.single w v m p e has) (Types.single x u n q k also) =
       let same : x ≡ w = cc in
       let one = type_one file scope w word text m n p q has
@@ -108,13 +108,13 @@ module _ (F : Joined) (apart : StartApart F)
       line (codes "method" ∷ decimal n ∷ text_of (package_at F x.file ++ x.name.name ∷ []) ∷ r.name.name ∷ text_of input
       ∷ text_of output ∷ [])
 
-  pub line_one : (d : Declaration) (s t : Span) (text other : List ℕ) → LineAt F d s text → LineAt F d t other
+  pub line_one : (d : DeclIndex) (s t : Span) (text other : List ℕ) → IsNameLine F d s text → IsNameLine F d t other
       → (s ≡ t) × (text ≡ other)
   line_one d s t text other (Lengths.of_message i m {outer = outer} at up)
       (Lengths.of_message j n {outer = more} nat nup) =
       let same : n ≡ m = same_Some n m (sym nat ∙ at) in
       let one : outer ≡ more =
-      scopes F (home_of m) outer more up (subst (λ (x : MessageDecl). IsScope F (home_of x) more) same nup) in (
+      scopes F (enclosing_of m) outer more up (subst (λ (x : MessageDecl). IsScope F (enclosing_of x) more) same nup) in (
         ap (λ (x : MessageDecl). x.name.span) (sym same),
         ap (λ (x : List (List ℕ)). line (codes "message" ∷ text_of (x ++ m.name.name ∷ []) ∷ [])) one
             ∙ ap (λ (x : MessageDecl). line (codes "message" ∷ text_of (more ++ x.name.name ∷ []) ∷ [])) (sym same),
@@ -125,13 +125,13 @@ module _ (F : Joined) (apart : StartApart F)
       let same : o ≡ m = same_Some o m (sym oat ∙ at) in
       let field : g ≡ f =
       same_Some g f (sym (subst (λ (z : MessageDecl). slice_get z.fields j ≡ Some g) same gat) ∙ fat) in
-      let values : pos v ≡ pos n = sym k ∙ ap (λ (z : FieldDecl). value_of z.number) field ∙ e in
+      let values : pos v ≡ pos n = sym k ∙ ap (λ (z : FieldDecl). signed_value z.number) field ∙ e in
       let number : v ≡ n = cc in
       let one : more ≡ scope = scopes F (home.Message i) more scope also is in
       let forms = form_one m.file scope f label tag word noun form
-      (subst (λ (z : FieldDecl). HasForm F m.file scope z tag noun) field
-      (subst (λ (z : List (List ℕ)). HasForm F m.file z g tag noun) one
-      (subst (λ (z : MessageDecl). HasForm F z.file more g tag noun) same has))) in
+      (subst (λ (z : FieldDecl). HasShape F m.file scope z tag noun) field
+      (subst (λ (z : List (List ℕ)). HasShape F m.file z g tag noun) one
+      (subst (λ (z : MessageDecl). HasShape F z.file more g tag noun) same has))) in
       let tags : label ≡ tag = forms.0 in
       let words : word ≡ noun = forms.1 in (
         ap (λ (z : FieldDecl). z.name.span) (sym field),
@@ -144,7 +144,7 @@ module _ (F : Joined) (apart : StartApart F)
   line_one d s t text other (Lengths.of_enum i x {outer = outer} at up) (Lengths.of_enum j y {outer = more} nat nup) =
       let same : y ≡ x = same_Some y x (sym nat ∙ at) in
       let one : outer ≡ more =
-      scopes F (enum_home_of x) outer more up (subst (λ (z : EnumDecl). IsScope F (enum_home_of z) more) same nup) in (
+      scopes F (enclosing_of_enum x) outer more up (subst (λ (z : EnumDecl). IsScope F (enclosing_of_enum z) more) same nup) in (
         ap (λ (z : EnumDecl). z.name.span) (sym same),
         ap (λ (z : List (List ℕ)). line (codes "enum" ∷ text_of (z ++ x.name.name ∷ []) ∷ [])) one
             ∙ ap (λ (z : EnumDecl). line (codes "enum" ∷ text_of (more ++ z.name.name ∷ []) ∷ [])) (sym same),
@@ -154,7 +154,7 @@ module _ (F : Joined) (apart : StartApart F)
       let value : u ≡ v =
       same_Some u v (sym (subst (λ (z : EnumDecl). slice_get z.values j ≡ Some u) same uat) ∙ vat) in (
         ap (λ (z : ValueDecl). z.name.span) (sym value),
-        ap (λ (z : ValueDecl). value_line (value_of z.number, z.name.name)) (sym value),
+        ap (λ (z : ValueDecl). value_line (signed_value z.number, z.name.name)) (sym value),
       )
   line_one d s t text other (Lengths.of_method i j n x r {input = input} {output = output} at rat e a b)
       (Lengths.of_method k l m y q {input = first} {output = last} yat qat g a2 b2) =
@@ -164,12 +164,12 @@ module _ (F : Joined) (apart : StartApart F)
       let number : m ≡ n = g ∙ sym e in
       let inputs : input ≡ first =
       (names F x.file (package_at F x.file) r.input.name a_message a_message input first apart a
-      (subst (λ (z : ServiceDecl). Names F z.file (package_at F z.file) r.input.name a_message first) same
-      (subst (λ (z : RpcDecl). Names F y.file (package_at F y.file) z.input.name a_message first) rpc a2))).1 in
+      (subst (λ (z : ServiceDecl). IsReferenceTo F z.file (package_at F z.file) r.input.name a_message first) same
+      (subst (λ (z : RpcDecl). IsReferenceTo F y.file (package_at F y.file) z.input.name a_message first) rpc a2))).1 in
       let outputs : output ≡ last =
       (names F x.file (package_at F x.file) r.output.name a_message a_message output last apart b
-      (subst (λ (z : ServiceDecl). Names F z.file (package_at F z.file) r.output.name a_message last) same
-      (subst (λ (z : RpcDecl). Names F y.file (package_at F y.file) z.output.name a_message last) rpc b2))).1 in (
+      (subst (λ (z : ServiceDecl). IsReferenceTo F z.file (package_at F z.file) r.output.name a_message last) same
+      (subst (λ (z : RpcDecl). IsReferenceTo F y.file (package_at F y.file) z.output.name a_message last) rpc b2))).1 in (
         ap (λ (z : RpcDecl). z.name.span) (sym rpc),
         ap (λ (z : ℕ). method_text z x r input output) (sym number)
             ∙ ap (λ (z : ServiceDecl). method_text m z r input output) (sym same)

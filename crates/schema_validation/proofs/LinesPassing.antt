@@ -14,9 +14,9 @@ use Rattle.std.proofs.lemmas.List.Sorted.{IsPermutation-sym, Contains-permutatio
 use Rattle.std.proofs.lemmas.List.Elements.{All-cons, All-nil, All-contains, Contains-get_or, recursion_from_All}
 use Rattle.std.proofs.lemmas.Map.Keys.{IsDistinct-IsPermutation, apart_from_distinct}
 use Rattle.std.proofs.lemmas.Option.{same_Some, none-some, slice_get_within, slice_get_read, slice_get-get_or, get_or_from_slice_get, slice_get-map}
-use Rattle.mrpc_table.specs.Valid.{Ascends}
+use Rattle.mrpc_table.specs.Valid.{IsAscendingBy}
 use Rattle.mrpc_table.specs.declared.limits.TheConstants.{MAX_TEXT}
-use Rattle.proto_ast.specs.Together.{Declaration, message_decl, field_decl, enum_decl, value_decl, rpc_decl}
+use Rattle.proto_ast.specs.Together.{DeclIndex, message_decl, field_decl, enum_decl, value_decl, rpc_decl}
 use Rattle.proto_ast.specs.declared.file.Span.{Span}
 use Rattle.proto_ast.specs.declared.file.RpcDecl.{RpcDecl}
 use Rattle.proto_ast.specs.declared.file.ServiceDecl.{ServiceDecl}
@@ -24,10 +24,10 @@ use Rattle.proto_ast.specs.Joined.{Joined}
 use Rattle.schema_validation.specs.Methods.{service_rpcs, rpcs_of}
 use Rattle.schema_validation.specs.Lines
 use Rattle.schema_validation.specs.Lines.{HasLine}
-use Rattle.schema_validation.specs.Meeting.{AtSome, OfElement, PassesIn}
+use Rattle.schema_validation.specs.Recording.{IsOfAny, IsOfElement, IsLongTextViolation}
 use Rattle.schema_validation.specs.Lengths
 use Rattle.mrpc_table.specs.Capped.{capped}
-use Rattle.schema_validation.specs.Lengths.{LineAt, AreApart, CoversAll, IsPast, IsBefore}
+use Rattle.schema_validation.specs.Lengths.{IsNameLine, HaveDistinctSpans, HasAllLines, IsPast, IsEarlierThan}
 use Rattle.schema_validation.specs.declared.reason.ResolveReason.{ResolveReason}
 use Rattle.schema_validation.proofs.FullLengths.{contains_at}
 use Rattle.schema_validation.proofs.LongNames.{placed}
@@ -100,7 +100,7 @@ rpc_at services a b x r at rat =
 -- ---- lines by names and by declarations
 
 -- the declaration of a line
-pub line_at : (F : Joined) (s : Span) (text : List ℕ) → HasLine F s text → (d : Declaration) × LineAt F d s text
+pub line_at : (F : Joined) (s : Span) (text : List ℕ) → HasLine F s text → (d : DeclIndex) × IsNameLine F d s text
 line_at F s text (Lines.of_message m c is) =
     let p = placed F.messages m c in
     (message_decl p.0, Lengths.of_message p.0 m p.1 is)
@@ -118,7 +118,7 @@ line_at F s text (Lines.of_method x r i at a b) =
     let p = rpc_placed F.services i x r at in
     (rpc_decl p.0 p.1, Lengths.of_method p.0 p.1 i x r p.2 p.3 p.4 a b)
 
-has_line : (F : Joined) (d : Declaration) (s : Span) (text : List ℕ) → LineAt F d s text → HasLine F s text
+has_line : (F : Joined) (d : DeclIndex) (s : Span) (text : List ℕ) → IsNameLine F d s text → HasLine F s text
 has_line F d s text (Lengths.of_message i m at is) = Lines.of_message m (contains_at F.messages i m at) is
 has_line F d s text (Lengths.of_enum i e at is) = Lines.of_enum e (contains_at F.enums i e at) is
 has_line F d s text (Lengths.of_value i j e v at vat fits) =
@@ -133,7 +133,7 @@ has_line F d s text (Lengths.of_method i j n x r at rat e a b) =
 
 -- ---- all lines
 
-every_before : (F : Joined) (d : Declaration) (s : Span) (text : List ℕ) → LineAt F d s text → IsBefore 3 0 0 d
+every_before : (F : Joined) (d : DeclIndex) (s : Span) (text : List ℕ) → IsNameLine F d s text → IsEarlierThan 3 0 0 d
 every_before F d s text (Lengths.of_message i m at is) = inl (omega arith)
 every_before F d s text (Lengths.of_field i j m f n at fat is e k form) = inl (omega arith)
 every_before F d s text (Lengths.of_enum i e at is) = inl (omega arith)
@@ -151,7 +151,7 @@ same_start x y = eqb x.0.start y.0.start
 eqb_flips : (m n : ℕ) → eqb m n ≡ eqb n m
 eqb_flips m n = grind (arith, nat_tests)
 
-distinct : (xs : List (Span × ℕ)) → AreApart xs → IsDistinct same_start xs
+distinct : (xs : List (Span × ℕ)) → HaveDistinctSpans xs → IsDistinct same_start xs
 unfolding IsDistinct
 distinct [] a = tt
 distinct (x ∷ xs) a = (
@@ -160,7 +160,7 @@ distinct (x ∷ xs) a = (
   distinct xs a.1,
 )
 
-pub rise : (xs ys : List (Span × ℕ)) → AreApart xs → IsPermutation xs ys
+pub rise : (xs ys : List (Span × ℕ)) → HaveDistinctSpans xs → IsPermutation xs ys
     → IsNonDecreasingBy {X = Span × ℕ} (λ x. x.0.start) ys → Rise ys
 rise xs ys a p up i j d l k =
     let flips : (x y : Span × ℕ) → same_start x y ≡ same_start y x =
@@ -209,7 +209,7 @@ module _ (F : Joined) where
       (lines_are xs (λ y c. has y (later x y xs c)))
 
   lines_ascend : (xs : List (Span × ℕ)) (has : HaveLines F xs) → Rise xs
-      → Ascends (λ a b. a.0.start < b.0.start) (lines_of xs has)
+      → IsAscendingBy (λ a b. a.0.start < b.0.start) (lines_of xs has)
   unfolding lines_of
   lines_ascend [] has r = tt
   lines_ascend (x ∷ []) has r = tt
@@ -261,7 +261,7 @@ module _ (F : Joined) where
 -- ---- sums of lines
 
 -- a later line starts later
-ascends_all : (l : Span × List ℕ) (ls : List (Span × List ℕ)) → Ascends (λ a b. a.0.start < b.0.start) (l ∷ ls)
+ascends_all : (l : Span × List ℕ) (ls : List (Span × List ℕ)) → IsAscendingBy (λ a b. a.0.start < b.0.start) (l ∷ ls)
     → (m : Span × List ℕ) → Contains ls m → l.0.start < m.0.start
 ascends_all l [] a m c = absurd (let k : c.0 < 0 = c.1 in omega arith)
 ascends_all l (x ∷ ls) a m (zero, k, e) = subst (λ (y : Span × List ℕ). l.0.start < y.0.start) e a.0
@@ -270,8 +270,8 @@ ascends_all l (x ∷ ls) a m (suc n, k, e) =
     let near : l.0.start < x.0.start = a.0 in
     omega arith
 
-ascends_tail : (l : Span × List ℕ) (ls : List (Span × List ℕ)) → Ascends (λ a b. a.0.start < b.0.start) (l ∷ ls)
-    → Ascends (λ a b. a.0.start < b.0.start) ls
+ascends_tail : (l : Span × List ℕ) (ls : List (Span × List ℕ)) → IsAscendingBy (λ a b. a.0.start < b.0.start) (l ∷ ls)
+    → IsAscendingBy (λ a b. a.0.start < b.0.start) ls
 ascends_tail l [] a = tt
 ascends_tail l (x ∷ ls) a = a.1
 
@@ -309,7 +309,7 @@ first_below x xs y r c =
     let l : x.0.start < (get_or xs c.0 y).0.start = r 0 (suc c.0) y (omega arith) (omega arith) in
     subst (λ (z : Span × ℕ). x.0.start < z.0.start) c.2 l
 
-all_covered : (xs : List (Span × ℕ)) (ls : List (Span × List ℕ)) → Rise xs → Ascends (λ a b. a.0.start < b.0.start) ls
+all_covered : (xs : List (Span × ℕ)) (ls : List (Span × List ℕ)) → Rise xs → IsAscendingBy (λ a b. a.0.start < b.0.start) ls
     → AreAmong ls xs
     → capped (length (flat_map (λ (l : Span × List ℕ). l.1) ls)) ≤ sum_by (λ (x : Span × ℕ). x.1) xs
 all_covered xs [] r a among = omega arith
@@ -347,9 +347,9 @@ all_covered (x ∷ xs) (l ∷ ls) r a among =
 
 -- ---- the violation of a long text
 
-module _ (F : Joined) (lines ys : List (Span × ℕ)) (v : CoversAll F lines) (p : IsPermutation lines ys)
+module _ (F : Joined) (lines ys : List (Span × ℕ)) (v : HasAllLines F lines) (p : IsPermutation lines ys)
     (up : IsNonDecreasingBy {X = Span × ℕ} (λ x. x.0.start) ys)
-    (one : (d : Declaration) (s t : Span) (text other : List ℕ) → LineAt F d s text → LineAt F d t other
+    (one : (d : DeclIndex) (s t : Span) (text other : List ℕ) → IsNameLine F d s text → IsNameLine F d t other
     → (s ≡ t) × (text ≡ other)) where
   risen : Rise ys
   risen = rise lines ys v.once p up
@@ -377,7 +377,7 @@ module _ (F : Joined) (lines ys : List (Span × ℕ)) (v : CoversAll F lines) (p
       subst (λ (t : Span). Contains ys (t, capped (length text))) same.0
       (subst (λ (n : ℕ). Contains ys (x.0, n)) length_is (Contains-permutation lines ys x p o.1))
 
-  pub text_to : (q : ResolveReason) (s : Span) → AtSome (OfElement ys (IsPast ys)) q s → PassesIn F q s
+  pub text_to : (q : ResolveReason) (s : Span) → IsOfAny (IsOfElement ys (IsPast ys)) q s → IsLongTextViolation F q s
   text_to q s k =
       let i = k.place in
       let x = k.is.element in
@@ -407,7 +407,7 @@ module _ (F : Joined) (lines ys : List (Span × ℕ)) (v : CoversAll F lines) (p
         k.is.is.1,
       )
 
-  pub text_from : (q : ResolveReason) (s : Span) → PassesIn F q s → AtSome (OfElement ys (IsPast ys)) q s
+  pub text_from : (q : ResolveReason) (s : Span) → IsLongTextViolation F q s → IsOfAny (IsOfElement ys (IsPast ys)) q s
   text_from q s k =
       let span = k.0 in
       let passes = k.1 in

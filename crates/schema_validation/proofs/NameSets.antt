@@ -14,7 +14,7 @@ use Rattle.std.proofs.lemmas.List.Elements.{Contains-append_left, Contains-push,
 use Rattle.std.proofs.lemmas.List.{take_more}
 use Rattle.proto_ast.specs.declared.file.Word.{Word}
 use Rattle.schema_validation.specs.Members.{IsReservedName}
-use Rattle.schema_validation.specs.ReservedNames.{KeepsNames, has_name}
+use Rattle.schema_validation.specs.ReservedNames.{HasReservedNames, has_reserved_name}
 use Rattle.schema_validation.specs.declared.name_set.NameSet.{NameSet}
 
 same_bytes : (x q : List ℕ) → is_eq (slice_cmp nat_cmp x q) ≡ true → x ≡ q
@@ -29,9 +29,9 @@ none_at : (kept : BTreeMap (Bor (List ℕ)) (Unit {0})) (name : List ℕ) → ke
 none_at kept name e =
     ap (λ es. is_some (lookup (λ (key : Bor (List ℕ)). is_eq (slice_cmp nat_cmp name key.now)) es)) e
 
-pub keeps_none : (kept : NameSet) → kept.names.entries ≡ [] → KeepsNames [] kept
+pub keeps_none : (kept : NameSet) → kept.names.entries ≡ [] → HasReservedNames [] kept
 keeps_none kept none name = (
-  λ e. absurd (let f : has_name kept name ≡ false = none_at kept.names name none in cc),
+  λ e. absurd (let f : has_reserved_name kept name ≡ false = none_at kept.names name none in cc),
   λ r. absurd (let l : r.1.0 < 0 = r.1.1 in omega arith),
 )
 
@@ -59,11 +59,11 @@ pub keeps_push : (words : List Word) (w : Word) (old new : NameSet)
     → ((name : List ℕ) → get_by (λ (key : Bor (List ℕ)). slice_cmp nat_cmp name key.now) new.names
     ≡ cond (is_eq (slice_cmp nat_cmp w.name name)) (Some tt)
     (get_by (λ (key : Bor (List ℕ)). slice_cmp nat_cmp name key.now) old.names))
-    → KeepsNames words old → KeepsNames (words ++ w ∷ []) new
+    → HasReservedNames words old → HasReservedNames (words ++ w ∷ []) new
 keeps_push words w old new changed known name =
     let b : Bool = is_eq (slice_cmp nat_cmp w.name name) in
     let o : Option (Unit {0}) = get_by (λ (key : Bor (List ℕ)). slice_cmp nat_cmp name key.now) old.names in
-    let e : has_name new name ≡ is_some (cond b (Some tt) o) = ap is_some (changed name) in (
+    let e : has_reserved_name new name ≡ is_some (cond b (Some tt) o) = ap is_some (changed name) in (
       λ h. push_to words w name b o refl (known name).0 (sym e ∙ h),
       λ r. e ∙ push_from words w name b o refl (known name).1 r,
     )
@@ -72,7 +72,7 @@ pub keeps_next : (words : List Word) (i : ℕ) (d : Word) (old new : NameSet) �
     → ((name : List ℕ) → get_by (λ (key : Bor (List ℕ)). slice_cmp nat_cmp name key.now) new.names
     ≡ cond (is_eq (slice_cmp nat_cmp (get_or words i d).name name)) (Some tt)
     (get_by (λ (key : Bor (List ℕ)). slice_cmp nat_cmp name key.now) old.names))
-    → KeepsNames (take i words) old → KeepsNames (take (i + 1) words) new
+    → HasReservedNames (take i words) old → HasReservedNames (take (i + 1) words) new
 keeps_next words i d old new l changed known =
-    subst (λ (xs : List Word). KeepsNames xs new) (sym (take_more words i d l))
+    subst (λ (xs : List Word). HasReservedNames xs new) (sym (take_more words i d l))
     (keeps_push (take i words) (get_or words i d) old new changed known)

@@ -21,18 +21,18 @@ use Rattle.proto_ast.specs.declared.file.ServiceDecl.{ServiceDecl}
 use Rattle.proto_ast.specs.declared.file.Import.{Import}
 use Rattle.proto_ast.specs.declared.file.File.{File}
 use Rattle.proto_ast.specs.declared.joined.Head.{Head}
-use Rattle.proto_ast.specs.declared.joined.Home.{Home}
-use Rattle.proto_ast.specs.declared.joined.Home.TheVariants as home
-use Rattle.proto_ast.specs.Joined.{Joined, alone, home_of, package_at}
+use Rattle.proto_ast.specs.declared.joined.Enclosing.{Enclosing}
+use Rattle.proto_ast.specs.declared.joined.Enclosing.TheVariants as home
+use Rattle.proto_ast.specs.Joined.{Joined, alone, enclosing_of, package_at}
 use Rattle.schema_symbols.specs.Scopes
-use Rattle.schema_symbols.specs.Scopes.{text_of, IsScope, of_file, of_message as in_message, Sort, a_message, no_type, is_type, message, Declares, IsFront, Finds}
-use Rattle.schema_validation.specs.Members.{MessageOffends, of_type, of_number, of_name, number_out_of_range}
+use Rattle.schema_symbols.specs.Scopes.{text_of, IsScope, of_file, of_message as in_message, DeclKind, a_message, no_type, is_type, message, IsDeclarationOf, IsPackagePrefix, IsVisibleDeclaration}
+use Rattle.schema_validation.specs.Members.{IsMessageViolation, of_type, of_number, of_name, number_out_of_range}
 use Rattle.schema_validation.specs.Members.{number_met_before, name_reserved, first_not_zero, bad_key, bad_outer_key}
 use Rattle.schema_validation.specs.Members.{scalar_key, misplaced, nested, long_message, no_input, of_value}
 use Rattle.schema_validation.specs.Lines
-use Rattle.schema_validation.specs.Lines.{HasLine, PassesAt}
-use Rattle.schema_validation.specs.Offences
-use Rattle.schema_validation.specs.Offences.{IsTwice, IsLongInFull, Offends, IsOffence, offends, ComesFirst, HasOffence}
+use Rattle.schema_validation.specs.Lines.{HasLine, IsPastTextLimit}
+use Rattle.schema_validation.specs.Violations
+use Rattle.schema_validation.specs.Violations.{IsDuplicate, IsLongInFull, IsViolated, IsFileViolation, offends, IsNoLaterViolation, HasFirstFileViolation}
 use Rattle.schema_validation.specs.declared.reason.ResolveReason.{ResolveReason}
 use Rattle.schema_validation.specs.declared.reason.ResolveReason.TheVariants.{UnknownName, NumberRange, DuplicateNumber}
 use Rattle.schema_validation.specs.declared.reason.ResolveReason.TheVariants.{DuplicateName, Reserved, FirstEnum}
@@ -69,11 +69,11 @@ abbrev of_one : MessageDecl → File
 of_one m = file_of (m ∷ []) [] [] []
 
 -- the violations of the only message of a file
-in_one : (m : MessageDecl) (q : ResolveReason) (s : Span) → home_of m ≡ home.File 0
-    → MessageOffends (alone (of_one m)) m.file (m.name.name ∷ []) 0 m q s → IsOffence (of_one m) q s
+in_one : (m : MessageDecl) (q : ResolveReason) (s : Span) → enclosing_of m ≡ home.File 0
+    → IsMessageViolation (alone (of_one m)) m.file (m.name.name ∷ []) 0 m q s → IsFileViolation (of_one m) q s
 in_one m q s e o =
-    offends (Offences.of_message 0 m refl (in_message 0 m refl
-    (subst (λ (p : Home). IsScope (alone (of_one m)) p []) (sym e) (of_file 0))) o)
+    offends (Violations.of_message 0 m refl (in_message 0 m refl
+    (subst (λ (p : Enclosing). IsScope (alone (of_one m)) p []) (sym e) (of_file 0))) o)
 
 -- ---- one violation for each reason
 
@@ -81,10 +81,10 @@ nothing_in : {X : Type 0} (x : X) → Contains [] x → ⊥
 nothing_in x c = let l : c.0 < 0 = c.1 in omega arith
 
 no_message : (F : Joined) (file : ℕ) (full : List (List ℕ)) (span : Span) → F.messages ≡ []
-    → Declares F file a_message full span → ⊥
+    → IsDeclarationOf F file a_message full span → ⊥
 no_message F file full span e (message m c s) = nothing_in m (subst (λ (ms : List MessageDecl). Contains ms m) e c)
 
-finds_none : (F : Joined) (file : ℕ) (full : List (List ℕ)) → F.messages ≡ [] → Finds F file a_message full → ⊥
+finds_none : (F : Joined) (file : ℕ) (full : List (List ℕ)) → F.messages ≡ [] → IsVisibleDeclaration F file a_message full → ⊥
 finds_none F file full e f = no_message F f.other full f.span e f.declared
 
 -- service S { rpc R (X) returns (X); }
@@ -94,9 +94,9 @@ an_rpc = record { name = word (codes "R") 2; input = word (codes "X") 3; output 
 abbrev a_service : ServiceDecl
 a_service = record { name = word (codes "S") 1; file = 0; rpcs = an_rpc ∷ [] }
 
-unknown_row : IsOffence (file_of [] [] (a_service ∷ []) []) UnknownName (at 3)
+unknown_row : IsFileViolation (file_of [] [] (a_service ∷ []) []) UnknownName (at 3)
 unknown_row =
-    offends (Offences.of_method 0 a_service an_rpc refl (no_input (λ full names. finds_none _ _ full refl names.finds)
+    offends (Violations.of_method 0 a_service an_rpc refl (no_input (λ full names. finds_none _ _ full refl names.finds)
     (refl, refl)))
 
 -- message M { int32 a = 0; }
@@ -106,7 +106,7 @@ zero_field = field (Named (word (codes "int32") 2)) (codes "a") 3 0 4
 same_pos : (m n : ℕ) → pos m ≡ pos n → m ≡ n
 same_pos m n e = cc
 
-range_row : IsOffence (of_one (message_with (codes "M") (zero_field ∷ []) [])) NumberRange (at 4)
+range_row : IsFileViolation (of_one (message_with (codes "M") (zero_field ∷ []) [])) NumberRange (at 4)
 range_row =
     in_one _ NumberRange (at 4) refl
     (of_number 0 (number_out_of_range zero_field refl
@@ -119,7 +119,7 @@ a_field = field (Named (word (codes "int32") 2)) (codes "a") 3 1 4
 abbrev b_field : FieldDecl
 b_field = field (Named (word (codes "int32") 5)) (codes "b") 6 1 7
 
-number_row : IsOffence (of_one (message_with (codes "M") (a_field ∷ b_field ∷ []) [])) DuplicateNumber (at 7)
+number_row : IsFileViolation (of_one (message_with (codes "M") (a_field ∷ b_field ∷ []) [])) DuplicateNumber (at 7)
 number_row =
     in_one _ DuplicateNumber (at 7) refl
     (of_number 1 (number_met_before b_field a_field 0 refl (omega arith) refl refl (refl, refl)))
@@ -132,15 +132,15 @@ abbrev second_a : MessageDecl
 second_a =
     record { name = word (codes "A") 2; file = 0; parent = None; fields = []; oneofs = []; ranges = []; names = [] }
 
-name_row : IsOffence (file_of (first_a ∷ second_a ∷ []) [] [] []) DuplicateName (at 2)
+name_row : IsFileViolation (file_of (first_a ∷ second_a ∷ []) [] [] []) DuplicateName (at 2)
 name_row =
-    offends (Offences.twice (at 2)
-    (Offences.declared 0 0 a_message a_message (codes "A" ∷ []) (at 1)
+    offends (Violations.twice (at 2)
+    (Violations.declared 0 0 a_message a_message (codes "A" ∷ []) (at 1)
     (message first_a (0, omega arith, refl) (of_file 0))
     (message second_a (1, omega arith, refl) (of_file 0)) (omega arith)) (refl, refl))
 
 -- message M { reserved "a"; int32 a = 1; }
-reserved_row : IsOffence (of_one (message_with (codes "M") (a_field ∷ []) (word (codes "a") 2 ∷ []))) Reserved (at 3)
+reserved_row : IsFileViolation (of_one (message_with (codes "M") (a_field ∷ []) (word (codes "a") 2 ∷ []))) Reserved (at 3)
 reserved_row =
     in_one _ Reserved (at 3) refl
     (of_name 0 a_field refl (name_reserved (word (codes "a") 2, (0, omega arith, refl), refl) (refl, refl)))
@@ -156,16 +156,16 @@ from_one = record {
   names = [];
 }
 
-enum_row : IsOffence (file_of [] (from_one ∷ []) [] []) FirstEnum (at 3)
+enum_row : IsFileViolation (file_of [] (from_one ∷ []) [] []) FirstEnum (at 3)
 enum_row =
-    offends (Offences.of_enum 0 from_one refl
+    offends (Violations.of_enum 0 from_one refl
     (of_value 0 (first_not_zero _ refl refl (λ e. let k : 1 ≡ 0 = same_pos 1 0 e in omega arith) (refl, refl))))
 
 -- message M { map<float, int32> a = 1; }
 abbrev float_map : FieldDecl
 float_map = field (Map (word (codes "float") 1) (word (codes "int32") 2)) (codes "a") 3 1 4
 
-key_row : IsOffence (of_one (message_with (codes "M") (float_map ∷ []) [])) MapKey (at 1)
+key_row : IsFileViolation (of_one (message_with (codes "M") (float_map ∷ []) [])) MapKey (at 1)
 key_row =
     in_one _ MapKey (at 1) refl
     (of_type 0 float_map refl
@@ -176,14 +176,14 @@ key_row =
 abbrev map_of_maps : FieldDecl
 map_of_maps = field (NestedMap (word (codes "int32") 1)) (codes "a") 3 1 4
 
-place_row : IsOffence (of_one (message_with (codes "M") (map_of_maps ∷ []) [])) MapPlace (at 3)
+place_row : IsFileViolation (of_one (message_with (codes "M") (map_of_maps ∷ []) [])) MapPlace (at 3)
 place_row = in_one _ MapPlace (at 3) refl (of_type 0 map_of_maps refl (misplaced (nested (word (codes "int32") 1) refl) (refl, refl)))
 
 -- message M { map<float, map<..>> a = 1; }
 abbrev float_map_of_maps : FieldDecl
 float_map_of_maps = field (NestedMap (word (codes "float") 1)) (codes "a") 3 1 4
 
-outer_key_row : IsOffence (of_one (message_with (codes "M") (float_map_of_maps ∷ []) [])) MapKey (at 1)
+outer_key_row : IsFileViolation (of_one (message_with (codes "M") (float_map_of_maps ∷ []) [])) MapKey (at 1)
 outer_key_row =
     in_one _ MapKey (at 1) refl
     (of_type 0 float_map_of_maps refl
@@ -194,15 +194,15 @@ outer_key_row =
 abbrev long_name : List ℕ
 long_name = codes "abcdefghijklmnopqrstuvwxyzabcdefghijklmnopqrstuvwxyzabcdefghijklm"
 
-limit_row : IsOffence (of_one (message_with long_name [] [])) Limit (at 1)
+limit_row : IsFileViolation (of_one (message_with long_name [] [])) Limit (at 1)
 limit_row = in_one _ Limit (at 1) refl (long_message (refl, (refl, refl)))
 
 -- import "x";
 abbrev an_import : Import
 an_import = record { path = codes "x"; public = false; span = at 1 }
 
-import_row : IsOffence (file_of [] [] [] (an_import ∷ [])) HasImport (at 1)
-import_row = Offences.has_import an_import refl (refl, refl)
+import_row : IsFileViolation (file_of [] [] [] (an_import ∷ [])) HasImport (at 1)
+import_row = Violations.has_import an_import refl (refl, refl)
 
 -- ---- files that are resolved together
 
@@ -225,36 +225,36 @@ message_at file name n = record {
 }
 
 -- message A {} in one file, message A {} in the other: the later one is the violation
-later_row : Offends (two_files None None (message_at 0 (codes "A") 1 ∷ message_at 1 (codes "A") 11 ∷ []) [])
+later_row : IsViolated (two_files None None (message_at 0 (codes "A") 1 ∷ message_at 1 (codes "A") 11 ∷ []) [])
     DuplicateName (at 11)
 later_row =
-    Offences.twice (at 11)
-    (Offences.declared 0 1 a_message a_message (codes "A" ∷ []) (at 1) (message _ (0, omega arith, refl) (of_file 0))
+    Violations.twice (at 11)
+    (Violations.declared 0 1 a_message a_message (codes "A" ∷ []) (at 1) (message _ (0, omega arith, refl) (of_file 0))
     (message _ (1, omega arith, refl) (of_file 1)) (omega arith)) (refl, refl)
 
 -- message A {} in both files, in packages with equal names: the later one is the violation
-same_package_row : Offends (two_files (Some (word (codes "p") 0)) (Some (word (codes "p") 10))
+same_package_row : IsViolated (two_files (Some (word (codes "p") 0)) (Some (word (codes "p") 10))
     (message_at 0 (codes "A") 1 ∷ message_at 1 (codes "A") 11 ∷ []) []) DuplicateName (at 11)
 same_package_row =
-    Offences.twice (at 11)
-    (Offences.declared 0 1 a_message a_message (codes "p" ∷ codes "A" ∷ []) (at 1)
+    Violations.twice (at 11)
+    (Violations.declared 0 1 a_message a_message (codes "p" ∷ codes "A" ∷ []) (at 1)
     (message _ (0, omega arith, refl) (of_file 0)) (message _ (1, omega arith, refl) (of_file 1)) (omega arith))
     (refl, refl)
 
 -- message p {} in a file without a package, the other file has package p
-package_row : Offends (two_files None (Some (word (codes "p") 10)) (message_at 0 (codes "p") 1 ∷ []) []) DuplicateName
+package_row : IsViolated (two_files None (Some (word (codes "p") 10)) (message_at 0 (codes "p") 1 ∷ []) []) DuplicateName
     (at 1)
 package_row =
-    Offences.twice (at 1)
-    (Offences.a_package 0 a_message (codes "p" ∷ []) (message _ (0, omega arith, refl) (of_file 0)) refl
+    Violations.twice (at 1)
+    (Violations.a_package 0 a_message (codes "p" ∷ []) (message _ (0, omega arith, refl) (of_file 0)) refl
     (record { file = 1; rest = []; begins = refl })) (refl, refl)
 
 -- message p {} in a file without a package, the other file has package p.q
-front_row : Offends (two_files None (Some (word (codes "p.q") 10)) (message_at 0 (codes "p") 1 ∷ []) []) DuplicateName
+front_row : IsViolated (two_files None (Some (word (codes "p.q") 10)) (message_at 0 (codes "p") 1 ∷ []) []) DuplicateName
     (at 1)
 front_row =
-    Offences.twice (at 1)
-    (Offences.a_package 0 a_message (codes "p" ∷ []) (message _ (0, omega arith, refl) (of_file 0)) refl
+    Violations.twice (at 1)
+    (Violations.a_package 0 a_message (codes "p" ∷ []) (message _ (0, omega arith, refl) (of_file 0)) refl
     (record { file = 1; rest = codes "q" ∷ []; begins = refl })) (refl, refl)
 
 -- service S { rpc R (X) returns (X); rpc R (X) returns (X); }: the later one is the violation
@@ -264,10 +264,10 @@ later_rpc = record { name = word (codes "R") 5; input = word (codes "X") 6; outp
 abbrev two_of_one_name : ServiceDecl
 two_of_one_name = record { name = word (codes "S") 1; file = 0; rpcs = an_rpc ∷ later_rpc ∷ [] }
 
-rpc_row : IsOffence (file_of [] [] (two_of_one_name ∷ []) []) DuplicateName (at 5)
+rpc_row : IsFileViolation (file_of [] [] (two_of_one_name ∷ []) []) DuplicateName (at 5)
 rpc_row =
-    offends (Offences.twice (at 5)
-    (Offences.two_rpcs two_of_one_name an_rpc later_rpc (0, omega arith, refl) (0, omega arith, refl)
+    offends (Violations.twice (at 5)
+    (Violations.two_rpcs two_of_one_name an_rpc later_rpc (0, omega arith, refl) (0, omega arith, refl)
     (1, omega arith, refl) refl (omega arith) refl) (refl, refl))
 
 -- ---- a service may have the full name of a package
@@ -290,7 +290,7 @@ abbrev of_package_s : Joined
 of_package_s =
     two_files (Some (word (codes "p") 0)) (Some (word (codes "p.S") 10)) (r_of_package_s ∷ []) (a_service ∷ [])
 
-data IsOfThese (sort : Sort) (full : List (List ℕ)) (span : Span) : Type 0 where
+data IsOfThese (sort : DeclKind) (full : List (List ℕ)) (span : Span) : Type 0 where
   the_service : sort ≡ no_type → length full ≡ 2 → span.start ≡ 1 → IsOfThese sort full span
   the_message : length full ≡ 3 → span.start ≡ 11 → IsOfThese sort full span
 
@@ -300,16 +300,16 @@ service_here s e =
     subst (λ (x : ServiceDecl). IsOfThese no_type (package_at of_package_s x.file ++ x.name.name ∷ []) x.name.span) e
     (the_service refl refl refl)
 
-message_here : (m : MessageDecl) (outer : List (List ℕ)) → r_of_package_s ≡ m → IsScope of_package_s (home_of m) outer
+message_here : (m : MessageDecl) (outer : List (List ℕ)) → r_of_package_s ≡ m → IsScope of_package_s (enclosing_of m) outer
     → IsOfThese a_message (outer ++ m.name.name ∷ []) m.name.span
 message_here m outer e is =
     let scope : IsScope of_package_s (home.File 1) outer =
-    subst (λ (x : MessageDecl). IsScope of_package_s (home_of x) outer) (sym e) is in
+    subst (λ (x : MessageDecl). IsScope of_package_s (enclosing_of x) outer) (sym e) is in
     let full : length (outer ++ codes "R" ∷ []) ≡ 3 =
     ap (λ (o : List (List ℕ)). length (o ++ codes "R" ∷ [])) (file_scope scope) in
     subst (λ (x : MessageDecl). IsOfThese a_message (outer ++ x.name.name ∷ []) x.name.span) e (the_message full refl)
 
-declared_these : {k : ℕ} {sort : Sort} {full : List (List ℕ)} {span : Span} → Declares of_package_s k sort full span
+declared_these : {k : ℕ} {sort : DeclKind} {full : List (List ℕ)} {span : Span} → IsDeclarationOf of_package_s k sort full span
     → IsOfThese sort full span
 declared_these (Scopes.message m {outer} c is) = message_here m outer (in_one_of r_of_package_s m c) is
 declared_these (Scopes.enum e c is) = absurd (nothing_in e c)
@@ -320,7 +320,7 @@ declared_these (Scopes.field m f c d is) =
 declared_these (Scopes.oneof m o c d is) =
     absurd (nothing_in o (subst (λ (x : MessageDecl). Contains x.oneofs o) (sym (in_one_of r_of_package_s m c)) d))
 
-apart_here : {a b : Sort} {full : List (List ℕ)} {s t : Span} → IsOfThese a full s → IsOfThese b full t
+apart_here : {a b : DeclKind} {full : List (List ℕ)} {s t : Span} → IsOfThese a full s → IsOfThese b full t
     → s.start < t.start → ⊥
 apart_here (the_service sort parts start) (the_service tort marts dart) l = omega arith
 apart_here (the_service sort parts start) (the_message marts dart) l = omega arith
@@ -332,8 +332,8 @@ package_small zero = omega arith
 package_small (suc zero) = omega arith
 package_small (suc (suc k)) = omega arith
 
-no_front : {sort : Sort} {full : List (List ℕ)} {span : Span} → IsOfThese sort full span → is_type sort ≡ true
-    → IsFront of_package_s full → ⊥
+no_front : {sort : DeclKind} {full : List (List ℕ)} {span : Span} → IsOfThese sort full span → is_type sort ≡ true
+    → IsPackagePrefix of_package_s full → ⊥
 no_front (the_service sort parts start) typ front = false≢true (sym (ap is_type sort) ∙ typ)
 no_front {full = full} (the_message parts start) typ front =
     let n : length (package_at of_package_s front.file) ≡ length (full ++ front.rest) = ap length front.begins in
@@ -348,15 +348,15 @@ one_rpc s r x e c d l =
     let b : 2 ≡ x.name.span.start = ap (λ (y : RpcDecl). y.name.span.start) (own x d) in
     omega arith
 
-service_row : (s : Span) → IsTwice of_package_s s → ⊥
-service_row s (Offences.declared j k a b full earlier d e l) = apart_here (declared_these d) (declared_these e) l
-service_row s (Offences.a_package k sort full d t front) = no_front (declared_these d) t front
-service_row s (Offences.two_rpcs x r u c d e name l is) = one_rpc x r u (in_one_of a_service x c) d e l
+service_row : (s : Span) → IsDuplicate of_package_s s → ⊥
+service_row s (Violations.declared j k a b full earlier d e l) = apart_here (declared_these d) (declared_these e) l
+service_row s (Violations.a_package k sort full d t front) = no_front (declared_these d) t front
+service_row s (Violations.two_rpcs x r u c d e name l is) = one_rpc x r u (in_one_of a_service x c) d e l
 
 -- ---- complete results: a file whose only violation is an import
 
-no_declaration : (imports : List Import) (file : ℕ) (sort : Sort) (full : List (List ℕ)) (s : Span)
-    → Declares (alone (file_of [] [] [] imports)) file sort full s → ⊥
+no_declaration : (imports : List Import) (file : ℕ) (sort : DeclKind) (full : List (List ℕ)) (s : Span)
+    → IsDeclarationOf (alone (file_of [] [] [] imports)) file sort full s → ⊥
 no_declaration imports file sort full s (Scopes.message m c is) = nothing_in m c
 no_declaration imports file sort full s (Scopes.enum e c is) = nothing_in e c
 no_declaration imports file sort full s (Scopes.service x c) = nothing_in x c
@@ -372,16 +372,16 @@ no_line imports s line (Lines.of_value e v h fits) = nothing_in e h.enum
 no_line imports s line (Lines.of_field m f n h e k form) = none-some m h.message
 no_line imports s line (Lines.of_method x r i at a b) = none-some (x, r) at
 
-not_twice : (imports : List Import) (s : Span) → IsTwice (alone (file_of [] [] [] imports)) s → ⊥
-not_twice imports s (Offences.declared j k a b full earlier d e l) = no_declaration imports k b full s e
-not_twice imports s (Offences.a_package k sort full d t front) = no_declaration imports k sort full s d
-not_twice imports s (Offences.two_rpcs x r u c d e name l is) = nothing_in x c
+not_twice : (imports : List Import) (s : Span) → IsDuplicate (alone (file_of [] [] [] imports)) s → ⊥
+not_twice imports s (Violations.declared j k a b full earlier d e l) = no_declaration imports k b full s e
+not_twice imports s (Violations.a_package k sort full d t front) = no_declaration imports k sort full s d
+not_twice imports s (Violations.two_rpcs x r u c d e name l is) = nothing_in x c
 
 not_long : (imports : List Import) (s : Span) → IsLongInFull (alone (file_of [] [] [] imports)) s → ⊥
-not_long imports s (Offences.a_type k sort full d t l) = no_declaration imports k sort full s d
-not_long imports s (Offences.a_service x c l e) = nothing_in x c
+not_long imports s (Violations.a_type k sort full d t l) = no_declaration imports k sort full s d
+not_long imports s (Violations.a_service x c l e) = nothing_in x c
 
-nothing_passes : (imports : List Import) (s : Span) → PassesAt (alone (file_of [] [] [] imports)) s → ⊥
+nothing_passes : (imports : List Import) (s : Span) → IsPastTextLimit (alone (file_of [] [] [] imports)) s → ⊥
 nothing_passes imports s p =
     let has = p.are p.last.0 (s, p.own) p.last.1 in
     no_line imports s p.own
@@ -394,31 +394,31 @@ no_package imports zero h w at e =
 no_package imports (suc k) h w at e = none-some h at
 
 nothing_offends : (imports : List Import) (q : ResolveReason) (s : Span)
-    → Offends (alone (file_of [] [] [] imports)) q s → ⊥
-nothing_offends imports q s (Offences.of_message i m at is o) = none-some m at
-nothing_offends imports q s (Offences.of_enum i e at o) = none-some e at
-nothing_offends imports q s (Offences.of_service i x at o) = none-some x at
-nothing_offends imports q s (Offences.of_method i x r at o) = none-some (x, r) at
-nothing_offends imports q s (Offences.of_package k h w at e l is) = no_package imports k h w at e
-nothing_offends imports q s (Offences.twice span t is) = not_twice imports span t
-nothing_offends imports q s (Offences.long_in_full span t is) = not_long imports span t
-nothing_offends imports q s (Offences.long_text span t is) = nothing_passes imports span t
+    → IsViolated (alone (file_of [] [] [] imports)) q s → ⊥
+nothing_offends imports q s (Violations.of_message i m at is o) = none-some m at
+nothing_offends imports q s (Violations.of_enum i e at o) = none-some e at
+nothing_offends imports q s (Violations.of_service i x at o) = none-some x at
+nothing_offends imports q s (Violations.of_method i x r at o) = none-some (x, r) at
+nothing_offends imports q s (Violations.of_package k h w at e l is) = no_package imports k h w at e
+nothing_offends imports q s (Violations.twice span t is) = not_twice imports span t
+nothing_offends imports q s (Violations.long_in_full span t is) = not_long imports span t
+nothing_offends imports q s (Violations.long_text span t is) = nothing_passes imports span t
 
-import_comes : (r : ResolveReason) (t : Span) → IsOffence (file_of [] [] [] (an_import ∷ [])) r t
-    → ComesFirst HasImport (at 1) r t
+import_comes : (r : ResolveReason) (t : Span) → IsFileViolation (file_of [] [] [] (an_import ∷ [])) r t
+    → IsNoLaterViolation HasImport (at 1) r t
 import_comes r t (offends o) = absurd (nothing_offends (an_import ∷ []) r t o)
-import_comes r t (Offences.has_import x e is) =
-    subst (λ (q : ResolveReason). ComesFirst HasImport (at 1) q t) (sym is.0)
-    (subst (λ (s : Span). ComesFirst HasImport (at 1) HasImport s) (sym is.1)
-    (subst (λ (y : Import). ComesFirst HasImport (at 1) HasImport y.span) (same_Some an_import x e)
+import_comes r t (Violations.has_import x e is) =
+    subst (λ (q : ResolveReason). IsNoLaterViolation HasImport (at 1) q t) (sym is.0)
+    (subst (λ (s : Span). IsNoLaterViolation HasImport (at 1) HasImport s) (sym is.1)
+    (subst (λ (y : Import). IsNoLaterViolation HasImport (at 1) HasImport y.span) (same_Some an_import x e)
     (inr (refl, omega arith))))
 
-empty_clean : (q : ResolveReason) (s : Span) → IsOffence (file_of [] [] [] []) q s → ⊥
+empty_clean : (q : ResolveReason) (s : Span) → IsFileViolation (file_of [] [] [] []) q s → ⊥
 empty_clean q s (offends o) = nothing_offends [] q s o
-empty_clean q s (Offences.has_import x e is) = none-some x e
+empty_clean q s (Violations.has_import x e is) = none-some x e
 
 -- import "x";
-import_first : HasOffence (file_of [] [] [] (an_import ∷ [])) HasImport (at 1)
+import_first : HasFirstFileViolation (file_of [] [] [] (an_import ∷ [])) HasImport (at 1)
 import_first = record {
   offence = import_row;
   first = λ r t o. import_comes r t o;
@@ -432,7 +432,7 @@ service_p = record { name = word (codes "p") 1; file = 0; rpcs = [] }
 abbrev with_package_p : Joined
 with_package_p = two_files None (Some (word (codes "p") 10)) [] (service_p ∷ [])
 
-declared_p : {k : ℕ} {sort : Sort} {full : List (List ℕ)} {span : Span} → Declares with_package_p k sort full span
+declared_p : {k : ℕ} {sort : DeclKind} {full : List (List ℕ)} {span : Span} → IsDeclarationOf with_package_p k sort full span
     → (sort ≡ no_type) × (span.start ≡ 1)
 declared_p (Scopes.message m c is) = absurd (nothing_in m c)
 declared_p (Scopes.enum e c is) = absurd (nothing_in e c)
@@ -442,19 +442,19 @@ declared_p (Scopes.value e v c d is) = absurd (nothing_in e c)
 declared_p (Scopes.field m f c d is) = absurd (nothing_in m c)
 declared_p (Scopes.oneof m o c d is) = absurd (nothing_in m c)
 
-no_type_here : {k : ℕ} {sort : Sort} {full : List (List ℕ)} {span : Span} → Declares with_package_p k sort full span
+no_type_here : {k : ℕ} {sort : DeclKind} {full : List (List ℕ)} {span : Span} → IsDeclarationOf with_package_p k sort full span
     → is_type sort ≡ true → ⊥
 no_type_here d typ = false≢true (sym (ap is_type (declared_p d).0) ∙ typ)
 
-p_not_twice : (s : Span) → IsTwice with_package_p s → ⊥
-p_not_twice s (Offences.declared j k a b full earlier d e l) = omega (arith, (declared_p d).1, (declared_p e).1, l)
-p_not_twice s (Offences.a_package k sort full d typ front) = no_type_here d typ
-p_not_twice s (Offences.two_rpcs x r u c d e name l is) =
+p_not_twice : (s : Span) → IsDuplicate with_package_p s → ⊥
+p_not_twice s (Violations.declared j k a b full earlier d e l) = omega (arith, (declared_p d).1, (declared_p e).1, l)
+p_not_twice s (Violations.a_package k sort full d typ front) = no_type_here d typ
+p_not_twice s (Violations.two_rpcs x r u c d e name l is) =
     nothing_in r (subst (λ (y : ServiceDecl). Contains y.rpcs r) (sym (in_one_of service_p x c)) d)
 
 p_not_long : (s : Span) → IsLongInFull with_package_p s → ⊥
-p_not_long s (Offences.a_type k sort full d typ l) = no_type_here d typ
-p_not_long s (Offences.a_service x c l e) =
+p_not_long s (Violations.a_type k sort full d typ l) = no_type_here d typ
+p_not_long s (Violations.a_service x c l e) =
     let k : 255 < 1 =
     subst (λ (y : ServiceDecl). 255 < length (text_of (package_at with_package_p y.file ++ y.name.name ∷ [])))
     (sym (in_one_of service_p x c)) l in
@@ -477,16 +477,16 @@ p_short_package (suc zero) h w at e =
     ap (λ (x : Word). is_short_full x.name) (sym (same_Some name w same))
 p_short_package (suc (suc k)) h w at e = absurd (none-some h at)
 
-p_clean : (q : ResolveReason) (s : Span) → Offends with_package_p q s → ⊥
-p_clean q s (Offences.of_message i m at is o) = none-some m at
-p_clean q s (Offences.of_enum i e at o) = none-some e at
-p_clean q s (Offences.of_service i x at o) =
+p_clean : (q : ResolveReason) (s : Span) → IsViolated with_package_p q s → ⊥
+p_clean q s (Violations.of_message i m at is o) = none-some m at
+p_clean q s (Violations.of_enum i e at o) = none-some e at
+p_clean q s (Violations.of_service i x at o) =
     false≢true (sym o.0 ∙ ap (λ (y : ServiceDecl). is_short y.name.name) (sym (only_one service_p x i at)))
-p_clean q s (Offences.of_method i x r at o) = none-some (x, r) at
-p_clean q s (Offences.of_package k h w at e l is) = false≢true (sym l ∙ p_short_package k h w at e)
-p_clean q s (Offences.twice span t is) = p_not_twice span t
-p_clean q s (Offences.long_in_full span t is) = p_not_long span t
-p_clean q s (Offences.long_text span p is) =
+p_clean q s (Violations.of_method i x r at o) = none-some (x, r) at
+p_clean q s (Violations.of_package k h w at e l is) = false≢true (sym l ∙ p_short_package k h w at e)
+p_clean q s (Violations.twice span t is) = p_not_twice span t
+p_clean q s (Violations.long_in_full span t is) = p_not_long span t
+p_clean q s (Violations.long_text span p is) =
     p_no_line span p.own
     (subst (λ (l : Span × List ℕ). HasLine with_package_p l.0 l.1) p.last.2
     (p.are p.last.0 (span, p.own) p.last.1))

@@ -16,11 +16,11 @@ use Rattle.proto_ast.specs.declared.joined.Head.{Head}
 use Rattle.proto_ast.specs.Joined.{Joined}
 use Rattle.schema_validation.specs.Methods.{service_rpcs}
 use Rattle.schema_validation.specs.Members
-use Rattle.schema_validation.specs.Members.{Is, MethodOffends}
-use Rattle.schema_validation.specs.Meeting.{first_of, IsWhere, Meets, PackageOffends}
+use Rattle.schema_validation.specs.Members.{Is, IsMethodViolation}
+use Rattle.schema_validation.specs.Recording.{first_violation_of, IsWhere, HasRecorded, IsPackageViolation}
 use Rattle.schema_validation.specs.declared.reason.ResolveReason.{ResolveReason}
 use Rattle.schema_validation.specs.declared.reason.ResolveReason.TheVariants.{Limit}
-use Rattle.schema_validation.specs.declared.first.First.{First}
+use Rattle.schema_validation.specs.declared.first.FirstViolation.{FirstViolation}
 use Rattle.schema_validation.proofs.Meetings.{meets_kept, meets_where, meets_as}
 
 -- ---- packages
@@ -33,12 +33,12 @@ true_not : (b : Bool) → b ≡ false → not b ≡ true
 true_not true e = absurd cc
 true_not false e = refl
 
-pub meets_package : (h : Head) (w : Word) (a b : First) → h.package ≡ Some w
+pub meets_package : (h : Head) (w : Word) (a b : FirstViolation) → h.package ≡ Some w
     → b.found ≡ cond (not (is_short_full w.name))
-    (Some (first_of a.found (record { reason = Limit; span = w.span }))) a.found
-    → Meets (PackageOffends h) a b
+    (Some (first_violation_of a.found (record { reason = Limit; span = w.span }))) a.found
+    → HasRecorded (IsPackageViolation h) a b
 meets_package h w a b at is =
-    meets_as (IsWhere (not (is_short_full w.name)) Limit w.span) (PackageOffends h) a b
+    meets_as (IsWhere (not (is_short_full w.name)) Limit w.span) (IsPackageViolation h) a b
     (meets_where (not (is_short_full w.name)) Limit w.span a b is)
     (λ q s p. record { name = w; declared = at; long = not_true (is_short_full w.name) p.0; is = p.1 })
     (λ q s p.
@@ -47,9 +47,9 @@ meets_package h w a b at is =
       subst (λ (v : Word). Is Limit v.span q s) same p.is,
     ))
 
-pub meets_no_package : (h : Head) (a b : First) → h.package ≡ None → b.found ≡ a.found → Meets (PackageOffends h) a b
+pub meets_no_package : (h : Head) (a b : FirstViolation) → h.package ≡ None → b.found ≡ a.found → HasRecorded (IsPackageViolation h) a b
 meets_no_package h a b none is =
-    meets_kept (PackageOffends h) a b (λ q s p. none-some p.name (sym none ∙ p.declared)) is
+    meets_kept (IsPackageViolation h) a b (λ q s p. none-some p.name (sym none ∙ p.declared)) is
 
 -- ---- methods by their index among all
 
@@ -97,22 +97,22 @@ methods_more services i x at =
 
 -- the index may be capped at the largest number
 counted_to : (F : Joined) (file : ℕ) (scope : List (List ℕ)) (n place : ℕ) (r : RpcDecl) → n ≡ min place (2 ^ 64 - 1)
-    → (q : ResolveReason) (s : Span) → MethodOffends F file scope n r q s → MethodOffends F file scope place r q s
+    → (q : ResolveReason) (s : Span) → IsMethodViolation F file scope n r q s → IsMethodViolation F file scope place r q s
 counted_to F file scope n place r e q s (Members.too_many_methods p is) = Members.too_many_methods (omega arith) is
 counted_to F file scope n place r e q s (Members.long_method p) = Members.long_method p
 counted_to F file scope n place r e q s (Members.no_input p is) = Members.no_input p is
 counted_to F file scope n place r e q s (Members.no_output p is) = Members.no_output p is
 
 counted_from : (F : Joined) (file : ℕ) (scope : List (List ℕ)) (n place : ℕ) (r : RpcDecl) → n ≡ min place (2 ^ 64 - 1)
-    → (q : ResolveReason) (s : Span) → MethodOffends F file scope place r q s → MethodOffends F file scope n r q s
+    → (q : ResolveReason) (s : Span) → IsMethodViolation F file scope place r q s → IsMethodViolation F file scope n r q s
 counted_from F file scope n place r e q s (Members.too_many_methods p is) = Members.too_many_methods (omega arith) is
 counted_from F file scope n place r e q s (Members.long_method p) = Members.long_method p
 counted_from F file scope n place r e q s (Members.no_input p is) = Members.no_input p is
 counted_from F file scope n place r e q s (Members.no_output p is) = Members.no_output p is
 
-pub meets_counted : (F : Joined) (file : ℕ) (scope : List (List ℕ)) (n place : ℕ) (r : RpcDecl) (a b : First)
-    → n ≡ min place (2 ^ 64 - 1) → Meets (MethodOffends F file scope n r) a b
-    → Meets (MethodOffends F file scope place r) a b
+pub meets_counted : (F : Joined) (file : ℕ) (scope : List (List ℕ)) (n place : ℕ) (r : RpcDecl) (a b : FirstViolation)
+    → n ≡ min place (2 ^ 64 - 1) → HasRecorded (IsMethodViolation F file scope n r) a b
+    → HasRecorded (IsMethodViolation F file scope place r) a b
 meets_counted F file scope n place r a b e m =
-    meets_as (MethodOffends F file scope n r) (MethodOffends F file scope place r) a b m
+    meets_as (IsMethodViolation F file scope n r) (IsMethodViolation F file scope place r) a b m
     (counted_to F file scope n place r e) (counted_from F file scope n place r e)

@@ -14,17 +14,17 @@ use Rattle.proto_ast.specs.declared.file.ServiceDecl.{ServiceDecl}
 use Rattle.proto_ast.specs.Joined.{Joined}
 use Rattle.proto_ast.specs.Order
 use Rattle.proto_ast.specs.Together
-use Rattle.proto_ast.specs.Order.{Part, its_type, its_key, its_value, its_name, its_number, its_input, its_output}
-use Rattle.proto_ast.specs.Together.{Declaration, StandsAt, IsOrdered, message_decl, field_decl, oneof_decl, enum_decl, value_decl, service_decl, rpc_decl, package_decl}
+use Rattle.proto_ast.specs.Order.{DeclPart, its_type, its_key, its_value, its_name, its_number, its_input, its_output}
+use Rattle.proto_ast.specs.Together.{DeclIndex, IsPartSpan, IsOrdered, message_decl, field_decl, oneof_decl, enum_decl, value_decl, service_decl, rpc_decl, package_decl}
 use Rattle.schema_symbols.specs.Scopes
-use Rattle.schema_symbols.specs.Scopes.{Sort, Declares}
+use Rattle.schema_symbols.specs.Scopes.{DeclKind, IsDeclarationOf}
 use Rattle.schema_validation.specs.Methods.{service_rpcs}
 use Rattle.schema_validation.specs.Members
-use Rattle.schema_validation.specs.Members.{KeyOffends, TypeOffends, NumberOffends, ValueOffends, NameOffends, MessageOffends, EnumOffends, MethodOffends}
+use Rattle.schema_validation.specs.Members.{IsKeyViolation, IsTypeViolation, IsNumberViolation, IsValueViolation, IsNameViolation, IsMessageViolation, IsEnumViolation, IsMethodViolation}
 use Rattle.schema_validation.specs.Lines
-use Rattle.schema_validation.specs.Lines.{HasLine, PassesAt}
-use Rattle.schema_validation.specs.Offences
-use Rattle.schema_validation.specs.Offences.{IsTwice, IsLongInFull, Offends, ComesFirst, HasFirst, rank_of}
+use Rattle.schema_validation.specs.Lines.{HasLine, IsPastTextLimit}
+use Rattle.schema_validation.specs.Violations
+use Rattle.schema_validation.specs.Violations.{IsDuplicate, IsLongInFull, IsViolated, IsNoLaterViolation, HasFirstViolation, violation_rank}
 use Rattle.schema_validation.specs.declared.reason.ResolveReason.{ResolveReason}
 use Rattle.schema_validation.specs.declared.reason.ResolveReason.TheVariants.{UnknownName, NumberRange, DuplicateNumber}
 use Rattle.schema_validation.specs.declared.reason.ResolveReason.TheVariants.{DuplicateName, Reserved, FirstEnum}
@@ -33,7 +33,7 @@ use Rattle.schema_validation.specs.declared.reason.ResolveReason.TheVariants.{Im
 
 -- a name or a number has this span
 abbrev Stands : Joined → Span → Type 0
-Stands F s = (x : Declaration) × (p : Part) × StandsAt F s x p
+Stands F s = (x : DeclIndex) × (p : DeclPart) × IsPartSpan F s x p
 
 -- ---- indices
 
@@ -69,7 +69,7 @@ rpc_placed (s ∷ ss) i x r e = elim (mapped_or_later s s.rpcs (flat_map service
 module _ (F : Joined) (s : Span) where
   key_stands : (G : Joined) (file : ℕ) (scope : List (List ℕ)) (i j : ℕ) (m : MessageDecl) (f : FieldDecl) (k v : Word)
       (q : ResolveReason) → slice_get F.messages i ≡ Some m → slice_get m.fields j ≡ Some f
-      → f.kind ≡ Map k v → KeyOffends G file scope k q s → Stands F s
+      → f.kind ≡ Map k v → IsKeyViolation G file scope k q s → Stands F s
   key_stands G file scope i j m f k v q at fat e (Members.unknown_key o) =
       (field_decl i j, its_key, Together.field i j m f at fat (Order.map_key k v e o.is.1))
   key_stands G file scope i j m f k v q at fat e (Members.scalar_key n a b is) =
@@ -79,7 +79,7 @@ module _ (F : Joined) (s : Span) where
 
   outer_stands : (G : Joined) (file : ℕ) (scope : List (List ℕ)) (i j : ℕ) (m : MessageDecl) (f : FieldDecl) (k : Word)
       (q : ResolveReason) → slice_get F.messages i ≡ Some m → slice_get m.fields j ≡ Some f
-      → f.kind ≡ NestedMap k → KeyOffends G file scope k q s → Stands F s
+      → f.kind ≡ NestedMap k → IsKeyViolation G file scope k q s → Stands F s
   outer_stands G file scope i j m f k q at fat e (Members.unknown_key o) =
       (field_decl i j, its_key, Together.field i j m f at fat (Order.outer_key k e o.is.1))
   outer_stands G file scope i j m f k q at fat e (Members.scalar_key n a b is) =
@@ -89,7 +89,7 @@ module _ (F : Joined) (s : Span) where
 
   type_stands : (G : Joined) (file : ℕ) (scope : List (List ℕ)) (i j : ℕ) (m : MessageDecl) (f : FieldDecl)
       (q : ResolveReason) → slice_get F.messages i ≡ Some m → slice_get m.fields j ≡ Some f
-      → TypeOffends G file scope f q s → Stands F s
+      → IsTypeViolation G file scope f q s → Stands F s
   type_stands G file scope i j m f q at fat (Members.unknown_type w e o) =
       (field_decl i j, its_type, Together.field i j m f at fat (Order.field_type w e o.is.1))
   type_stands G file scope i j m f q at fat (Members.bad_key k v e o) = key_stands G file scope i j m f k v q at fat e o
@@ -100,7 +100,7 @@ module _ (F : Joined) (s : Span) where
       (field_decl i j, its_name, Together.field i j m f at fat (Order.field_name is.1))
 
   number_stands : (i j : ℕ) (m : MessageDecl) (q : ResolveReason) → slice_get F.messages i ≡ Some m
-      → NumberOffends m j q s → Stands F s
+      → IsNumberViolation m j q s → Stands F s
   number_stands i j m q at (Members.number_out_of_range f fat o is) =
       (field_decl i j, its_number, Together.field i j m f at fat (Order.field_number is.1))
   number_stands i j m q at (Members.number_met_before f g k fat l gat e is) =
@@ -109,7 +109,7 @@ module _ (F : Joined) (s : Span) where
       (field_decl i j, its_number, Together.field i j m f at fat (Order.field_number is.1))
 
   value_stands : (i j : ℕ) (e : EnumDecl) (q : ResolveReason) → slice_get F.enums i ≡ Some e
-      → ValueOffends e j q s → Stands F s
+      → IsValueViolation e j q s → Stands F s
   value_stands i j e q at (Members.value_out_of_range v vat o is) =
       (value_decl i j, its_number, Together.value i j e v at vat (Order.value_number is.1))
   value_stands i j e q at (Members.value_reserved v vat o is) =
@@ -117,14 +117,14 @@ module _ (F : Joined) (s : Span) where
   value_stands i j e q at (Members.first_not_zero v vat z o is) =
       (value_decl i j, its_number, Together.value i j e v at vat (Order.value_number is.1))
 
-  name_is : (names : List Word) (limit i : ℕ) (w : Word) (q : ResolveReason) → NameOffends names limit i w q s
+  name_is : (names : List Word) (limit i : ℕ) (w : Word) (q : ResolveReason) → IsNameViolation names limit i w q s
       → s ≡ w.span
   name_is names limit i w q (Members.name_reserved o is) = is.1
   name_is names limit i w q (Members.name_long o) = o.1.1
   name_is names limit i w q (Members.name_too_many o is) = is.1
 
   message_stands : (G : Joined) (file : ℕ) (scope : List (List ℕ)) (n i : ℕ) (m : MessageDecl) (q : ResolveReason)
-      → slice_get F.messages i ≡ Some m → MessageOffends G file scope n m q s → Stands F s
+      → slice_get F.messages i ≡ Some m → IsMessageViolation G file scope n m q s → Stands F s
   message_stands G file scope n i m q at (Members.too_many_messages l is) =
       (message_decl i, its_name, Together.message i m at is.1)
   message_stands G file scope n i m q at (Members.long_message o) =
@@ -137,7 +137,7 @@ module _ (F : Joined) (s : Span) where
       (oneof_decl i j, its_name, Together.oneof i j m w at oat o.1.1)
 
   enum_stands : (n i : ℕ) (e : EnumDecl) (q : ResolveReason) → slice_get F.enums i ≡ Some e
-      → EnumOffends n e q s → Stands F s
+      → IsEnumViolation n e q s → Stands F s
   enum_stands n i e q at (Members.too_many_enums l is) = (enum_decl i, its_name, Together.enum i e at is.1)
   enum_stands n i e q at (Members.long_enum o) = (enum_decl i, its_name, Together.enum i e at o.1.1)
   enum_stands n i e q at (Members.of_value j o) = value_stands i j e q at o
@@ -146,7 +146,7 @@ module _ (F : Joined) (s : Span) where
 
   method_stands : (G : Joined) (file : ℕ) (scope : List (List ℕ)) (n a b : ℕ) (x : ServiceDecl) (r : RpcDecl)
       (q : ResolveReason) → slice_get F.services a ≡ Some x → slice_get x.rpcs b ≡ Some r
-      → MethodOffends G file scope n r q s → Stands F s
+      → IsMethodViolation G file scope n r q s → Stands F s
   method_stands G file scope n a b x r q at rat (Members.too_many_methods l is) =
       (rpc_decl a b, its_name, Together.rpc a b x r at rat (Order.rpc_name is.1))
   method_stands G file scope n a b x r q at rat (Members.long_method o) =
@@ -158,7 +158,7 @@ module _ (F : Joined) (s : Span) where
 
 -- ---- declarations and lines
 
-declared_stands : (F : Joined) (file : ℕ) (sort : Sort) (full : List (List ℕ)) (s : Span) → Declares F file sort full s
+declared_stands : (F : Joined) (file : ℕ) (sort : DeclKind) (full : List (List ℕ)) (s : Span) → IsDeclarationOf F file sort full s
     → Stands F s
 declared_stands F file sort full s (Scopes.message m c is) =
     let p = placed F.messages m c in
@@ -202,38 +202,38 @@ line_stands F s line (Lines.of_method x r i at a b) =
 
 -- ---- violations
 
-twice_stands : (F : Joined) (s : Span) → IsTwice F s → Stands F s
-twice_stands F s (Offences.declared j k a b full earlier d e l) = declared_stands F k b full s e
-twice_stands F s (Offences.a_package k sort full d t front) = declared_stands F k sort full s d
-twice_stands F s (Offences.two_rpcs x r t c d e name l is) =
+twice_stands : (F : Joined) (s : Span) → IsDuplicate F s → Stands F s
+twice_stands F s (Violations.declared j k a b full earlier d e l) = declared_stands F k b full s e
+twice_stands F s (Violations.a_package k sort full d t front) = declared_stands F k sort full s d
+twice_stands F s (Violations.two_rpcs x r t c d e name l is) =
     let p = placed F.services x c in
     let o = placed x.rpcs t e in
     (rpc_decl p.0 o.0, its_name, Together.rpc p.0 o.0 x t p.1 o.1 (Order.rpc_name is))
 
 long_stands : (F : Joined) (s : Span) → IsLongInFull F s → Stands F s
-long_stands F s (Offences.a_type k sort full d t l) = declared_stands F k sort full s d
-long_stands F s (Offences.a_service x c l e) =
+long_stands F s (Violations.a_type k sort full d t l) = declared_stands F k sort full s d
+long_stands F s (Violations.a_service x c l e) =
     let p = placed F.services x c in
     (service_decl p.0, its_name, Together.service p.0 x p.1 e)
 
-text_stands : (F : Joined) (s : Span) → PassesAt F s → Stands F s
+text_stands : (F : Joined) (s : Span) → IsPastTextLimit F s → Stands F s
 text_stands F s p =
     let k = p.last.0 in
     let has = p.are k (s, p.own) p.last.1 in
     line_stands F s p.own (subst (λ (l : Span × List ℕ). HasLine F l.0 l.1) p.last.2 has)
 
-pub offends_stands : (F : Joined) (q : ResolveReason) (s : Span) → Offends F q s → Stands F s
-offends_stands F q s (Offences.of_message i m at is o) = message_stands F s _ _ _ _ i m q at o
-offends_stands F q s (Offences.of_enum i e at o) = enum_stands F s _ i e q at o
-offends_stands F q s (Offences.of_service i x at o) = (service_decl i, its_name, Together.service i x at o.1.1)
-offends_stands F q s (Offences.of_method i x r at o) =
+pub offends_stands : (F : Joined) (q : ResolveReason) (s : Span) → IsViolated F q s → Stands F s
+offends_stands F q s (Violations.of_message i m at is o) = message_stands F s _ _ _ _ i m q at o
+offends_stands F q s (Violations.of_enum i e at o) = enum_stands F s _ i e q at o
+offends_stands F q s (Violations.of_service i x at o) = (service_decl i, its_name, Together.service i x at o.1.1)
+offends_stands F q s (Violations.of_method i x r at o) =
     let p = rpc_placed F.services i x r at in
     method_stands F s _ _ _ _ p.0 p.1 x r q p.2 p.3 o
-offends_stands F q s (Offences.of_package k h w at e l is) =
+offends_stands F q s (Violations.of_package k h w at e l is) =
     (package_decl k, its_name, Together.package_name k h w at e is.1)
-offends_stands F q s (Offences.twice span t is) = subst (Stands F) (sym is.1) (twice_stands F span t)
-offends_stands F q s (Offences.long_in_full span t is) = subst (Stands F) (sym is.1) (long_stands F span t)
-offends_stands F q s (Offences.long_text span t is) = subst (Stands F) (sym is.1) (text_stands F span t)
+offends_stands F q s (Violations.twice span t is) = subst (Stands F) (sym is.1) (twice_stands F span t)
+offends_stands F q s (Violations.long_in_full span t is) = subst (Stands F) (sym is.1) (long_stands F span t)
+offends_stands F q s (Violations.long_text span t is) = subst (Stands F) (sym is.1) (text_stands F span t)
 
 -- ---- the first violation is unique
 
@@ -250,7 +250,7 @@ reason_of (suc (suc (suc (suc (suc (suc (suc (suc zero)))))))) = MapPlace
 reason_of (suc (suc (suc (suc (suc (suc (suc (suc (suc zero))))))))) = Limit
 reason_of n = HasImport
 
-reason_back : (q : ResolveReason) → reason_of (rank_of q) ≡ q
+reason_back : (q : ResolveReason) → reason_of (violation_rank q) ≡ q
 unfolding reason_of
 reason_back UnknownName = refl
 reason_back NumberRange = refl
@@ -263,21 +263,21 @@ reason_back MapPlace = refl
 reason_back Limit = refl
 reason_back HasImport = refl
 
-one_reason : (q r : ResolveReason) → rank_of q ≡ rank_of r → q ≡ r
+one_reason : (q r : ResolveReason) → violation_rank q ≡ violation_rank r → q ≡ r
 one_reason q r e = sym (reason_back q) ∙ (ap reason_of e ∙ reason_back r)
 
-one_start : (q r : ResolveReason) (s t : Span) → ComesFirst q s r t → ComesFirst r t q s
-    → (s.start ≡ t.start) × (rank_of q ≡ rank_of r)
+one_start : (q r : ResolveReason) (s t : Span) → IsNoLaterViolation q s r t → IsNoLaterViolation r t q s
+    → (s.start ≡ t.start) × (violation_rank q ≡ violation_rank r)
 one_start q r s t (inl a) (inl b) = absurd (omega arith)
 one_start q r s t (inl a) (inr b) = let e : t.start ≡ s.start = b.0 in absurd (omega arith)
 one_start q r s t (inr a) (inl b) = let e : s.start ≡ t.start = a.0 in absurd (omega arith)
 one_start q r s t (inr a) (inr b) =
-    let k : rank_of q ≤ rank_of r = a.1 in
-    let l : rank_of r ≤ rank_of q = b.1 in
+    let k : violation_rank q ≤ violation_rank r = a.1 in
+    let l : violation_rank r ≤ violation_rank q = b.1 in
     (a.0, omega arith)
 
 -- two first violations of files in order are equal
-pub first_is_one : (F : Joined) (q r : ResolveReason) (s t : Span) → IsOrdered F → HasFirst F q s → HasFirst F r t
+pub first_is_one : (F : Joined) (q r : ResolveReason) (s t : Span) → IsOrdered F → HasFirstViolation F q s → HasFirstViolation F r t
     → (q ≡ r) × (s ≡ t)
 first_is_one F q r s t order a b =
     let same = one_start q r s t (a.first r t b.offence) (b.first q s a.offence) in

@@ -9,18 +9,18 @@ use Rattle.proto_ast.specs.declared.file.FieldType.{FieldType}
 use Rattle.proto_ast.specs.declared.file.FieldType.TheVariants.{Named, Map, NestedMap}
 use Rattle.proto_ast.specs.declared.file.FieldDecl.{FieldDecl}
 use Rattle.proto_ast.specs.Joined.{Joined}
-use Rattle.schema_symbols.specs.Numbers.{sort_of}
+use Rattle.schema_symbols.specs.Numbers.{decl_kind}
 use Rattle.schema_validation.specs.Types.{IsNoScalar}
 use Rattle.schema_validation.specs.Members
-use Rattle.schema_symbols.specs.Finding.{NamesNothing}
-use Rattle.schema_validation.specs.Members.{Is, IsNoType, KeyOffends, IsMisplaced, TypeOffends}
-use Rattle.schema_validation.specs.Forms.{IsType, may_be_key}
-use Rattle.schema_validation.specs.Meeting.{first_of, IsWhere, Meets}
+use Rattle.schema_symbols.specs.Lookups.{IsUnresolved}
+use Rattle.schema_validation.specs.Members.{Is, IsNoType, IsKeyViolation, IsMisplacedMap, IsTypeViolation}
+use Rattle.schema_validation.specs.Shapes.{IsType, may_be_key}
+use Rattle.schema_validation.specs.Recording.{first_violation_of, IsWhere, HasRecorded}
 use Rattle.schema_validation.specs.declared.types.TypeOf.{TypeOf}
 use Rattle.schema_validation.specs.declared.types.TypeOf.TheVariants.{Scalar, Named as OfName}
 use Rattle.schema_validation.specs.declared.reason.ResolveReason.{ResolveReason}
 use Rattle.schema_validation.specs.declared.reason.ResolveReason.TheVariants.{UnknownName, MapKey, MapPlace}
-use Rattle.schema_validation.specs.declared.first.First.{First}
+use Rattle.schema_validation.specs.declared.first.FirstViolation.{FirstViolation}
 use Rattle.schema_validation.proofs.Scalars.{scalar_one}
 use Rattle.schema_validation.proofs.Meetings.{meets_noted, meets_where, meets_as}
 use Rattle.schema_validation.proofs.Unless.{meets_unless}
@@ -28,19 +28,19 @@ use Rattle.schema_validation.proofs.Unless.{meets_unless}
 -- ---- an unknown type
 
 abbrev IsNone : Joined → ℕ → List (List ℕ) → Word → Type 0
-IsNone F file scope w = IsNoScalar w.name × NamesNothing F file scope w.name
+IsNone F file scope w = IsNoScalar w.name × IsUnresolved F file scope w.name
 
 known_type : (F : Joined) (file : ℕ) (scope : List (List ℕ)) (w : Word) (t : TypeOf) → IsType F file scope w.name t
     → IsNone F file scope w → ⊥
 known_type F file scope w (Scalar k) is none = none.0 k is
-known_type F file scope w (OfName n) is none = none.1 (sort_of n) is.1.0 is.1.1
+known_type F file scope w (OfName n) is none = none.1 (decl_kind n) is.1.0 is.1.1
 
 pub meets_no_type : (F : Joined) (file : ℕ) (scope : List (List ℕ)) (w : Word) (o : Option TypeOf) (missing : Bool)
-    (a b : First)
+    (a b : FirstViolation)
     → is_some o ≡ not missing
-    → MatchOption o (IsNoScalar w.name × NamesNothing F file scope w.name) (IsType F file scope w.name)
-    → b.found ≡ cond missing (Some (first_of a.found (record { reason = UnknownName; span = w.span }))) a.found
-    → Meets (IsNoType F file scope w) a b
+    → MatchOption o (IsNoScalar w.name × IsUnresolved F file scope w.name) (IsType F file scope w.name)
+    → b.found ≡ cond missing (Some (first_violation_of a.found (record { reason = UnknownName; span = w.span }))) a.found
+    → HasRecorded (IsNoType F file scope w) a b
 meets_no_type F file scope w o missing a b e m is =
     meets_as (λ q s. IsNone F file scope w × Is UnknownName w.span q s) (IsNoType F file scope w) a b
     (meets_unless (IsNone F file scope w) (IsType F file scope w.name) o missing UnknownName w.span a b e m
@@ -60,12 +60,12 @@ true_not false e = refl
 
 key_to : (F : Joined) (file : ℕ) (scope : List (List ℕ)) (key : Word) (t : TypeOf) → IsType F file scope key.name t
     → (q : ResolveReason) (s : Span) → IsWhere (not (may_be_key t)) MapKey key.span q s
-    → KeyOffends F file scope key q s
+    → IsKeyViolation F file scope key q s
 key_to F file scope key (Scalar k) is q s p = Members.scalar_key k is (not_true (is_key k) p.0) p.1
-key_to F file scope key (OfName n) is q s p = Members.type_key (sort_of n) is.1.0 is.0 is.1.1 p.1
+key_to F file scope key (OfName n) is q s p = Members.type_key (decl_kind n) is.1.0 is.0 is.1.1 p.1
 
 key_from : (F : Joined) (file : ℕ) (scope : List (List ℕ)) (key : Word) (t : TypeOf) → IsType F file scope key.name t
-    → (q : ResolveReason) (s : Span) → KeyOffends F file scope key q s
+    → (q : ResolveReason) (s : Span) → IsKeyViolation F file scope key q s
     → IsWhere (not (may_be_key t)) MapKey key.span q s
 key_from F file scope key t is q s (Members.unknown_key p) =
     absurd (known_type F file scope key t is (p.no_scalar, p.unknown))
@@ -75,31 +75,31 @@ key_from F file scope key (OfName n) is q s (Members.scalar_key j named bad here
 key_from F file scope key (Scalar k) is q s (Members.type_key sort full none names here) = absurd (none k is)
 key_from F file scope key (OfName n) is q s (Members.type_key sort full none names here) = (refl, here)
 
-pub meets_key : (F : Joined) (file : ℕ) (scope : List (List ℕ)) (key : Word) (t : TypeOf) (bad : Bool) (a b : First)
+pub meets_key : (F : Joined) (file : ℕ) (scope : List (List ℕ)) (key : Word) (t : TypeOf) (bad : Bool) (a b : FirstViolation)
     → IsType F file scope key.name t → bad ≡ not (may_be_key t)
-    → b.found ≡ cond bad (Some (first_of a.found (record { reason = MapKey; span = key.span }))) a.found
-    → Meets (KeyOffends F file scope key) a b
+    → b.found ≡ cond bad (Some (first_violation_of a.found (record { reason = MapKey; span = key.span }))) a.found
+    → HasRecorded (IsKeyViolation F file scope key) a b
 meets_key F file scope key t bad a b is e noted =
-    meets_as (IsWhere (not (may_be_key t)) MapKey key.span) (KeyOffends F file scope key) a b
+    meets_as (IsWhere (not (may_be_key t)) MapKey key.span) (IsKeyViolation F file scope key) a b
     (meets_where (not (may_be_key t)) MapKey key.span a b
-    (subst (λ (x : Bool). b.found ≡ cond x (Some (first_of a.found (record { reason = MapKey; span = key.span })))
+    (subst (λ (x : Bool). b.found ≡ cond x (Some (first_violation_of a.found (record { reason = MapKey; span = key.span })))
     a.found)
     e noted))
     (key_to F file scope key t is) (key_from F file scope key t is)
 
 no_key_from : (F : Joined) (file : ℕ) (scope : List (List ℕ)) (key : Word)
-    → IsNoScalar key.name × NamesNothing F file scope key.name
-    → (q : ResolveReason) (s : Span) → KeyOffends F file scope key q s → Is UnknownName key.span q s
+    → IsNoScalar key.name × IsUnresolved F file scope key.name
+    → (q : ResolveReason) (s : Span) → IsKeyViolation F file scope key q s → Is UnknownName key.span q s
 no_key_from F file scope key none q s (Members.unknown_key p) = p.is
 no_key_from F file scope key none q s (Members.scalar_key j named bad here) = absurd (none.0 j named)
 no_key_from F file scope key none q s (Members.type_key sort full n names here) = absurd (none.1 sort full names)
 
-pub meets_no_key : (F : Joined) (file : ℕ) (scope : List (List ℕ)) (key : Word) (a b : First)
-    → IsNoScalar key.name × NamesNothing F file scope key.name
-    → b.found ≡ Some (first_of a.found (record { reason = UnknownName; span = key.span }))
-    → Meets (KeyOffends F file scope key) a b
+pub meets_no_key : (F : Joined) (file : ℕ) (scope : List (List ℕ)) (key : Word) (a b : FirstViolation)
+    → IsNoScalar key.name × IsUnresolved F file scope key.name
+    → b.found ≡ Some (first_violation_of a.found (record { reason = UnknownName; span = key.span }))
+    → HasRecorded (IsKeyViolation F file scope key) a b
 meets_no_key F file scope key a b none noted =
-    meets_as (Is UnknownName key.span) (KeyOffends F file scope key) a b (meets_noted UnknownName key.span a b noted)
+    meets_as (Is UnknownName key.span) (IsKeyViolation F file scope key) a b (meets_noted UnknownName key.span a b noted)
     (λ q s p. Members.unknown_key (record { no_scalar = none.0; unknown = none.1; is = p }))
     (no_key_from F file scope key none)
 
@@ -107,25 +107,25 @@ meets_no_key F file scope key a b none noted =
 
 abbrev pub KindOffends : Joined → ℕ → List (List ℕ) → FieldType → ResolveReason → Span → Type 0
 KindOffends F file scope (Named w) q s = IsNoType F file scope w q s
-KindOffends F file scope (Map k v) q s = KeyOffends F file scope k q s ⊎ IsNoType F file scope v q s
-KindOffends F file scope (NestedMap k) q s = KeyOffends F file scope k q s
+KindOffends F file scope (Map k v) q s = IsKeyViolation F file scope k q s ⊎ IsNoType F file scope v q s
+KindOffends F file scope (NestedMap k) q s = IsKeyViolation F file scope k q s
 
 kind_to : (F : Joined) (file : ℕ) (scope : List (List ℕ)) (f : FieldDecl) (kind : FieldType) → f.kind ≡ kind
-    → (q : ResolveReason) (s : Span) → KindOffends F file scope kind q s → TypeOffends F file scope f q s
+    → (q : ResolveReason) (s : Span) → KindOffends F file scope kind q s → IsTypeViolation F file scope f q s
 kind_to F file scope f (Named w) e q s p = Members.unknown_type w e p
 kind_to F file scope f (Map k v) e q s (inl p) = Members.bad_key k v e p
 kind_to F file scope f (Map k v) e q s (inr p) = Members.unknown_value k v e p
 kind_to F file scope f (NestedMap k) e q s p = Members.bad_outer_key k e p
 
 pub type_to : (F : Joined) (file : ℕ) (scope : List (List ℕ)) (f : FieldDecl) (q : ResolveReason) (s : Span)
-    → (KindOffends F file scope f.kind q s ⊎ (IsMisplaced f × Is MapPlace f.name.span q s))
-    → TypeOffends F file scope f q s
+    → (KindOffends F file scope f.kind q s ⊎ (IsMisplacedMap f × Is MapPlace f.name.span q s))
+    → IsTypeViolation F file scope f q s
 type_to F file scope f q s (inl p) = kind_to F file scope f f.kind refl q s p
 type_to F file scope f q s (inr p) = Members.misplaced p.0 p.1
 
 pub type_from : (F : Joined) (file : ℕ) (scope : List (List ℕ)) (f : FieldDecl) (q : ResolveReason) (s : Span)
-    → TypeOffends F file scope f q s → KindOffends F file scope f.kind q s
-    ⊎ (IsMisplaced f × Is MapPlace f.name.span q s)
+    → IsTypeViolation F file scope f q s → KindOffends F file scope f.kind q s
+    ⊎ (IsMisplacedMap f × Is MapPlace f.name.span q s)
 type_from F file scope f q s (Members.unknown_type w e p) =
     inl (subst (λ (k : FieldType). KindOffends F file scope k q s) (sym e) p)
 type_from F file scope f q s (Members.bad_key k v e p) =

@@ -1,12 +1,12 @@
 pub mod Methods
 pub mod Types
-pub mod Those
+pub mod Correspondence
 pub mod Members
 pub mod Lines
-pub mod Offences
+pub mod Violations
 pub mod Ranges
-pub mod Meeting
-pub mod Forms
+pub mod Recording
+pub mod Shapes
 pub mod ReservedNames
 pub mod Lengths
 pub mod Entries

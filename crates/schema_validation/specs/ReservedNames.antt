@@ -9,8 +9,8 @@ use Rattle.proto_ast.specs.declared.file.Word.{Word}
 use Rattle.schema_validation.specs.Members.{IsReservedName}
 use Rattle.schema_validation.specs.declared.name_set.NameSet.{NameSet}
 
-abbrev pub has_name : NameSet → List ℕ → Bool
-has_name kept name = is_some (get_by (λ (key : Bor (List ℕ)). slice_cmp nat_cmp name key.now) kept.names)
+abbrev pub has_reserved_name : NameSet → List ℕ → Bool
+has_reserved_name kept name = is_some (get_by (λ (key : Bor (List ℕ)). slice_cmp nat_cmp name key.now) kept.names)
 
-abbrev pub KeepsNames : List Word → NameSet → Type 0
-KeepsNames words kept = (name : List ℕ) → (has_name kept name ≡ true) ↔ IsReservedName words name
+abbrev pub HasReservedNames : List Word → NameSet → Type 0
+HasReservedNames words kept = (name : List ℕ) → (has_reserved_name kept name ≡ true) ↔ IsReservedName words name

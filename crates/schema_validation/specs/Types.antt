@@ -16,12 +16,12 @@ use Rattle.proto_ast.specs.declared.file.FieldLabel.TheVariants.{Plain, Optional
 use Rattle.proto_ast.specs.declared.file.FieldType.TheVariants.{Named, Map}
 use Rattle.proto_ast.specs.declared.file.FieldDecl.{FieldDecl}
 use Rattle.proto_ast.specs.Joined.{Joined}
-use Rattle.schema_symbols.specs.Scopes.{a_message, an_enum, text_of, Names}
+use Rattle.schema_symbols.specs.Scopes.{a_message, an_enum, text_of, IsReferenceTo}
 
 -- ---- numbers
 
-abbrev pub value_of : Number → ℤ
-value_of n = if n.negative then neg_ℤ (pos (magnitude n.value)) else pos (magnitude n.value)
+abbrev pub signed_value : Number → ℤ
+signed_value n = if n.negative then neg_ℤ (pos (magnitude n.value)) else pos (magnitude n.value)
 
 -- ---- types
 
@@ -42,9 +42,9 @@ IsNoScalar name = (k : Kind) → IsScalar name k → ⊥
 -- record. The name of a scalar always means the scalar, whatever is declared.
 pub data HasType (F : Joined) (file : ℕ) (scope : List (List ℕ)) (w : Word) : List ℕ → Bool → Bool → Type 0 where
   scalar : (k : Kind) → IsScalar w.name k → HasType F file scope w w.name false (is_numeric k)
-  message : (full : List (List ℕ)) → IsNoScalar w.name → Names F file scope w.name a_message full
+  message : (full : List (List ℕ)) → IsNoScalar w.name → IsReferenceTo F file scope w.name a_message full
       → HasType F file scope w (codes "message:" ++ text_of full) true false
-  enum : (full : List (List ℕ)) → IsNoScalar w.name → Names F file scope w.name an_enum full
+  enum : (full : List (List ℕ)) → IsNoScalar w.name → IsReferenceTo F file scope w.name an_enum full
       → HasType F file scope w (codes "enum:" ++ text_of full) false true
 
 -- ---- labels
@@ -65,11 +65,11 @@ label_in None label = label
 label_in (Some i) label = labels.Member i
 
 -- the label of a field and the word for its type; a oneof is given by its index in the message
-pub data HasForm (F : Joined) (file : ℕ) (scope : List (List ℕ)) (f : FieldDecl) : Label → List ℕ → Type 0 where
+pub data HasShape (F : Joined) (file : ℕ) (scope : List (List ℕ)) (f : FieldDecl) : Label → List ℕ → Type 0 where
   single : (w : Word) (word : List ℕ) (is_message packable : Bool) → f.kind ≡ Named w
       → HasType F file scope w word is_message packable
-      → HasForm F file scope f (label_in f.oneof (single_label f.label f.packed is_message packable)) word
+      → HasShape F file scope f (label_in f.oneof (single_label f.label f.packed is_message packable)) word
   a_map : (key value : Word) (k : Kind) (word : List ℕ) (is_message packable : Bool) → f.kind ≡ Map key value
       → f.label ≡ Plain → f.oneof ≡ None → IsScalar key.name k → IsTrue (is_key k)
       → HasType F file scope value word is_message packable
-      → HasForm F file scope f (labels.Map k) word
+      → HasShape F file scope f (labels.Map k) word

@@ -7,24 +7,25 @@ ghost use Rattle.mrpc_table.specs.Scalars.{no_table};
 ghost use Rattle.mrpc_table.specs.declared.table.Label.TheVariants as labels;
 ghost use Rattle.mrpc_table.specs.Text.{kind_text, label_text, value_line};
 ghost use Rattle.proto_ast.specs.Together.{IsFormed, IsOrdered, field_decl, rpc_decl};
-ghost use Rattle.proto_ast.specs.Joined.{package_parts, home_of, enum_home_of};
-ghost use Rattle.proto_ast.specs.declared.joined.Home.TheVariants as home;
+ghost use Rattle.proto_ast.specs.Joined.{package_parts, enclosing_of, enclosing_of_enum};
+ghost use Rattle.proto_ast.specs.declared.joined.Enclosing.TheVariants as home;
 ghost use Rattle.schema_symbols.specs.Scopes.{IsScope};
-ghost use Rattle.schema_validation.specs.Types.{value_of, label_in};
-ghost use Rattle.schema_validation.specs.Meeting.{Meets, AtSome, OfElement, LongIn, PassesIn};
+ghost use Rattle.schema_validation.specs.Types.{signed_value, label_in};
+ghost use Rattle.schema_validation.specs.Recording.{HasRecorded, IsOfAny, IsOfElement, IsLongNameViolation, IsLongTextViolation};
 ghost use Rattle.mrpc_table.specs.Capped.{capped};
-ghost use Rattle.schema_validation.specs.Lengths.{front_length, KeepsLengths, AreLengths, full_length, IsKept, IsKeptHome, type_length, IsLengthAt, added, rpcs_before, Covers, CoversAll, IsPast, IsLongName};
+ghost use Rattle.schema_validation.specs.Lengths.{prefix_length, HasLengths, AreLengths, full_length, IsKeptType, IsKeptHome, type_length, IsLengthAt, line_entry, rpcs_before, HasLinesBefore, HasAllLines, IsPast, IsLongName};
 
-use crate::first::First;
+use crate::first::FirstViolation;
 use crate::numbers::{enum_number, field_number};
 use crate::reason::ResolveReason;
 use crate::services::message_of;
-use crate::types::{Form, TypeOf, form_of};
+use crate::types::{FieldShape, TypeOf, field_shape_of};
 use mrpc_table::{Kind, Label, MAX_FULL_NAME, MAX_TEXT, Memory};
 use proto_ast::{
-    FieldDecl, Head, Home, Joined, MessageDecl, RpcDecl, ServiceDecl, Span, ValueDecl, Word, Words,
+    Enclosing, FieldDecl, Head, Joined, MessageDecl, RpcDecl, ServiceDecl, Span, ValueDecl, Word,
+    Words,
 };
-use schema_symbols::{Named, Scopes, one_name, one_scope};
+use schema_symbols::{Symbol, SymbolTable, reference_is_unique, scope_is_determined};
 use std::alloc::Global;
 
 // The lengths of full names.
@@ -37,8 +38,8 @@ pub(crate) struct Lengths {
 }
 
 // The length of a package and the dot after it.
-fn package_front(declared: &Option<Word>) -> usize
-    ensures { result ≡ capped (front_length (package_parts declared.now)) }
+fn package_prefix_len(declared: &Option<Word>) -> usize
+    ensures { result ≡ capped (prefix_length (package_parts declared.now)) }
 {
     match declared {
         Some(word) => word.name.len().saturating_add(1),
@@ -47,13 +48,13 @@ fn package_front(declared: &Option<Word>) -> usize
 }
 
 // The length of each file's package and the dot after it.
-fn package_fronts(alloc: Global, heads: &[Head]) -> Result<Vec<usize>, Memory>
+fn package_prefix_lens(alloc: Global, heads: &[Head]) -> Result<Vec<usize>, Memory>
     ensures { IfOk result (λ v.
-        v.items ≡ map (λ h. capped (front_length (package_parts h.package))) heads.now) }
+        v.items ≡ map (λ h. capped (prefix_length (package_parts h.package))) heads.now) }
 {
     let mut fronts = Vec::with_capacity(alloc, heads.len())?;
     for head in heads {
-        fronts.push(package_front(&head.package))?;
+        fronts.push(package_prefix_len(&head.package))?;
     }
     Ok(fronts)
 }
@@ -65,11 +66,11 @@ impl Lengths {
         ensures { IfOk result (AreLengths files.now) }
     {
         let mut lengths = Lengths {
-            fronts: package_fronts(alloc, files.heads())?,
+            fronts: package_prefix_lens(alloc, files.heads())?,
             messages: Vec::with_capacity(alloc, files.messages().len())?,
             enums: Vec::with_capacity(alloc, files.enums().len())?,
         };
-        one_scope();
+        scope_is_determined();
         lengths.add_messages(files)?;
         lengths.add_enums(files)?;
         Ok(lengths)
@@ -77,13 +78,13 @@ impl Lengths {
 
     fn add_messages(&mut self, files: &Joined<'_>) -> Result<(), Memory>
         requires formed { IsFormed files.now }
-        requires none { KeepsLengths files.now 0 0 self.old }
-        ensures { OnOk result (KeepsLengths files.now (length files.now.messages) 0 self.new) }
+        requires none { HasLengths files.now 0 0 self.old }
+        ensures { OnOk result (HasLengths files.now (length files.now.messages) 0 self.new) }
     {
         let all = files.messages();
         for i in 0..all.len() {
             let message = &all[i];
-            let length = self.full(message.home(), &message.name);
+            let length = self.full(message.enclosing(), &message.name);
             self.messages.push(length)?;
         }
         Ok(())
@@ -91,84 +92,84 @@ impl Lengths {
 
     fn add_enums(&mut self, files: &Joined<'_>) -> Result<(), Memory>
         requires formed { IsFormed files.now }
-        requires messages { KeepsLengths files.now (length files.now.messages) 0 self.old }
+        requires messages { HasLengths files.now (length files.now.messages) 0 self.old }
         ensures { OnOk result (AreLengths files.now self.new) }
     {
         let all = files.enums();
         for i in 0..all.len() {
             let choices = &all[i];
-            let length = self.full(choices.home(), &choices.name);
+            let length = self.full(choices.enclosing(), &choices.name);
             self.enums.push(length)?;
         }
         Ok(())
     }
 
     // The length of the full name of a declaration inside a file or a message.
-    fn full(&self, home: Home, word: &Word) -> usize
+    fn full(&self, home: Enclosing, word: &Word) -> usize
         requires { IsKeptHome self.now home }
         ensures { result ≡ full_length self.now home word.now }
     {
         let front = match home {
-            Home::Message(i) => self.messages[i].saturating_add(1),
-            Home::File(k) => self.fronts[k],
+            Enclosing::Message(i) => self.messages[i].saturating_add(1),
+            Enclosing::File(k) => self.fronts[k],
         };
         front.saturating_add(word.name.len())
     }
 
     // Records each message, enum or service whose full name is too long.
-    pub(crate) fn note_long(&self, files: &Joined<'_>, first: &mut First)
+    pub(crate) fn note_long(&self, files: &Joined<'_>, first: &mut FirstViolation)
         requires formed { IsFormed files.now }
         requires lengths { AreLengths files.now self.now }
-        ensures { Meets (LongIn files.now) first.old first.new }
+        ensures { HasRecorded (IsLongNameViolation files.now) first.old first.new }
     {
-        one_scope();
+        scope_is_determined();
         self.note_messages(files, first);
         self.note_enums(files, first);
         self.note_services(files, first);
     }
 
-    fn note_messages(&self, files: &Joined<'_>, first: &mut First)
+    fn note_messages(&self, files: &Joined<'_>, first: &mut FirstViolation)
         requires formed { IsFormed files.now }
         requires lengths { AreLengths files.now self.now }
-        ensures { Meets (AtSome (OfElement files.now.messages (λ i m. IsLongName self.now (home_of m) m.name)))
+        ensures { HasRecorded (IsOfAny (IsOfElement files.now.messages (λ i m. IsLongName self.now (enclosing_of m) m.name)))
             first.old first.new }
     {
         let all = files.messages();
         for i in 0..all.len() {
             let message = &all[i];
-            self.note_full(message.home(), &message.name, first);
+            self.note_full(message.enclosing(), &message.name, first);
         }
     }
 
-    fn note_enums(&self, files: &Joined<'_>, first: &mut First)
+    fn note_enums(&self, files: &Joined<'_>, first: &mut FirstViolation)
         requires formed { IsFormed files.now }
         requires lengths { AreLengths files.now self.now }
-        ensures { Meets (AtSome (OfElement files.now.enums (λ i e. IsLongName self.now (enum_home_of e) e.name)))
+        ensures { HasRecorded (IsOfAny (IsOfElement files.now.enums (λ i e. IsLongName self.now (enclosing_of_enum e) e.name)))
             first.old first.new }
     {
         let all = files.enums();
         for i in 0..all.len() {
             let choices = &all[i];
-            self.note_full(choices.home(), &choices.name, first);
+            self.note_full(choices.enclosing(), &choices.name, first);
         }
     }
 
-    fn note_services(&self, files: &Joined<'_>, first: &mut First)
+    fn note_services(&self, files: &Joined<'_>, first: &mut FirstViolation)
         requires formed { IsFormed files.now }
         requires lengths { AreLengths files.now self.now }
-        ensures { Meets (AtSome (OfElement files.now.services (λ i x. IsLongName self.now (home.File x.file) x.name)))
+        ensures { HasRecorded (IsOfAny (IsOfElement files.now.services (λ i x. IsLongName self.now (home.File x.file) x.name)))
             first.old first.new }
     {
         let all = files.services();
         for i in 0..all.len() {
             let service = &all[i];
-            self.note_full(Home::File(service.file), &service.name, first);
+            self.note_full(Enclosing::File(service.file), &service.name, first);
         }
     }
 
-    fn note_full(&self, home: Home, word: &Word, first: &mut First)
+    fn note_full(&self, home: Enclosing, word: &Word, first: &mut FirstViolation)
         requires { IsKeptHome self.now home }
-        ensures { Meets (IsLongName self.now home word.now) first.old first.new }
+        ensures { HasRecorded (IsLongName self.now home word.now) first.old first.new }
     {
         let long = self.full(home, word) > MAX_FULL_NAME;
         first.note_if(long, ResolveReason::Limit, word.span);
@@ -176,13 +177,13 @@ impl Lengths {
 
     // The length of the word for a type in a table's text.
     fn of_type(&self, type_of: TypeOf) -> usize
-        requires { IsKept self.now type_of }
+        requires { IsKeptType self.now type_of }
         ensures { result ≡ type_length self.now type_of }
     {
         match type_of {
             TypeOf::Scalar(kind) => kind_length(kind),
-            TypeOf::Named(Named::Message(i)) => self.messages[i].saturating_add(8),
-            TypeOf::Named(Named::Enum(i)) => self.enums[i].saturating_add(5),
+            TypeOf::Named(Symbol::Message(i)) => self.messages[i].saturating_add(8),
+            TypeOf::Named(Symbol::Enum(i)) => self.enums[i].saturating_add(5),
         }
     }
 }
@@ -210,7 +211,7 @@ fn oneof_length(oneofs: &Words, place: usize) -> usize
     }
 }
 
-fn label_length(oneofs: &Words, form: Form) -> usize
+fn label_length(oneofs: &Words, form: FieldShape) -> usize
     ensures { result
         ≡ capped (length (label_text no_table (map (λ o. o.name) oneofs.now) (label_in form.oneof form.label))) }
 {
@@ -242,9 +243,9 @@ fn digits(number: u128) -> usize
 
 // The length of the line `value NUMBER NAME`.
 fn value_length(value: &ValueDecl) -> Option<usize>
-    ensures { MatchOption result (FitsSigned w32 (value_of value.now.number) → ⊥)
-        (λ n. FitsSigned w32 (value_of value.now.number)
-        × (n ≡ capped (length (value_line (value_of value.now.number, value.now.name.name))))) }
+    ensures { MatchOption result (FitsSigned w32 (signed_value value.now.number) → ⊥)
+        (λ n. FitsSigned w32 (signed_value value.now.number)
+        × (n ≡ capped (length (value_line (signed_value value.now.number, value.now.name.name))))) }
 {
     let number = enum_number(&value.number)?;
     let sign: usize = if number < 0 { 1 } else { 0 };
@@ -254,7 +255,7 @@ fn value_length(value: &ValueDecl) -> Option<usize>
 
 // The length of the line `field NUMBER LABEL KIND NAME`.
 fn field_length<'a>(
-    scopes: &Scopes<'a>,
+    scopes: &SymbolTable<'a>,
     lengths: &Lengths,
     i: usize,
     message: &'a MessageDecl,
@@ -267,7 +268,7 @@ fn field_length<'a>(
     ensures { (j : ℕ) → slice_get message.now.fields j ≡ Some field.now
         → IsLengthAt scopes.now (field_decl i j) field.now.name.span result }
 {
-    let form = form_of(scopes, message.file, i, field)?;
+    let form = field_shape_of(scopes, message.file, i, field)?;
     let number = field_number(&field.number)?;
     let front = 10 + digits(u128::from(number));
     Some(
@@ -280,7 +281,7 @@ fn field_length<'a>(
 
 // The length of the line `method INDEX SERVICE NAME INPUT OUTPUT`.
 fn method_length<'a>(
-    scopes: &Scopes<'a>,
+    scopes: &SymbolTable<'a>,
     lengths: &Lengths,
     index: u128,
     service: &ServiceDecl,
@@ -298,7 +299,7 @@ fn method_length<'a>(
     let front = 12 + digits(index);
     Some(
         front
-            .saturating_add(lengths.full(Home::File(service.file), &service.name))
+            .saturating_add(lengths.full(Enclosing::File(service.file), &service.name))
             .saturating_add(rpc.name.name.len())
             .saturating_add(lengths.messages[input])
             .saturating_add(lengths.messages[output]),
@@ -306,10 +307,10 @@ fn method_length<'a>(
 }
 
 // The spans of names and the lengths of their lines.
-type Lines = Vec<(Span, usize)>;
+type NameLines = Vec<(Span, usize)>;
 
-fn add(lines: &mut Lines, span: Span, length: Option<usize>) -> Result<(), Memory>
-    ensures { OnOk result (lines.new.items ≡ lines.old.items ++ added span length) }
+fn add(lines: &mut NameLines, span: Span, length: Option<usize>) -> Result<(), Memory>
+    ensures { OnOk result (lines.new.items ≡ lines.old.items ++ line_entry span length) }
 {
     if let Some(length) = length {
         lines.push((span, length))?;
@@ -319,10 +320,10 @@ fn add(lines: &mut Lines, span: Span, length: Option<usize>) -> Result<(), Memor
 
 fn add_fields<'a>(
     files: &Joined<'a>,
-    scopes: &Scopes<'a>,
+    scopes: &SymbolTable<'a>,
     lengths: &Lengths,
     i: usize,
-    lines: &mut Lines,
+    lines: &mut NameLines,
 ) -> Result<(), Memory>
     requires formed { IsFormed files.now }
     requires ordered { IsOrdered files.now }
@@ -330,8 +331,8 @@ fn add_fields<'a>(
     requires lengths { AreLengths files.now lengths.now }
     requires place { i < length files.now.messages }
     requires scope { (scope : List (List ℕ)) × IsScope files.now (home.Message i) scope }
-    requires message { Covers files.now 0 i 1 lines.old.items }
-    ensures { OnOk result (Covers files.now 0 (i + 1) 0 lines.new.items) }
+    requires message { HasLinesBefore files.now 0 i 1 lines.old.items }
+    ensures { OnOk result (HasLinesBefore files.now 0 (i + 1) 0 lines.new.items) }
 {
     let message = &files.messages()[i];
     let fields = message.fields.as_slice();
@@ -345,18 +346,18 @@ fn add_fields<'a>(
 
 fn add_messages<'a>(
     files: &Joined<'a>,
-    scopes: &Scopes<'a>,
+    scopes: &SymbolTable<'a>,
     lengths: &Lengths,
-    lines: &mut Lines,
+    lines: &mut NameLines,
 ) -> Result<(), Memory>
     requires formed { IsFormed files.now }
     requires ordered { IsOrdered files.now }
     requires scopes { scopes.now ≡ files.now }
     requires lengths { AreLengths files.now lengths.now }
-    requires none { Covers files.now 0 0 0 lines.old.items }
-    ensures { OnOk result (Covers files.now 1 0 0 lines.new.items) }
+    requires none { HasLinesBefore files.now 0 0 0 lines.old.items }
+    ensures { OnOk result (HasLinesBefore files.now 1 0 0 lines.new.items) }
 {
-    one_scope();
+    scope_is_determined();
     let all = files.messages();
     for i in 0..all.len() {
         let length = lengths.messages[i].saturating_add(9);
@@ -367,11 +368,11 @@ fn add_messages<'a>(
     Ok(())
 }
 
-fn add_values(files: &Joined<'_>, i: usize, lines: &mut Lines) -> Result<(), Memory>
+fn add_values(files: &Joined<'_>, i: usize, lines: &mut NameLines) -> Result<(), Memory>
     requires ordered { IsOrdered files.now }
     requires place { i < length files.now.enums }
-    requires choices { Covers files.now 1 i 1 lines.old.items }
-    ensures { OnOk result (Covers files.now 1 (i + 1) 0 lines.new.items) }
+    requires choices { HasLinesBefore files.now 1 i 1 lines.old.items }
+    ensures { OnOk result (HasLinesBefore files.now 1 (i + 1) 0 lines.new.items) }
 {
     let choices = &files.enums()[i];
     let values = choices.values.as_slice();
@@ -383,14 +384,14 @@ fn add_values(files: &Joined<'_>, i: usize, lines: &mut Lines) -> Result<(), Mem
     Ok(())
 }
 
-fn add_enums(files: &Joined<'_>, lengths: &Lengths, lines: &mut Lines) -> Result<(), Memory>
+fn add_enums(files: &Joined<'_>, lengths: &Lengths, lines: &mut NameLines) -> Result<(), Memory>
     requires formed { IsFormed files.now }
     requires ordered { IsOrdered files.now }
     requires lengths { AreLengths files.now lengths.now }
-    requires messages { Covers files.now 1 0 0 lines.old.items }
-    ensures { OnOk result (Covers files.now 2 0 0 lines.new.items) }
+    requires messages { HasLinesBefore files.now 1 0 0 lines.old.items }
+    ensures { OnOk result (HasLinesBefore files.now 2 0 0 lines.new.items) }
 {
-    one_scope();
+    scope_is_determined();
     let all = files.enums();
     for i in 0..all.len() {
         let length = lengths.enums[i].saturating_add(6);
@@ -404,11 +405,11 @@ fn add_enums(files: &Joined<'_>, lengths: &Lengths, lines: &mut Lines) -> Result
 // Adds the lines of a service's methods, given the number of methods before it.
 fn add_rpcs<'a>(
     files: &Joined<'a>,
-    scopes: &Scopes<'a>,
+    scopes: &SymbolTable<'a>,
     lengths: &Lengths,
     i: usize,
     before: u128,
-    lines: &mut Lines,
+    lines: &mut NameLines,
 ) -> Result<(), Memory>
     requires formed { IsFormed files.now }
     requires ordered { IsOrdered files.now }
@@ -417,8 +418,8 @@ fn add_rpcs<'a>(
     requires place { i < length files.now.services }
     requires before { before ≡ rpcs_before files.now i }
     requires few { before ≤ i * 2 ^ 64 }
-    requires services { Covers files.now 2 i 0 lines.old.items }
-    ensures { OnOk result (Covers files.now 2 (i + 1) 0 lines.new.items) }
+    requires services { HasLinesBefore files.now 2 i 0 lines.old.items }
+    ensures { OnOk result (HasLinesBefore files.now 2 (i + 1) 0 lines.new.items) }
 {
     let service = &files.services()[i];
     let rpcs = service.rpcs.as_slice();
@@ -432,16 +433,16 @@ fn add_rpcs<'a>(
 
 fn add_methods<'a>(
     files: &Joined<'a>,
-    scopes: &Scopes<'a>,
+    scopes: &SymbolTable<'a>,
     lengths: &Lengths,
-    lines: &mut Lines,
+    lines: &mut NameLines,
 ) -> Result<(), Memory>
     requires formed { IsFormed files.now }
     requires ordered { IsOrdered files.now }
     requires scopes { scopes.now ≡ files.now }
     requires lengths { AreLengths files.now lengths.now }
-    requires enums { Covers files.now 2 0 0 lines.old.items }
-    ensures { OnOk result (CoversAll files.now lines.new.items) }
+    requires enums { HasLinesBefore files.now 2 0 0 lines.old.items }
+    ensures { OnOk result (HasAllLines files.now lines.new.items) }
 {
     let all = files.services();
     let mut before: u128 = 0;
@@ -454,8 +455,8 @@ fn add_methods<'a>(
 }
 
 // Records each name at which the lines so far exceed the limit of a table's text.
-fn note_lines(lines: &[(Span, usize)], first: &mut First)
-    ensures { Meets (AtSome (OfElement lines.now (IsPast lines.now))) first.old first.new }
+fn note_lines(lines: &[(Span, usize)], first: &mut FirstViolation)
+    ensures { HasRecorded (IsOfAny (IsOfElement lines.now (IsPast lines.now))) first.old first.new }
 {
     let mut total: usize = 0;
     for i in 0..lines.len() {
@@ -469,18 +470,18 @@ fn note_lines(lines: &[(Span, usize)], first: &mut First)
 pub(crate) fn note_text<'a>(
     alloc: Global,
     files: &Joined<'a>,
-    scopes: &Scopes<'a>,
+    scopes: &SymbolTable<'a>,
     lengths: &Lengths,
-    first: &mut First,
+    first: &mut FirstViolation,
 ) -> Result<(), Memory>
     requires formed { IsFormed files.now }
     requires ordered { IsOrdered files.now }
     requires scopes { scopes.now ≡ files.now }
     requires lengths { AreLengths files.now lengths.now }
-    ensures { OnOk result (Meets (PassesIn files.now) first.old first.new) }
+    ensures { OnOk result (HasRecorded (IsLongTextViolation files.now) first.old first.new) }
 {
-    one_scope();
-    one_name();
+    scope_is_determined();
+    reference_is_unique();
     let mut lines = Vec::new(alloc);
     add_messages(files, scopes, lengths, &mut lines)?;
     add_enums(files, lengths, &mut lines)?;

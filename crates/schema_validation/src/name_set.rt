@@ -2,11 +2,11 @@
 
 ghost use Rattle.std.specs.Prelude.{◌≡◌, ◌↔◌, ℕ, List, IsTrue, IfOk};
 ghost use Rattle.proto_ast.specs.declared.file.Word.{Word};
-ghost use Rattle.schema_validation.specs.Members.{IsLong, NameOffends};
-ghost use Rattle.schema_validation.specs.Meeting.{Meets};
-ghost use Rattle.schema_validation.specs.ReservedNames.{KeepsNames, has_name};
+ghost use Rattle.schema_validation.specs.Members.{IsLong, IsNameViolation};
+ghost use Rattle.schema_validation.specs.Recording.{HasRecorded};
+ghost use Rattle.schema_validation.specs.ReservedNames.{HasReservedNames, has_reserved_name};
 
-use crate::first::First;
+use crate::first::FirstViolation;
 use crate::reason::ResolveReason;
 use mrpc_table::{Memory, is_short};
 use proto_ast::{Word, Words};
@@ -22,7 +22,7 @@ pub(crate) struct NameSet<'a> {
 impl<'a> NameSet<'a> {
     // The names of these words.
     pub(crate) fn new(alloc: Global, words: &'a Words) -> Result<NameSet<'a>, Memory>
-        ensures { IfOk result (KeepsNames words.now) }
+        ensures { IfOk result (HasReservedNames words.now) }
     {
         let mut names = BTreeMap::new(alloc);
         let all = words.as_slice();
@@ -33,15 +33,21 @@ impl<'a> NameSet<'a> {
     }
 
     fn has(&self, name: &'a [u8]) -> bool
-        ensures { result ≡ has_name self.now name.now }
+        ensures { result ≡ has_reserved_name self.now name.now }
     {
         self.names.get(&name).is_some()
     }
 
     // Records the violations of a name in a list that has a limit.
-    pub(crate) fn note_name(&self, i: usize, limit: usize, word: &'a Word, first: &mut First)
-        ensures { (words : List Word) → KeepsNames words self.now
-            → Meets (NameOffends words limit i word.now) first.old first.new }
+    pub(crate) fn note_name(
+        &self,
+        i: usize,
+        limit: usize,
+        word: &'a Word,
+        first: &mut FirstViolation,
+    )
+        ensures { (words : List Word) → HasReservedNames words self.now
+            → HasRecorded (IsNameViolation words limit i word.now) first.old first.new }
     {
         let reserved = self.has(word.name.as_slice());
         first.note_if(reserved, ResolveReason::Reserved, word.span);
@@ -51,8 +57,8 @@ impl<'a> NameSet<'a> {
 }
 
 // Records a name of more than 64 bytes.
-pub(crate) fn note_long(word: &Word, first: &mut First)
-    ensures { Meets (IsLong word.now) first.old first.new }
+pub(crate) fn note_long(word: &Word, first: &mut FirstViolation)
+    ensures { HasRecorded (IsLong word.now) first.old first.new }
 {
     first.note_if(
         !is_short(word.name.as_slice()),

@@ -2,34 +2,35 @@
 
 ghost use Rattle.std.specs.Prelude.{◌≡◌, ◌<◌, ◌+◌, ◌⊎◌, ◌↔◌, ◌++◌, ◌∷◌, [], ℕ, List, Option, Some, None, slice_get, length, map, true, IfOk, OnOk};
 ghost use Rattle.proto_ast.specs.Together.{IsFormed};
-ghost use Rattle.proto_ast.specs.Joined.{home_of, enum_home_of};
-ghost use Rattle.proto_ast.specs.declared.joined.Home.TheVariants as home;
-ghost use Rattle.schema_symbols.specs.Numbers.{StandBehind, IsPlace, scope_count};
-ghost use Rattle.schema_validation.specs.Meeting.{Meets, TwiceIn, AtSome, OfElement};
-ghost use Rattle.schema_validation.specs.Entries.{Entry, entry, entry_of, entries_of, HasNumber, HaveNumbers, HaveOwnNumbers, OfMessage, OfEnum, OfService, OfSome, Adds, IsBefore, start_in, AreStarts, IsLater, IsPackageNamed};
+ghost use Rattle.proto_ast.specs.Joined.{enclosing_of, enclosing_of_enum};
+ghost use Rattle.proto_ast.specs.declared.joined.Enclosing.TheVariants as home;
+ghost use Rattle.schema_symbols.specs.Numbers.{AreWellNested, IsEnclosing, scope_count};
+ghost use Rattle.schema_validation.specs.Recording.{HasRecorded, IsDuplicateViolation, IsOfAny, IsOfElement};
+ghost use Rattle.schema_validation.specs.Entries.{NameEntry, name_entry, name_entry_of, entries_of, HasNumber, HaveNumbers, HaveOwnNumbers, IsEntryOfMessage, IsEntryOfEnum, IsEntryOfService, IsEntryOfAny, HasAddedEntries, IsEarlierThan, start_in, AreStarts, IsRedeclared, IsPackageNamed};
 
-use crate::first::First;
+use crate::first::FirstViolation;
 use crate::reason::ResolveReason;
 use mrpc_table::Memory;
 use proto_ast::{
-    EnumDecl, FieldDecl, Home, Joined, MessageDecl, RpcDecl, ServiceDecl, Span, ValueDecl, Word,
+    Enclosing, EnumDecl, FieldDecl, Joined, MessageDecl, RpcDecl, ServiceDecl, Span, ValueDecl,
+    Word,
 };
-use schema_symbols::{Scopes, one_number, one_scope};
+use schema_symbols::{SymbolTable, scope_is_determined, scope_number_is_unique};
 use std::alloc::Global;
 use std::collections::BTreeMap;
 
 // A name that is declared in a scope.
 #[derive(Clone, Copy)]
-struct Declared<'a> {
+struct DeclaredName<'a> {
     scope: usize,
     name: &'a [u8],
     span: Span,
 }
 
-fn name_in<'a>(scope: usize, word: &'a Word) -> Declared<'a>
-    ensures { entry_of result ≡ entry scope word.now }
+fn name_in<'a>(scope: usize, word: &'a Word) -> DeclaredName<'a>
+    ensures { name_entry_of result ≡ name_entry scope word.now }
 {
-    Declared {
+    DeclaredName {
         scope,
         name: word.name.as_slice(),
         span: word.span,
@@ -37,24 +38,24 @@ fn name_in<'a>(scope: usize, word: &'a Word) -> Declared<'a>
 }
 
 // The number of the scope inside a file or a message.
-fn number_in<'a>(scopes: &Scopes<'a>, home: Home) -> usize
-    requires behind { StandBehind scopes.now }
-    requires place { IsPlace scopes.now home }
+fn number_in<'a>(scopes: &SymbolTable<'a>, home: Enclosing) -> usize
+    requires behind { AreWellNested scopes.now }
+    requires place { IsEnclosing scopes.now home }
     ensures has { HasNumber scopes.now home result }
     ensures one { (k : ℕ) → HasNumber scopes.now home k → k ≡ result }
 {
-    one_scope();
-    one_number();
+    scope_is_determined();
+    scope_number_is_unique();
     scopes.number(home)
 }
 
 fn add_fields<'a>(
     scope: usize,
     fields: &'a [FieldDecl],
-    names: &mut Vec<Declared<'a>>,
+    names: &mut Vec<DeclaredName<'a>>,
 ) -> Result<(), Memory>
     ensures { OnOk result (entries_of names.new.items
-        ≡ entries_of names.old.items ++ map (λ f. entry scope f.name) fields.now) }
+        ≡ entries_of names.old.items ++ map (λ f. name_entry scope f.name) fields.now) }
 {
     for field in fields {
         names.push(name_in(scope, &field.name))?;
@@ -65,9 +66,9 @@ fn add_fields<'a>(
 fn add_oneofs<'a>(
     scope: usize,
     oneofs: &'a [Word],
-    names: &mut Vec<Declared<'a>>,
+    names: &mut Vec<DeclaredName<'a>>,
 ) -> Result<(), Memory>
-    ensures { OnOk result (entries_of names.new.items ≡ entries_of names.old.items ++ map (entry scope) oneofs.now) }
+    ensures { OnOk result (entries_of names.new.items ≡ entries_of names.old.items ++ map (name_entry scope) oneofs.now) }
 {
     for oneof in oneofs {
         names.push(name_in(scope, oneof))?;
@@ -78,10 +79,10 @@ fn add_oneofs<'a>(
 fn add_values<'a>(
     scope: usize,
     values: &'a [ValueDecl],
-    names: &mut Vec<Declared<'a>>,
+    names: &mut Vec<DeclaredName<'a>>,
 ) -> Result<(), Memory>
     ensures { OnOk result (entries_of names.new.items
-        ≡ entries_of names.old.items ++ map (λ v. entry scope v.name) values.now) }
+        ≡ entries_of names.old.items ++ map (λ v. name_entry scope v.name) values.now) }
 {
     for value in values {
         names.push(name_in(scope, &value.name))?;
@@ -92,10 +93,10 @@ fn add_values<'a>(
 fn add_rpcs<'a>(
     scope: usize,
     rpcs: &'a [RpcDecl],
-    names: &mut Vec<Declared<'a>>,
+    names: &mut Vec<DeclaredName<'a>>,
 ) -> Result<(), Memory>
     ensures { OnOk result (entries_of names.new.items
-        ≡ entries_of names.old.items ++ map (λ r. entry scope r.name) rpcs.now) }
+        ≡ entries_of names.old.items ++ map (λ r. name_entry scope r.name) rpcs.now) }
 {
     for rpc in rpcs {
         names.push(name_in(scope, &rpc.name))?;
@@ -104,36 +105,36 @@ fn add_rpcs<'a>(
 }
 
 fn add_message<'a>(
-    scopes: &Scopes<'a>,
+    scopes: &SymbolTable<'a>,
     i: usize,
     message: &'a MessageDecl,
-    names: &mut Vec<Declared<'a>>,
+    names: &mut Vec<DeclaredName<'a>>,
 ) -> Result<(), Memory>
-    requires behind { StandBehind scopes.now }
+    requires behind { AreWellNested scopes.now }
     requires within { i < length scopes.now.messages }
-    requires home { IsPlace scopes.now (home_of message.now) }
-    ensures outer { OnOk result ((k : ℕ) × HasNumber scopes.now (home_of message.now) k) }
+    requires home { IsEnclosing scopes.now (enclosing_of message.now) }
+    ensures outer { OnOk result ((k : ℕ) × HasNumber scopes.now (enclosing_of message.now) k) }
     ensures own { OnOk result ((k : ℕ) × HasNumber scopes.now (home.Message i) k) }
-    ensures names { OnOk result (Adds (OfMessage scopes.now i message.now)
+    ensures names { OnOk result (HasAddedEntries (IsEntryOfMessage scopes.now i message.now)
         (entries_of names.old.items) (entries_of names.new.items)) }
 {
-    let outer = number_in(scopes, message.home());
+    let outer = number_in(scopes, message.enclosing());
     names.push(name_in(outer, &message.name))?;
-    let inner = number_in(scopes, Home::Message(i));
+    let inner = number_in(scopes, Enclosing::Message(i));
     add_fields(inner, message.fields.as_slice(), names)?;
     add_oneofs(inner, message.oneofs.as_slice(), names)
 }
 
 fn add_messages<'a>(
     files: &Joined<'a>,
-    scopes: &Scopes<'a>,
-    names: &mut Vec<Declared<'a>>,
+    scopes: &SymbolTable<'a>,
+    names: &mut Vec<DeclaredName<'a>>,
 ) -> Result<(), Memory>
-    requires behind { StandBehind files.now }
+    requires behind { AreWellNested files.now }
     requires scopes { scopes.now ≡ files.now }
-    ensures outer { OnOk result (HaveNumbers files.now (length files.now.messages) files.now.messages home_of) }
+    ensures outer { OnOk result (HaveNumbers files.now (length files.now.messages) files.now.messages enclosing_of) }
     ensures own { OnOk result (HaveOwnNumbers files.now (length files.now.messages)) }
-    ensures names { OnOk result (Adds (OfSome files.now.messages (OfMessage files.now))
+    ensures names { OnOk result (HasAddedEntries (IsEntryOfAny files.now.messages (IsEntryOfMessage files.now))
         (entries_of names.old.items) (entries_of names.new.items)) }
 {
     let messages = files.messages();
@@ -144,30 +145,30 @@ fn add_messages<'a>(
 }
 
 fn add_enum<'a>(
-    scopes: &Scopes<'a>,
+    scopes: &SymbolTable<'a>,
     choices: &'a EnumDecl,
-    names: &mut Vec<Declared<'a>>,
+    names: &mut Vec<DeclaredName<'a>>,
 ) -> Result<(), Memory>
-    requires behind { StandBehind scopes.now }
-    requires home { IsPlace scopes.now (enum_home_of choices.now) }
-    ensures number { OnOk result ((k : ℕ) × HasNumber scopes.now (enum_home_of choices.now) k) }
-    ensures names { OnOk result ((i : ℕ) → Adds (OfEnum scopes.now i choices.now)
+    requires behind { AreWellNested scopes.now }
+    requires home { IsEnclosing scopes.now (enclosing_of_enum choices.now) }
+    ensures number { OnOk result ((k : ℕ) × HasNumber scopes.now (enclosing_of_enum choices.now) k) }
+    ensures names { OnOk result ((i : ℕ) → HasAddedEntries (IsEntryOfEnum scopes.now i choices.now)
         (entries_of names.old.items) (entries_of names.new.items)) }
 {
-    let scope = number_in(scopes, choices.home());
+    let scope = number_in(scopes, choices.enclosing());
     names.push(name_in(scope, &choices.name))?;
     add_values(scope, choices.values.as_slice(), names)
 }
 
 fn add_enums<'a>(
     files: &Joined<'a>,
-    scopes: &Scopes<'a>,
-    names: &mut Vec<Declared<'a>>,
+    scopes: &SymbolTable<'a>,
+    names: &mut Vec<DeclaredName<'a>>,
 ) -> Result<(), Memory>
-    requires behind { StandBehind files.now }
+    requires behind { AreWellNested files.now }
     requires scopes { scopes.now ≡ files.now }
-    ensures numbers { OnOk result (HaveNumbers files.now (length files.now.enums) files.now.enums enum_home_of) }
-    ensures names { OnOk result (Adds (OfSome files.now.enums (OfEnum files.now))
+    ensures numbers { OnOk result (HaveNumbers files.now (length files.now.enums) files.now.enums enclosing_of_enum) }
+    ensures names { OnOk result (HasAddedEntries (IsEntryOfAny files.now.enums (IsEntryOfEnum files.now))
         (entries_of names.old.items) (entries_of names.new.items)) }
 {
     let enums = files.enums();
@@ -179,32 +180,32 @@ fn add_enums<'a>(
 
 // Adds a service. The scope of its methods has a number after those of all other scopes.
 fn add_service<'a>(
-    scopes: &Scopes<'a>,
+    scopes: &SymbolTable<'a>,
     scope: usize,
     service: &'a ServiceDecl,
-    names: &mut Vec<Declared<'a>>,
+    names: &mut Vec<DeclaredName<'a>>,
 ) -> Result<(), Memory>
-    requires behind { StandBehind scopes.now }
-    requires home { IsPlace scopes.now (home.File service.now.file) }
+    requires behind { AreWellNested scopes.now }
+    requires home { IsEnclosing scopes.now (home.File service.now.file) }
     ensures number { OnOk result ((k : ℕ) × HasNumber scopes.now (home.File service.now.file) k) }
     ensures names { OnOk result ((i : ℕ) → scope ≡ scope_count scopes.now + i
-        → Adds (OfService scopes.now i service.now) (entries_of names.old.items) (entries_of names.new.items)) }
+        → HasAddedEntries (IsEntryOfService scopes.now i service.now) (entries_of names.old.items) (entries_of names.new.items)) }
 {
-    let outer = number_in(scopes, Home::File(service.file));
+    let outer = number_in(scopes, Enclosing::File(service.file));
     names.push(name_in(outer, &service.name))?;
     add_rpcs(scope, service.rpcs.as_slice(), names)
 }
 
 fn add_services<'a>(
     files: &Joined<'a>,
-    scopes: &Scopes<'a>,
-    names: &mut Vec<Declared<'a>>,
+    scopes: &SymbolTable<'a>,
+    names: &mut Vec<DeclaredName<'a>>,
 ) -> Result<(), Memory>
     requires formed { IsFormed files.now }
     requires scopes { scopes.now ≡ files.now }
     ensures numbers { OnOk result (HaveNumbers files.now (length files.now.services) files.now.services
         (λ s. home.File s.file)) }
-    ensures names { OnOk result (Adds (OfSome files.now.services (OfService files.now))
+    ensures names { OnOk result (HasAddedEntries (IsEntryOfAny files.now.services (IsEntryOfService files.now))
         (entries_of names.old.items) (entries_of names.new.items)) }
 {
     let services = files.services();
@@ -222,13 +223,13 @@ struct Starts<'a> {
 
 // The lesser of two offsets, of which the first may be unknown.
 fn lesser(known: Option<usize>, start: usize) -> usize
-    ensures { (place : ℕ) → (result < place) ↔ (IsBefore known place ⊎ (start < place)) }
+    ensures { (place : ℕ) → (result < place) ↔ (IsEarlierThan known place ⊎ (start < place)) }
 {
     known.map_or(start, |first| first.min(start))
 }
 
 impl<'a> Starts<'a> {
-    fn new(alloc: Global, names: &[Declared<'a>]) -> Result<Starts<'a>, Memory>
+    fn new(alloc: Global, names: &[DeclaredName<'a>]) -> Result<Starts<'a>, Memory>
         ensures { IfOk result (AreStarts (entries_of names.now)) }
     {
         let mut starts = Starts {
@@ -240,15 +241,15 @@ impl<'a> Starts<'a> {
         Ok(starts)
     }
 
-    fn get(&self, name: &Declared<'a>) -> Option<usize>
+    fn get(&self, name: &DeclaredName<'a>) -> Option<usize>
         ensures { result ≡ start_in self.now name.now.scope name.now.name.now }
     {
         self.by.get(&(name.scope, name.name)).copied()
     }
 
-    fn add(&mut self, name: &Declared<'a>) -> Result<(), Memory>
-        ensures { OnOk result ((es : List Entry) → AreStarts es self.old
-            → AreStarts (es ++ entry_of name.now ∷ []) self.new) }
+    fn add(&mut self, name: &DeclaredName<'a>) -> Result<(), Memory>
+        ensures { OnOk result ((es : List NameEntry) → AreStarts es self.old
+            → AreStarts (es ++ name_entry_of name.now ∷ []) self.new) }
     {
         let start = lesser(self.get(name), name.span.start);
         self.by.insert((name.scope, name.name), start)?;
@@ -256,8 +257,8 @@ impl<'a> Starts<'a> {
     }
 
     // True if the name also occurs earlier in its scope.
-    fn is_later(&self, name: &Declared<'a>) -> bool
-        ensures { (result ≡ true) ↔ IsBefore (start_in self.now name.now.scope name.now.name.now) name.now.span.start }
+    fn is_redeclared(&self, name: &DeclaredName<'a>) -> bool
+        ensures { (result ≡ true) ↔ IsEarlierThan (start_in self.now name.now.scope name.now.name.now) name.now.span.start }
     {
         match self.get(name) {
             Some(first) => first < name.span.start,
@@ -266,50 +267,59 @@ impl<'a> Starts<'a> {
     }
 }
 
-fn note_later<'a>(names: &[Declared<'a>], starts: &Starts<'a>, first: &mut First)
+fn note_later<'a>(names: &[DeclaredName<'a>], starts: &Starts<'a>, first: &mut FirstViolation)
     requires { AreStarts (entries_of names.now) starts.now }
-    ensures { Meets (AtSome (OfElement (entries_of names.now) (IsLater (entries_of names.now)))) first.old first.new }
+    ensures { HasRecorded (IsOfAny (IsOfElement (entries_of names.now) (IsRedeclared (entries_of names.now)))) first.old first.new }
 {
     for i in 0..names.len() {
-        let is_later = starts.is_later(&names[i]);
+        let is_later = starts.is_redeclared(&names[i]);
         first.note_if(is_later, ResolveReason::DuplicateName, names[i].span);
     }
 }
 
 // Records a name that is a package's name in its scope, or a prefix of one.
-fn note_package_name<'a>(scopes: &Scopes<'a>, home: Home, word: &'a Word, first: &mut First)
-    requires behind { StandBehind scopes.now }
-    requires place { IsPlace scopes.now home }
-    ensures { Meets (IsPackageNamed scopes.now home word.now) first.old first.new }
+fn note_package_name<'a>(
+    scopes: &SymbolTable<'a>,
+    home: Enclosing,
+    word: &'a Word,
+    first: &mut FirstViolation,
+)
+    requires behind { AreWellNested scopes.now }
+    requires place { IsEnclosing scopes.now home }
+    ensures { HasRecorded (IsPackageNamed scopes.now home word.now) first.old first.new }
 {
-    one_scope();
+    scope_is_determined();
     let is_package = scopes.is_package(home, word.name.as_slice());
     first.note_if(is_package, ResolveReason::DuplicateName, word.span);
 }
 
-fn note_message_packages<'a>(files: &Joined<'a>, scopes: &Scopes<'a>, first: &mut First)
+fn note_message_packages<'a>(
+    files: &Joined<'a>,
+    scopes: &SymbolTable<'a>,
+    first: &mut FirstViolation,
+)
     requires formed { IsFormed files.now }
     requires scopes { scopes.now ≡ files.now }
-    ensures { Meets (AtSome (OfElement files.now.messages (λ i m. IsPackageNamed files.now (home_of m) m.name)))
+    ensures { HasRecorded (IsOfAny (IsOfElement files.now.messages (λ i m. IsPackageNamed files.now (enclosing_of m) m.name)))
         first.old first.new }
 {
     let messages = files.messages();
     for i in 0..messages.len() {
         let message = &messages[i];
-        note_package_name(scopes, message.home(), &message.name, first);
+        note_package_name(scopes, message.enclosing(), &message.name, first);
     }
 }
 
-fn note_enum_packages<'a>(files: &Joined<'a>, scopes: &Scopes<'a>, first: &mut First)
+fn note_enum_packages<'a>(files: &Joined<'a>, scopes: &SymbolTable<'a>, first: &mut FirstViolation)
     requires formed { IsFormed files.now }
     requires scopes { scopes.now ≡ files.now }
-    ensures { Meets (AtSome (OfElement files.now.enums (λ i e. IsPackageNamed files.now (enum_home_of e) e.name)))
+    ensures { HasRecorded (IsOfAny (IsOfElement files.now.enums (λ i e. IsPackageNamed files.now (enclosing_of_enum e) e.name)))
         first.old first.new }
 {
     let enums = files.enums();
     for i in 0..enums.len() {
         let choices = &enums[i];
-        note_package_name(scopes, choices.home(), &choices.name, first);
+        note_package_name(scopes, choices.enclosing(), &choices.name, first);
     }
 }
 
@@ -317,15 +327,15 @@ fn note_enum_packages<'a>(files: &Joined<'a>, scopes: &Scopes<'a>, first: &mut F
 pub(crate) fn note_duplicates<'a>(
     alloc: Global,
     files: &Joined<'a>,
-    scopes: &Scopes<'a>,
-    first: &mut First,
+    scopes: &SymbolTable<'a>,
+    first: &mut FirstViolation,
 ) -> Result<(), Memory>
     requires formed { IsFormed files.now }
     requires scopes { scopes.now ≡ files.now }
-    ensures { OnOk result (Meets (TwiceIn files.now) first.old first.new) }
+    ensures { OnOk result (HasRecorded (IsDuplicateViolation files.now) first.old first.new) }
 {
-    one_scope();
-    one_number();
+    scope_is_determined();
+    scope_number_is_unique();
     let mut names = Vec::new(alloc);
     add_messages(files, scopes, &mut names)?;
     add_enums(files, scopes, &mut names)?;

@@ -7,10 +7,10 @@ ghost use Rattle.std.specs.List.Sorted.{IsNonDecreasingBy};
 ghost use Rattle.mrpc_table.specs.Valid.{IsFieldNumber};
 ghost use Rattle.proto_ast.specs.declared.file.Range.{Range};
 ghost use Rattle.mrpc_table.specs.Lines.{magnitude};
-ghost use Rattle.schema_validation.specs.Types.{value_of};
-ghost use Rattle.schema_validation.specs.Those.{AreThose};
+ghost use Rattle.schema_validation.specs.Types.{signed_value};
+ghost use Rattle.schema_validation.specs.Correspondence.{AreCorresponding};
 ghost use Rattle.schema_validation.specs.Members.{IsFieldNumberOf, IsReserved};
-ghost use Rattle.schema_validation.specs.Ranges.{IsPlaceOf, IsEndsOf, AreSortedEnds, KeepsRanges, reach_from};
+ghost use Rattle.schema_validation.specs.Ranges.{IsPositionOf, IsEndsOf, AreSortedEnds, HasReservedRanges, extended_from};
 
 use mrpc_table::{Decimal, Memory, is_field_number};
 use proto_ast::{Number, Range};
@@ -30,8 +30,8 @@ fn size_of(value: Decimal) -> u128
 }
 
 // The position of a number, counted from -2^64.
-pub(crate) fn place_of(number: &Number) -> u128
-    ensures is { IsPlaceOf result (value_of number.now) }
+pub(crate) fn number_position(number: &Number) -> u128
+    ensures is { IsPositionOf result (signed_value number.now) }
     ensures small { result ≤ 2 ^ 65 }
 {
     let size = size_of(number.value);
@@ -44,8 +44,8 @@ pub(crate) fn place_of(number: &Number) -> u128
 
 /// Returns the number of a field: 1 to 536870911, except 19000 to 19999.
 pub fn field_number(number: &Number) -> Option<u32>
-    ensures { MatchOption result (IsFieldNumberOf (value_of number.now) → ⊥)
-        (λ n. (value_of number.now ≡ pos n) × IsFieldNumber n) }
+    ensures { MatchOption result (IsFieldNumberOf (signed_value number.now) → ⊥)
+        (λ n. (signed_value number.now ≡ pos n) × IsFieldNumber n) }
 {
     if number.negative {
         return None;
@@ -76,7 +76,7 @@ fn signed(negative: bool, size: u64) -> Option<i32>
 
 /// Returns the number of an enum's value, a signed number of 32 bits.
 pub fn enum_number(number: &Number) -> Option<i32>
-    ensures { MatchOption result (FitsSigned w32 (value_of number.now) → ⊥) (λ n. n ≡ value_of number.now) }
+    ensures { MatchOption result (FitsSigned w32 (signed_value number.now) → ⊥) (λ n. n ≡ signed_value number.now) }
 {
     match number.value {
         Decimal::Small(size) => signed(number.negative, size),
@@ -89,14 +89,14 @@ fn ends(range: &Range) -> (u128, u128)
     ensures { IsEndsOf range.now result }
 {
     let last = match &range.last {
-        Some(last) => place_of(last),
+        Some(last) => number_position(last),
         None => 2 * ZERO,
     };
-    (place_of(&range.first), last)
+    (number_position(&range.first), last)
 }
 
 fn all_ends(alloc: Global, ranges: &[Range]) -> Result<Vec<(u128, u128)>, Memory>
-    ensures { IfOk result (λ v. AreThose IsEndsOf ranges.now v.items) }
+    ensures { IfOk result (λ v. AreCorresponding IsEndsOf ranges.now v.items) }
 {
     let mut all = Vec::with_capacity(alloc, ranges.len())?;
     for i in 0..ranges.len() {
@@ -116,8 +116,8 @@ fn sorted_ends(alloc: Global, ranges: &[Range]) -> Result<Vec<(u128, u128)>, Mem
 }
 
 // Replaces each last position by the largest one up to there.
-fn reach_out(alloc: Global, sorted: &[(u128, u128)]) -> Result<Vec<(u128, u128)>, Memory>
-    ensures { IfOk result (λ v. v.items ≡ reach_from 0 sorted.now) }
+fn extend_ends(alloc: Global, sorted: &[(u128, u128)]) -> Result<Vec<(u128, u128)>, Memory>
+    ensures { IfOk result (λ v. v.items ≡ extended_from 0 sorted.now) }
 {
     let mut reached = Vec::with_capacity(alloc, sorted.len())?;
     let mut reach: u128 = 0;
@@ -130,7 +130,7 @@ fn reach_out(alloc: Global, sorted: &[(u128, u128)]) -> Result<Vec<(u128, u128)>
 }
 
 // The number of ranges whose first position is at most `place`.
-fn begin_by(ranges: &[(u128, u128)], place: u128) -> usize
+fn count_starting_by(ranges: &[(u128, u128)], place: u128) -> usize
     ensures within { result ≤ length ranges.now }
     ensures parts { IsNonDecreasingBy {X = ℕ × ℕ} (λ e. e.0) ranges.now
         → AllWithin (λ e. e.0 ≤ place) ranges.now 0 result
@@ -148,20 +148,20 @@ pub(crate) struct Reserved {
 impl Reserved {
     // The numbers of these ranges.
     pub(crate) fn new(alloc: Global, ranges: &[Range]) -> Result<Reserved, Memory>
-        ensures { IfOk result (KeepsRanges ranges.now) }
+        ensures { IfOk result (HasReservedRanges ranges.now) }
     {
         let sorted = sorted_ends(alloc, ranges)?;
-        let reached = reach_out(alloc, sorted.as_slice())?;
+        let reached = extend_ends(alloc, sorted.as_slice())?;
         Ok(Reserved { ranges: reached })
     }
 
     // True if a range contains the number at a position: it starts at or below the position, and ends at or above it.
     pub(crate) fn has(&self, place: u128) -> bool
-        ensures { (ranges : List Range) (n : ℤ) → KeepsRanges ranges self.now → IsPlaceOf place n → place ≤ 2 ^ 65
+        ensures { (ranges : List Range) (n : ℤ) → HasReservedRanges ranges self.now → IsPositionOf place n → place ≤ 2 ^ 65
             → IsTrue result ↔ IsReserved ranges n }
     {
         let ranges = self.ranges.as_slice();
-        let low = begin_by(ranges, place);
+        let low = count_starting_by(ranges, place);
         low > 0 && place <= ranges[low - 1].1
     }
 }

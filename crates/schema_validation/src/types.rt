@@ -4,28 +4,28 @@ ghost use Rattle.std.specs.Prelude.{◌≡◌, ◌<◌, ◌↔◌, ℕ, true, Li
 ghost use Rattle.mrpc_table.specs.Words.{is_key};
 ghost use Rattle.mrpc_table.specs.declared.table.Kind.{Kind};
 ghost use Rattle.mrpc_table.specs.declared.table.Label.{Label};
-ghost use Rattle.proto_ast.specs.declared.joined.Home.TheVariants as home;
+ghost use Rattle.proto_ast.specs.declared.joined.Enclosing.TheVariants as home;
 ghost use Rattle.schema_symbols.specs.Scopes.{IsScope};
-ghost use Rattle.schema_validation.specs.Types.{single_label, IsScalar, IsNoScalar, HasForm};
-ghost use Rattle.schema_symbols.specs.Finding.{NamesNothing};
-ghost use Rattle.schema_validation.specs.Members.{IsMisplaced};
-ghost use Rattle.schema_validation.specs.Forms.{IsType, IsForm, is_message, is_packable, may_be_key};
+ghost use Rattle.schema_validation.specs.Types.{single_label, IsScalar, IsNoScalar, HasShape};
+ghost use Rattle.schema_symbols.specs.Lookups.{IsUnresolved};
+ghost use Rattle.schema_validation.specs.Members.{IsMisplacedMap};
+ghost use Rattle.schema_validation.specs.Shapes.{IsType, IsShape, is_message, is_packable, may_be_key};
 
 use mrpc_table::{Kind, Label};
-use proto_ast::{FieldDecl, FieldLabel, FieldType, Home, Word};
-use schema_symbols::{Named, Scopes};
+use proto_ast::{Enclosing, FieldDecl, FieldLabel, FieldType, Word};
+use schema_symbols::{Symbol, SymbolTable};
 
 /// The type of a field, or of a map's value.
 #[derive(Clone, Copy)]
 pub enum TypeOf {
     Scalar(Kind),
-    Named(Named),
+    Named(Symbol),
 }
 
 /// The shape of a field: its type, its label if it is in no oneof, and the index of its oneof among those of its
 /// message.
 #[derive(Clone, Copy)]
-pub struct Form {
+pub struct FieldShape {
     pub label: Label,
     pub oneof: Option<usize>,
     pub type_of: TypeOf,
@@ -34,7 +34,7 @@ pub struct Form {
 // What the name of a type means in a field of a message, given the files that are visible. The name of a scalar
 // always means the scalar, whatever is declared.
 pub(crate) fn type_of<'a>(
-    scopes: &Scopes<'a>,
+    scopes: &SymbolTable<'a>,
     file: usize,
     message: usize,
     word: &'a Word,
@@ -42,20 +42,20 @@ pub(crate) fn type_of<'a>(
     requires file { file < length scopes.now.heads }
     requires message { message < length scopes.now.messages }
     ensures { (scope : List (List ℕ)) → IsScope scopes.now (home.Message message) scope
-        → MatchOption result (IsNoScalar word.now.name × NamesNothing scopes.now file scope word.now.name)
+        → MatchOption result (IsNoScalar word.now.name × IsUnresolved scopes.now file scope word.now.name)
         (IsType scopes.now file scope word.now.name) }
 {
     let name = word.name.as_slice();
     match Kind::of_name(name) {
         Some(kind) => Some(TypeOf::Scalar(kind)),
-        None => Some(TypeOf::Named(scopes.find(file, Home::Message(message), name)?)),
+        None => Some(TypeOf::Named(scopes.find(file, Enclosing::Message(message), name)?)),
     }
 }
 
 fn is_message(type_of: TypeOf) -> bool
     ensures { result ≡ is_message type_of }
 {
-    matches!(type_of, TypeOf::Named(Named::Message(_)))
+    matches!(type_of, TypeOf::Named(Symbol::Message(_)))
 }
 
 // True if repeated values of the type can be packed in one record.
@@ -64,8 +64,8 @@ fn is_packable(type_of: TypeOf) -> bool
 {
     match type_of {
         TypeOf::Scalar(kind) => kind.is_numeric(),
-        TypeOf::Named(Named::Enum(_)) => true,
-        TypeOf::Named(Named::Message(_)) => false,
+        TypeOf::Named(Symbol::Enum(_)) => true,
+        TypeOf::Named(Symbol::Message(_)) => false,
     }
 }
 
@@ -96,7 +96,7 @@ fn single_label(field: &FieldDecl, type_of: TypeOf) -> Label
 
 // True if a map has a label, is in a oneof, or is the value of a map.
 pub(crate) fn is_misplaced_map(field: &FieldDecl) -> bool
-    ensures { IsTrue result ↔ IsMisplaced field.now }
+    ensures { IsTrue result ↔ IsMisplacedMap field.now }
 {
     match field.kind {
         FieldType::Named(_) => false,
@@ -115,18 +115,18 @@ fn key_of(word: &Word) -> Option<Kind>
 }
 
 /// Returns the shape of a field in a table; none if a type of the field is a violation, or a map isn't allowed there.
-pub fn form_of<'a>(
-    scopes: &Scopes<'a>,
+pub fn field_shape_of<'a>(
+    scopes: &SymbolTable<'a>,
     file: usize,
     message: usize,
     field: &'a FieldDecl,
-) -> Option<Form>
+) -> Option<FieldShape>
     requires file { file < length scopes.now.heads }
     requires message { message < length scopes.now.messages }
     ensures { (scope : List (List ℕ)) → IsScope scopes.now (home.Message message) scope
         → MatchOption result
-        ((label : Label) (word : List ℕ) → HasForm scopes.now file scope field.now label word → ⊥)
-        (IsForm scopes.now file scope field.now) }
+        ((label : Label) (word : List ℕ) → HasShape scopes.now file scope field.now label word → ⊥)
+        (IsShape scopes.now file scope field.now) }
 {
     if is_misplaced_map(field) {
         return None;
@@ -134,7 +134,7 @@ pub fn form_of<'a>(
     match &field.kind {
         FieldType::Named(word) => {
             let type_of = type_of(scopes, file, message, word)?;
-            Some(Form {
+            Some(FieldShape {
                 label: single_label(field, type_of),
                 oneof: field.oneof,
                 type_of,
@@ -143,7 +143,7 @@ pub fn form_of<'a>(
         FieldType::Map { key, value } => {
             let key = key_of(key)?;
             let type_of = type_of(scopes, file, message, value)?;
-            Some(Form {
+            Some(FieldShape {
                 label: Label::Map(key),
                 oneof: None,
                 type_of,

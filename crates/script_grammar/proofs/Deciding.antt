@@ -8,21 +8,21 @@ use Rattle.mrpc_table.specs.Names.{is_name_form}
 use Rattle.mrpc_table.specs.declared.words.Decimal.{Decimal}
 use Rattle.mrpc_table.specs.declared.words.Decimal.TheVariants.{Small, Large}
 use Rattle.script_grammar.specs.Keywords.{spelling}
-use Rattle.script_grammar.specs.Lines.{AreSaid, OneOffends, IsAgainst}
+use Rattle.script_grammar.specs.Lines.{HaveMeanings, HasReasonInWords, HasReason}
 use Rattle.script_grammar.specs.Reading.{value_in}
-use Rattle.script_grammar.specs.Reasons.{order_of, IsFirst}
-use Rattle.script_grammar.specs.Sorts.{Meaning, word, number, unbounded, name, Says, Offends}
+use Rattle.script_grammar.specs.Reasons.{script_reason_rank, IsFirstReason}
+use Rattle.script_grammar.specs.WordKinds.{Meaning, word, number, unbounded, name, HasMeaning, HasWordReason}
 use Rattle.script_grammar.specs.declared.fault.ScriptReason.{ScriptReason}
 use Rattle.script_grammar.specs.declared.fault.ScriptReason.TheVariants as reason
-use Rattle.script_grammar.specs.declared.sort.Sort.{Sort}
-use Rattle.script_grammar.specs.declared.sort.Sort.TheVariants.{Key, Fixed, Either, Number, Unbounded, Value as Stored, Name}
+use Rattle.script_grammar.specs.declared.word_kind.WordKind.{WordKind}
+use Rattle.script_grammar.specs.declared.word_kind.WordKind.TheVariants.{Key, Fixed, Either, Number, Unbounded, Value as Stored, Name}
 use Rattle.script_grammar.proofs.Stored.{IsFound, value_found}
 use Rattle.script_grammar.proofs.Verdicts.{word_fine, words_fine, one_reason, another_count, first_word_at_fault}
 
 -- ---- one word
 
-abbrev IsJudged : Sort → List ℕ → Type 0
-IsJudged s w = ((m : Meaning) × Says s w m) ⊎ ((r : ScriptReason) × Offends s w r)
+abbrev IsJudged : WordKind → List ℕ → Type 0
+IsJudged s w = ((m : Meaning) × HasMeaning s w m) ⊎ ((r : ScriptReason) × HasWordReason s w r)
 
 is_or_not : (w v : List ℕ) → (w ≡ v) ⊎ (w ≢ v)
 is_or_not w v = elim (cases_Bool (bytes_eq w v)) [
@@ -67,7 +67,7 @@ name_judged w = elim (cases_Bool (is_name_form w)) [
   ]
 ]
 
-judged : (s : Sort) (w : List ℕ) → IsJudged s w
+judged : (s : WordKind) (w : List ℕ) → IsJudged s w
 judged (Key k) w = elim (is_or_not w (spelling k)) [
   | inl is ↦ inl (word k, (refl, is))
   | inr isnt ↦ inr (reason.Word, (isnt, refl))
@@ -90,8 +90,8 @@ judged Name w = name_judged w
 
 -- ---- the words of a line
 
-first_of_both : (P Q : ScriptReason → Type 0) (r q : ScriptReason) → IsFirst P r → IsFirst Q q → (x : ScriptReason) × IsFirst (λ y. P y ⊎ Q y) x
-first_of_both P Q r q h k = elim (cases_lt (order_of q) (order_of r)) [
+first_of_both : (P Q : ScriptReason → Type 0) (r q : ScriptReason) → IsFirstReason P r → IsFirstReason Q q → (x : ScriptReason) × IsFirstReason (λ y. P y ⊎ Q y) x
+first_of_both P Q r q h k = elim (cases_lt (script_reason_rank q) (script_reason_rank r)) [
   | inl earlier ↦ (
     q,
     record {
@@ -114,40 +114,40 @@ first_of_both P Q r q h k = elim (cases_lt (order_of q) (order_of r)) [
   )
 ]
 
-first_of_left : (P Q : ScriptReason → Type 0) (r : ScriptReason) → IsFirst P r → ((q : ScriptReason) → Q q → ⊥) → IsFirst (λ y. P y ⊎ Q y) r
+first_of_left : (P Q : ScriptReason → Type 0) (r : ScriptReason) → IsFirstReason P r → ((q : ScriptReason) → Q q → ⊥) → IsFirstReason (λ y. P y ⊎ Q y) r
 first_of_left P Q r h none = record {
   stands = inl h.stands;
   first = λ y either. elim either [ inl p ↦ h.first y p | inr q ↦ absurd (none y q) ];
 }
 
-first_of_right : (P Q : ScriptReason → Type 0) (r : ScriptReason) → ((q : ScriptReason) → P q → ⊥) → IsFirst Q r → IsFirst (λ y. P y ⊎ Q y) r
+first_of_right : (P Q : ScriptReason → Type 0) (r : ScriptReason) → ((q : ScriptReason) → P q → ⊥) → IsFirstReason Q r → IsFirstReason (λ y. P y ⊎ Q y) r
 first_of_right P Q r none h = record {
   stands = inr h.stands;
   first = λ y either. elim either [ inl p ↦ absurd (none y p) | inr q ↦ h.first y q ];
 }
 
-only_reason : (s : Sort) (w : List ℕ) (r : ScriptReason) → Offends s w r → IsFirst (Offends s w) r
-only_reason s w r o = record { stands = o; first = λ q k. (let same = ap order_of (one_reason s w r q o k) in omega (arith, same)) }
+only_reason : (s : WordKind) (w : List ℕ) (r : ScriptReason) → HasWordReason s w r → IsFirstReason (HasWordReason s w) r
+only_reason s w r o = record { stands = o; first = λ q k. (let same = ap script_reason_rank (one_reason s w r q o k) in omega (arith, same)) }
 
-abbrev AreJudged : List Sort → List (List ℕ) → Type 0
-AreJudged sorts ws = ((ms : List Meaning) × AreSaid sorts ws ms) ⊎ ((r : ScriptReason) × IsFirst (OneOffends sorts ws) r)
+abbrev AreJudged : List WordKind → List (List ℕ) → Type 0
+AreJudged sorts ws = ((ms : List Meaning) × HaveMeanings sorts ws ms) ⊎ ((r : ScriptReason) × IsFirstReason (HasReasonInWords sorts ws) r)
 
-all_judged : (sorts : List Sort) (ws : List (List ℕ)) → length ws ≡ length sorts → AreJudged sorts ws
+all_judged : (sorts : List WordKind) (ws : List (List ℕ)) → length ws ≡ length sorts → AreJudged sorts ws
 all_judged [] [] e = inl ([], tt)
 all_judged [] (y ∷ ys) e = absurd (omega (arith, e))
 all_judged (x ∷ xs) [] e = absurd (omega (arith, e))
 all_judged (x ∷ xs) (y ∷ ys) e = elim (judged x y) [
   | inl one ↦ elim (all_judged xs ys (omega (arith, e))) [
     | inl more ↦ inl (one.0 ∷ more.0, (one.1, more.1))
-    | inr bad ↦ inr (bad.0, first_of_right (Offends x y) (OneOffends xs ys) bad.0 (λ q o. word_fine x y one.0 q one.1 o) bad.1)
+    | inr bad ↦ inr (bad.0, first_of_right (HasWordReason x y) (HasReasonInWords xs ys) bad.0 (λ q o. word_fine x y one.0 q one.1 o) bad.1)
   ]
   | inr bad ↦ elim (all_judged xs ys (omega (arith, e))) [
-    | inl more ↦ inr (bad.0, first_of_left (Offends x y) (OneOffends xs ys) bad.0 (only_reason x y bad.0 bad.1) (λ q o. words_fine xs ys more.0 q more.1 o))
-    | inr other ↦ inr (first_of_both (Offends x y) (OneOffends xs ys) bad.0 other.0 (only_reason x y bad.0 bad.1) other.1)
+    | inl more ↦ inr (bad.0, first_of_left (HasWordReason x y) (HasReasonInWords xs ys) bad.0 (only_reason x y bad.0 bad.1) (λ q o. words_fine xs ys more.0 q more.1 o))
+    | inr other ↦ inr (first_of_both (HasWordReason x y) (HasReasonInWords xs ys) bad.0 other.0 (only_reason x y bad.0 bad.1) other.1)
   ]
 ]
 
-pub some_judgement : (sorts : List Sort) (ws : List (List ℕ)) → ((ms : List Meaning) × AreSaid sorts ws ms) ⊎ ((r : ScriptReason) × IsFirst (IsAgainst sorts ws) r)
+pub some_judgement : (sorts : List WordKind) (ws : List (List ℕ)) → ((ms : List Meaning) × HaveMeanings sorts ws ms) ⊎ ((r : ScriptReason) × IsFirstReason (HasReason sorts ws) r)
 some_judgement sorts ws = elim (cases_eq (length ws) (length sorts)) [
   | inr other ↦ inr (reason.Word, another_count sorts ws other)
   | inl count ↦ elim (all_judged sorts ws count) [

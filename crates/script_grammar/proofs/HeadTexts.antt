@@ -14,7 +14,7 @@ use Rattle.mrpc_table.specs.Lines.{pieces_of, is_decimal, number_of, in_64_bits}
 use Rattle.mrpc_table.specs.declared.words.Decimal.{Decimal}
 use Rattle.script_grammar.specs.Values.{IsNumber}
 use Rattle.script_grammar.specs.Limits.{HasLimit, IsLimitFault, within}
-use Rattle.script_grammar.specs.Fronts.{table_line, loads_line, IsLimit, IsFrontFault, no_second_line, no_limit, no_third_line}
+use Rattle.script_grammar.specs.Preambles.{table_line, loads_line, IsLimit, IsPreambleFault, no_second_line, no_limit, no_third_line}
 use Rattle.script_grammar.specs.declared.fault.ScriptReason.{ScriptReason}
 use Rattle.script_grammar.specs.declared.fault.ScriptReason.TheVariants.{Word, Number}
 use Rattle.script_grammar.proofs.TextLines.{IsOneLine, has_piece, pieces_line, cut_is, same_pieces}
@@ -147,14 +147,14 @@ limit_fault text line behind word d reason cut is number failed =
 module _ (first_line : List ℕ) where
   pub at_second_line : (text second : List ℕ) (reason : ScriptReason) → text ≡ first_line ++ second
       → ((more : List ℕ) → second ≢ table_line ++ more) → IsLimitFault second reason
-      → IsFrontFault first_line text 2 reason
+      → IsPreambleFault first_line text 2 reason
   at_second_line text second Word is other h = no_second_line second is other h refl refl
   at_second_line text second Number is other h = no_limit h.0 h.1 h.2 (is ∙ ap (λ (t : List ℕ). first_line ++ t) h.5) h.3 h.4 refl refl
   at_second_line text second _ is other h = absurd h
 
   pub at_third_line : (text second third : List ℕ) (loads : ℕ) → text ≡ first_line ++ second
       → HasLimit second loads third → ((more : List ℕ) → third ≢ table_line ++ more)
-      → IsFrontFault first_line text 3 Word
+      → IsPreambleFault first_line text 3 Word
   at_third_line text second third loads is h other =
       no_third_line h.word third loads (is ∙ ap (λ (t : List ℕ). first_line ++ t) h.text_is) h.number h.limit other refl refl
 

@@ -6,8 +6,8 @@ use Rattle.std.proofs.lemmas.List.{append_cancel_left}
 use Rattle.mrpc_table.specs.Lines.{pieces_of, number_of}
 use Rattle.script_grammar.specs.Values.{IsNumber}
 use Rattle.script_grammar.specs.Limits.{HasLimit, IsLimitFault}
-use Rattle.script_grammar.specs.Fronts as fronts
-use Rattle.script_grammar.specs.Fronts.{table_line, loads_line, IsLimit, usual, limited}
+use Rattle.script_grammar.specs.Preambles as fronts
+use Rattle.script_grammar.specs.Preambles.{table_line, loads_line, IsLimit, default_loads, limited}
 use Rattle.script_grammar.specs.declared.fault.ScriptReason.{ScriptReason}
 use Rattle.script_grammar.specs.declared.fault.ScriptReason.TheVariants.{Header, Word, Number}
 use Rattle.script_grammar.proofs.HeadTexts as heads
@@ -65,14 +65,14 @@ module _ (first_line : List ℕ) where
   one_head_by : (text head : List ℕ) (loads : ℕ) (behind other : List ℕ) (limit : ℕ) (more : List ℕ)
       → IsHead head loads → IsHead other limit → text ≡ head ++ behind → text ≡ other ++ more
       → IsSameHead head loads behind other limit more
-  one_head_by text head loads behind other limit more (usual e n) (usual f m) is at = record {
+  one_head_by text head loads behind other limit more (default_loads e n) (default_loads f m) is at = record {
     head_is = e ∙ sym f;
     loads_are = n ∙ sym m;
     behind_is = append_cancel_left table_line behind more (same_second text (table_line ++ behind) (table_line ++ more) (usual_text text head behind e is) (usual_text text other more f at));
   }
-  one_head_by text head loads behind other limit more (usual e n) (limited word f number range) is at =
+  one_head_by text head loads behind other limit more (default_loads e n) (limited word f number range) is at =
       absurd (table_or_loads behind word (table_line ++ more) (same_second text _ _ (usual_text text head behind e is) (limited_text text other more word f at)))
-  one_head_by text head loads behind other limit more (limited word e number range) (usual f m) is at =
+  one_head_by text head loads behind other limit more (limited word e number range) (default_loads f m) is at =
       absurd (table_or_loads more word (table_line ++ behind) (same_second text _ _ (usual_text text other more f at) (limited_text text head behind word e is)))
   one_head_by text head loads behind other limit more (limited word e number range) (limited spelled f that bound) is at =
       let one = one_limit word (table_line ++ behind) spelled (table_line ++ more) loads limit number that
@@ -91,13 +91,13 @@ module _ (first_line : List ℕ) where
   -- ---- a head or a fault, never both
 
   begins_first : (text head : List ℕ) (loads : ℕ) (behind : List ℕ) → IsHead head loads → text ≡ head ++ behind → (rest : List ℕ) × (text ≡ first_line ++ rest)
-  begins_first text head loads behind (usual e n) is = (table_line ++ behind, usual_text text head behind e is)
+  begins_first text head loads behind (default_loads e n) is = (table_line ++ behind, usual_text text head behind e is)
   begins_first text head loads behind (limited word e number range) is = (loads_line word ++ (table_line ++ behind), limited_text text head behind word e is)
 
   head_or_second : (text head : List ℕ) (loads : ℕ) (behind rest : List ℕ) → IsHead head loads → text ≡ head ++ behind
       → text ≡ first_line ++ rest → ((more : List ℕ) → rest ≢ table_line ++ more)
       → ((word more : List ℕ) (n : ℕ) → IsNumber word n → rest ≢ loads_line word ++ more) → ⊥
-  head_or_second text head loads behind rest (usual e n) is at other none = other behind (same_second text rest (table_line ++ behind) at (usual_text text head behind e is))
+  head_or_second text head loads behind rest (default_loads e n) is at other none = other behind (same_second text rest (table_line ++ behind) at (usual_text text head behind e is))
   head_or_second text head loads behind rest (limited word e number range) is at other none =
       none word (table_line ++ behind) loads number (same_second text rest (loads_line word ++ (table_line ++ behind)) at (limited_text text head behind word e is))
 
@@ -105,7 +105,7 @@ module _ (first_line : List ℕ) where
   head_and_limit : (text head : List ℕ) (loads : ℕ) (behind word more : List ℕ) (n : ℕ) → IsHead head loads
       → text ≡ head ++ behind → text ≡ first_line ++ (loads_line word ++ more) → IsNumber word n
       → (loads ≡ n) × IsLimit loads × (table_line ++ behind ≡ more)
-  head_and_limit text head loads behind word more n (usual e m) is at number =
+  head_and_limit text head loads behind word more n (default_loads e m) is at number =
       absurd (table_or_loads behind word more (same_second text (table_line ++ behind) (loads_line word ++ more) (usual_text text head behind e is) at))
   head_and_limit text head loads behind word more n (limited spelled e that range) is at number =
       let one = one_limit spelled (table_line ++ behind) word more loads n that number (same_second text _ _ (limited_text text head behind spelled e is) at) in
@@ -213,7 +213,7 @@ module _ (first_line : List ℕ) where
   some_head text = elim (prefix_or_not first_line text) [
     | inr none ↦ inr (1, Header, no_first none refl refl)
     | inl first ↦ elim (prefix_or_not table_line first.0) [
-      | inl table ↦ inl (first_line ++ table_line, 1024, table.0, record { is_head = usual refl refl; text_is = heads.usual_head first_line text first.0 table.0 first.1 table.1 })
+      | inl table ↦ inl (first_line ++ table_line, 1024, table.0, record { is_head = default_loads refl refl; text_is = heads.usual_head first_line text first.0 table.0 first.1 table.1 })
       | inr other ↦ elim (limit_or_fault first.0) [
         | inr fault ↦ inr (2, fault.0, second_fault text first.0 fault.0 first.1 other fault.1)
         | inl limit ↦ elim (prefix_or_not table_line limit.1) [

@@ -1,12 +1,12 @@
 -- The definitions, evaluated on lines that were worked out by hand.
 use Rattle.std.proofs.Common.{◌≡◌, ◌^◌, [], ◌∷◌, codes, Some, None, refl, inl, inr, arith}
 use Rattle.mrpc_table.specs.Lines.{words_of}
-use Rattle.script_grammar.specs.Forms.{sorts_of, form_in}
-use Rattle.script_grammar.specs.Lines.{AreSaid, IsAgainst, in_word, miscounted}
-use Rattle.script_grammar.specs.Sorts.{word, number, name, Says}
+use Rattle.script_grammar.specs.Forms.{word_kinds_of, form_in}
+use Rattle.script_grammar.specs.Lines.{HaveMeanings, HasReason, in_word, miscounted}
+use Rattle.script_grammar.specs.WordKinds.{word, number, name, HasMeaning}
 use Rattle.script_grammar.specs.Values.{negative}
 use Rattle.script_grammar.specs.declared.fault.ScriptReason.TheVariants.{Word, Number, Name}
-use Rattle.script_grammar.specs.declared.form.Form.TheVariants as form
+use Rattle.script_grammar.specs.declared.form.LineForm.TheVariants as form
 use Rattle.script_grammar.specs.declared.keyword.Keyword.TheVariants as keyword
 
 -- ---- forms
@@ -41,7 +41,7 @@ empty_line = refl
 
 -- ---- the values of lines
 
-rate_said : AreSaid (sorts_of form.Rate) (words_of (codes "policy rl rate 1 per 1000 burst 2 hold"))
+rate_said : HaveMeanings (word_kinds_of form.Rate) (words_of (codes "policy rl rate 1 per 1000 burst 2 hold"))
     (word keyword.Policy ∷ name (codes "rl") ∷ word keyword.Rate ∷ number 1 ∷ word keyword.Per ∷ number 1000 ∷ word keyword.Burst ∷ number 2 ∷ word keyword.Hold ∷ [])
 rate_said = (
   (refl, refl),
@@ -63,19 +63,19 @@ rate_said = (
   ),
 )
 
-least_said : Says (Rattle.script_grammar.specs.declared.sort.Sort.TheVariants.Value) (codes "-9223372036854775808") (number (2 ^ 63))
+least_said : HasMeaning (Rattle.script_grammar.specs.declared.word_kind.WordKind.TheVariants.Value) (codes "-9223372036854775808") (number (2 ^ 63))
 least_said = (negative (2 ^ 63), (codes "9223372036854775808", refl, refl), omega arith, refl)
 
 -- ---- the faults of lines
 
-no_connection : IsAgainst (sorts_of form.Conn) (words_of (codes "conn 99 x")) Number
+no_connection : HasReason (word_kinds_of form.Conn) (words_of (codes "conn 99 x")) Number
 no_connection = in_word refl (inr (inl (inr (99, refl, λ h. omega (arith, h.1), refl))))
 
-no_words : IsAgainst (sorts_of form.Conn) (words_of (codes "conn 99 x")) Word
+no_words : HasReason (word_kinds_of form.Conn) (words_of (codes "conn 99 x")) Word
 no_words = in_word refl (inr (inr (inl (inl (λ n e. cc, refl)))))
 
-no_name : IsAgainst (sorts_of form.Count) (words_of (codes "policy 9a count")) Name
+no_name : HasReason (word_kinds_of form.Count) (words_of (codes "policy 9a count")) Name
 no_name = in_word refl (inr (inl (λ h. cc, refl)))
 
-no_count : IsAgainst (sorts_of form.Count) (words_of (codes "policy a count 1")) Word
+no_count : HasReason (word_kinds_of form.Count) (words_of (codes "policy a count 1")) Word
 no_count = miscounted (λ e. omega (arith, e)) refl

@@ -8,9 +8,9 @@ use Rattle.std.proofs.lemmas.Bool.{cases_lt}
 use Rattle.std.proofs.lemmas.List.{drop_all, drop_more, take_more, length-drop}
 use Rattle.mrpc_table.specs.Lines.{words_of}
 use Rattle.script_grammar.specs.Lines.{has_form}
-use Rattle.script_grammar.specs.Rests.{words_in}
-use Rattle.script_grammar.specs.declared.sort.Sort.{Sort}
-use Rattle.script_grammar.specs.declared.sort.Sort.TheVariants.{Unbounded}
+use Rattle.script_grammar.specs.Remainders.{words_in}
+use Rattle.script_grammar.specs.declared.word_kind.WordKind.{WordKind}
+use Rattle.script_grammar.specs.declared.word_kind.WordKind.TheVariants.{Unbounded}
 
 -- a line has at least one word
 pub has_word : (text : List ℕ) → (w : List ℕ) × (ws : List (List ℕ)) × (words_of text ≡ w ∷ ws)
@@ -25,11 +25,11 @@ has_word (x ∷ xs) =
 -- ---- the form
 
 -- the words end before the sorts do
-pub form_short : (sorts : List Sort) (i : ℕ) (rest : Option (Bor (List ℕ))) (b : Bool) → i < length sorts
+pub form_short : (sorts : List WordKind) (i : ℕ) (rest : Option (Bor (List ℕ))) (b : Bool) → i < length sorts
     → rest ≡ None → has_form (drop i sorts) (words_in rest) ≡ b → false ≡ b
 form_short sorts i rest b within none so_far =
     let front = drop_more sorts i Unbounded within in
-    sym (ap (λ (x : List Sort). has_form x (words_in rest)) front ∙ ap (λ r. has_form (get_or sorts i Unbounded ∷ drop (i + 1) sorts) (words_in r)) none) ∙ so_far
+    sym (ap (λ (x : List WordKind). has_form x (words_in rest)) front ∙ ap (λ r. has_form (get_or sorts i Unbounded ∷ drop (i + 1) sorts) (words_in r)) none) ∙ so_far
 
 form_end_by : (rest : Option (Bor (List ℕ))) → not (is_some rest) ≡ has_form [] (words_in rest)
 form_end_by None = refl
@@ -42,10 +42,10 @@ not_not false true e = refl
 not_not false false e = absurd cc
 
 -- the sorts end
-pub form_end : (sorts : List Sort) (i : ℕ) (rest : Option (Bor (List ℕ))) (none b : Bool) → length sorts ≤ i
+pub form_end : (sorts : List WordKind) (i : ℕ) (rest : Option (Bor (List ℕ))) (none b : Bool) → length sorts ≤ i
     → is_some rest ≡ not none → has_form (drop i sorts) (words_in rest) ≡ b → none ≡ b
 form_end sorts i rest none b past is so_far =
-    not_not (is_some rest) none is ∙ form_end_by rest ∙ sym (ap (λ (x : List Sort). has_form x (words_in rest)) (drop_all i sorts past)) ∙ so_far
+    not_not (is_some rest) none is ∙ form_end_by rest ∙ sym (ap (λ (x : List WordKind). has_form x (words_in rest)) (drop_all i sorts past)) ∙ so_far
 
 -- ---- the words
 

@@ -1,11 +1,11 @@
 pub mod Forms
-pub mod Fronts
+pub mod Preambles
 pub mod Keywords
 pub mod Limits
 pub mod Lines
 pub mod Meanings
 pub mod Reading
 pub mod Reasons
-pub mod Rests
-pub mod Sorts
+pub mod Remainders
+pub mod WordKinds
 pub mod Values

@@ -3,13 +3,13 @@ use Rattle.std.specs.Prelude.{◌≡◌, ◌≢◌, ℕ, ◌+◌, nat_le, ◌&&�
 use Rattle.mrpc_table.specs.declared.words.Decimal.{Decimal}
 use Rattle.mrpc_table.specs.declared.words.Decimal.TheVariants.{Small, Large}
 use Rattle.mrpc_table.specs.Lines.{line_count}
-use Rattle.table_text.specs.Faults.{IsFirstFault}
+use Rattle.table_text.specs.Faults.{IsFirstTableFault}
 use Rattle.table_text.specs.declared.fault.TableReason.{TableReason}
 use Rattle.script_grammar.specs.Reasons.{of_table}
 use Rattle.script_grammar.specs.Values.{IsNumber}
 use Rattle.script_grammar.specs.declared.fault.ScriptFault.{ScriptFault}
 use Rattle.script_grammar.specs.declared.fault.ScriptFault.TheVariants as fault
-use Rattle.script_grammar.specs.Fronts.{loads_line, IsLimit}
+use Rattle.script_grammar.specs.Preambles.{loads_line, IsLimit}
 use Rattle.script_grammar.specs.declared.fault.ScriptReason.{ScriptReason}
 use Rattle.script_grammar.specs.declared.fault.ScriptReason.TheVariants.{Word, Number}
 
@@ -35,6 +35,6 @@ within least most Large = Err Number
 -- the text of a table after this head has this first fault; lines are counted from the first one of the head
 abbrev pub IsTableFault : (head table : List ℕ) → ScriptFault → Type 0
 IsTableFault head table (fault.At line reason) =
-    (at : ℕ) × (why : TableReason) × IsFirstFault table at why × (line ≡ line_count head + at)
+    (at : ℕ) × (why : TableReason) × IsFirstTableFault table at why × (line ≡ line_count head + at)
     × (reason ≡ of_table why)
 IsTableFault head table fault.Memory = Unit {0}

@@ -13,13 +13,13 @@ negated Large = Large
 abbrev pub hexadecimal_in : List ℕ → Option Decimal
 hexadecimal_in digits = if are_hexadecimal digits then Some (Small (digits_value 16 digits)) else None
 
-abbrev pub begins_with : ℕ → List ℕ → Bool
-begins_with c [] = false
-begins_with c (d ∷ ds) = d == c
+abbrev pub has_first_byte : ℕ → List ℕ → Bool
+has_first_byte c [] = false
+has_first_byte c (d ∷ ds) = d == c
 
 abbrev pub value_in : List ℕ → Option Decimal
 value_in [] = None
 value_in (c ∷ cs) =
     if c == 45 then option_map negated (option_map in_64_bits (number_of cs))
-    else if c == 48 && begins_with 120 cs then hexadecimal_in (drop 1 cs)
+    else if c == 48 && has_first_byte 120 cs then hexadecimal_in (drop 1 cs)
     else option_map in_64_bits (number_of (c ∷ cs))

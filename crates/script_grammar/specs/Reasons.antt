@@ -32,34 +32,34 @@ reason_word Close = codes "Close"
 reason_word After = codes "After"
 
 -- among several reasons of one line, the one with the lowest rank counts
-abbrev pub order_of : ScriptReason → ℕ
-order_of Header = 0
-order_of Syntax = 1
-order_of Number = 2
-order_of Duplicate = 3
-order_of UnknownType = 4
-order_of MapKey = 5
-order_of Limit = 6
-order_of Word = 7
-order_of Name = 8
-order_of Known = 9
-order_of Unknown = 10
-order_of Path = 11
-order_of Default = 12
-order_of Place = 13
-order_of NoSuch = 14
-order_of Taken = 15
-order_of At = 16
-order_of ChainFull = 17
-order_of OtherKind = 18
-order_of Work = 19
-order_of Close = 20
-order_of After = 21
+abbrev pub script_reason_rank : ScriptReason → ℕ
+script_reason_rank Header = 0
+script_reason_rank Syntax = 1
+script_reason_rank Number = 2
+script_reason_rank Duplicate = 3
+script_reason_rank UnknownType = 4
+script_reason_rank MapKey = 5
+script_reason_rank Limit = 6
+script_reason_rank Word = 7
+script_reason_rank Name = 8
+script_reason_rank Known = 9
+script_reason_rank Unknown = 10
+script_reason_rank Path = 11
+script_reason_rank Default = 12
+script_reason_rank Place = 13
+script_reason_rank NoSuch = 14
+script_reason_rank Taken = 15
+script_reason_rank At = 16
+script_reason_rank ChainFull = 17
+script_reason_rank OtherKind = 18
+script_reason_rank Work = 19
+script_reason_rank Close = 20
+script_reason_rank After = 21
 
 -- of all reasons that apply, this is the first
-pub record IsFirst (Stands : ScriptReason → Type 0) (reason : ScriptReason) : Type 0 where
+pub record IsFirstReason (Stands : ScriptReason → Type 0) (reason : ScriptReason) : Type 0 where
   pub stands : Stands reason
-  pub first : (other : ScriptReason) → Stands other → order_of reason ≤ order_of other
+  pub first : (other : ScriptReason) → Stands other → script_reason_rank reason ≤ script_reason_rank other
 
 -- the reasons of a table's lines
 abbrev pub of_table : TableReason → ScriptReason

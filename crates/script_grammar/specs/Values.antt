@@ -9,10 +9,10 @@ abbrev pub IsNumber : List ℕ → ℕ → Type 0
 IsNumber word n = number_of word ≡ Some n
 
 -- a value, as a line writes it: decimal digits, `-` and decimal digits, or `0x` and hexadecimal digits
-pub data Value : Type 0 where
-  plain : (n : ℕ) → Value
-  negative : (n : ℕ) → Value
-  hexadecimal : (digits : List ℕ) → Value
+pub data WrittenValue : Type 0 where
+  plain : (n : ℕ) → WrittenValue
+  negative : (n : ℕ) → WrittenValue
+  hexadecimal : (digits : List ℕ) → WrittenValue
 
 -- 0 to 9 and a to f
 abbrev pub is_hexadecimal : ℕ → Bool
@@ -22,19 +22,19 @@ is_hexadecimal c = (nat_le 48 c && nat_le c 57) || (nat_le 97 c && nat_le c 102)
 abbrev pub are_hexadecimal : List ℕ → Bool
 are_hexadecimal digits = (nat_lt 0 (length digits) && nat_le (length digits) 16) && list_all is_hexadecimal digits
 
-abbrev pub IsValue : List ℕ → Value → Type 0
+abbrev pub IsValue : List ℕ → WrittenValue → Type 0
 IsValue word (plain n) = IsNumber word n
 IsValue word (negative n) = (digits : List ℕ) × (word ≡ 45 ∷ digits) × IsNumber digits n
 IsValue word (hexadecimal digits) = (word ≡ codes "0x" ++ digits) × (are_hexadecimal digits ≡ true)
 
 -- it fits 64 bits; a negative number is at least -2^63
-abbrev pub Fits : Value → Type 0
-Fits (plain n) = n < 2 ^ 64
-Fits (negative n) = n ≤ 2 ^ 63
-Fits (hexadecimal digits) = Unit {0}
+abbrev pub IsInRange : WrittenValue → Type 0
+IsInRange (plain n) = n < 2 ^ 64
+IsInRange (negative n) = n ≤ 2 ^ 63
+IsInRange (hexadecimal digits) = Unit {0}
 
 -- the 64 bits that are stored: two's complement for a negative number
-abbrev pub word_of : Value → ℕ
-word_of (plain n) = n
-word_of (negative n) = (2 ^ 64 - n) % 2 ^ 64
-word_of (hexadecimal digits) = digits_value 16 digits
+abbrev pub stored_word : WrittenValue → ℕ
+stored_word (plain n) = n
+stored_word (negative n) = (2 ^ 64 - n) % 2 ^ 64
+stored_word (hexadecimal digits) = digits_value 16 digits

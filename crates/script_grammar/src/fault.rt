@@ -1,7 +1,7 @@
 //! Faults of a text of lines.
 
 ghost use Rattle.std.specs.Prelude.{◌≡◌};
-ghost use Rattle.script_grammar.specs.Reasons.{reason_word, order_of, of_table, of_rule};
+ghost use Rattle.script_grammar.specs.Reasons.{reason_word, script_reason_rank, of_table, of_rule};
 ghost use Rattle.script_grammar.specs.declared.fault.ScriptFault.TheVariants.{Memory as OutOfMemory};
 
 use mrpc_table::{Memory, RuleReason};
@@ -104,7 +104,7 @@ impl ScriptReason {
 
     /// Its rank in the order: among several reasons, the one with the lowest rank counts.
     pub fn order(self) -> u8
-        ensures { result ≡ order_of self }
+        ensures { result ≡ script_reason_rank self }
     {
         self as u8
     }

@@ -3,16 +3,16 @@
 ghost use Rattle.std.specs.Prelude.{◌≡◌, ◌≤◌, length};
 ghost use Rattle.mrpc_table.specs.Lines.{words_of};
 ghost use Rattle.script_grammar.specs.Lines.{fits_key, has_form};
-ghost use Rattle.script_grammar.specs.Forms.{sorts_of, form_in};
+ghost use Rattle.script_grammar.specs.Forms.{word_kinds_of, form_in};
 
 use crate::keyword::Keyword;
-use crate::sort::Sort::{self, Either, Fixed, Key, Name, Unbounded, Value};
+use crate::word_kind::WordKind::{self, Either, Fixed, Key, Name, Unbounded, Value};
 use crate::words::first_word;
 use mrpc_table::{MAX_HEAP, MIN_HEAP};
 
 /// The form of a line.
 #[derive(Clone, Copy)]
-pub enum Form {
+pub enum LineForm {
     /// `store CONN PLACE VALUE`
     Store,
     /// `submit CONN METHOD ADDR`
@@ -27,7 +27,7 @@ pub enum Form {
     Send,
     /// `drain CONN`
     Drain,
-    /// `moment CONN MS`
+    /// `timestamp_kind CONN MS`
     Moment,
     /// `attach CONN AT NAME POLICY`
     Attach,
@@ -35,7 +35,7 @@ pub enum Form {
     Detach,
     /// `upgrade CONN NAME POLICY`
     Upgrade,
-    /// `conn CONN WORDS`
+    /// `conn_kind CONN WORDS`
     Conn,
     /// `tenant NAME PER`
     Tenant,
@@ -53,98 +53,98 @@ pub enum Form {
     Close,
 }
 
-const FORMS: [Form; 19] = [
-    Form::Store,
-    Form::Submit,
-    Form::Reply,
-    Form::Race,
-    Form::Turn,
-    Form::Send,
-    Form::Drain,
-    Form::Moment,
-    Form::Attach,
-    Form::Detach,
-    Form::Upgrade,
-    Form::Conn,
-    Form::Tenant,
-    Form::Access,
-    Form::Rate,
-    Form::Quota,
-    Form::Count,
-    Form::Redact,
-    Form::Close,
+const FORMS: [LineForm; 19] = [
+    LineForm::Store,
+    LineForm::Submit,
+    LineForm::Reply,
+    LineForm::Race,
+    LineForm::Turn,
+    LineForm::Send,
+    LineForm::Drain,
+    LineForm::Moment,
+    LineForm::Attach,
+    LineForm::Detach,
+    LineForm::Upgrade,
+    LineForm::Conn,
+    LineForm::Tenant,
+    LineForm::Access,
+    LineForm::Rate,
+    LineForm::Quota,
+    LineForm::Count,
+    LineForm::Redact,
+    LineForm::Close,
 ];
 
 // The number of a connection.
-const CONN: Sort = Sort::Number { least: 1, most: 16 };
+const CONN: WordKind = WordKind::Number { least: 1, most: 16 };
 
 // Any 64-bit number.
-const NUMBER: Sort = Sort::Number {
+const NUMBER: WordKind = WordKind::Number {
     least: 0,
     most: u64::MAX,
 };
 
-const METHOD: Sort = Sort::Number {
+const METHOD: WordKind = WordKind::Number {
     least: 0,
     most: 65535,
 };
 
 // The number of the request that a reply answers.
-const REQUEST: Sort = Sort::Number {
+const REQUEST: WordKind = WordKind::Number {
     least: 1,
     most: 0xffff_ffff,
 };
 
 // A timestamp in milliseconds.
-const MOMENT: Sort = Sort::Number {
+const MOMENT: WordKind = WordKind::Number {
     least: 0,
     most: 1 << 53,
 };
 
-const WORDS: Sort = Sort::Number {
+const WORDS: WordKind = WordKind::Number {
     least: MIN_HEAP,
     most: MAX_HEAP,
 };
 
 // The length of a quota window or of a rate's period, in milliseconds.
-const MILLISECONDS: Sort = Sort::Number {
+const MILLISECONDS: WordKind = WordKind::Number {
     least: 1,
     most: 86_400_000,
 };
 
 // A number of calls.
-const CALLS: Sort = Sort::Number {
+const CALLS: WordKind = WordKind::Number {
     least: 1,
     most: 1_000_000,
 };
 
-const CAP: Sort = Sort::Number {
+const CAP: WordKind = WordKind::Number {
     least: 0,
     most: 0xffff_ffff,
 };
 
-impl Form {
+impl LineForm {
     /// The sorts of its words, in order.
-    pub fn sorts(self) -> &'static [Sort]
-        ensures sorts { result.now ≡ sorts_of self }
+    pub fn word_kinds(self) -> &'static [WordKind]
+        ensures sorts { result.now ≡ word_kinds_of self }
         ensures few { length result.now ≤ 9 }
     {
         match self {
-            Form::Store => &[Key(Keyword::Store), CONN, Unbounded, Value],
-            Form::Submit => &[Key(Keyword::Submit), CONN, METHOD, NUMBER],
-            Form::Reply => &[Key(Keyword::Submit), CONN, METHOD, NUMBER, REQUEST],
-            Form::Race => &[Key(Keyword::Race), CONN, NUMBER, Unbounded, Value],
-            Form::Turn => &[Key(Keyword::Turn), CONN, Unbounded],
-            Form::Send => &[Key(Keyword::Send), CONN],
-            Form::Drain => &[Key(Keyword::Drain), CONN],
-            Form::Moment => &[Key(Keyword::Moment), CONN, MOMENT],
-            Form::Attach => &[Key(Keyword::Attach), CONN, Unbounded, Name, Name],
-            Form::Detach => &[Key(Keyword::Detach), CONN, Name],
-            Form::Upgrade => &[Key(Keyword::Upgrade), CONN, Name, Name],
-            Form::Conn => &[Key(Keyword::Conn), CONN, WORDS],
-            Form::Tenant => &[Key(Keyword::Tenant), Name, MILLISECONDS],
-            Form::Access => &[Key(Keyword::Policy), Name, Key(Keyword::Access)],
-            Form::Rate => &[
+            LineForm::Store => &[Key(Keyword::Store), CONN, Unbounded, Value],
+            LineForm::Submit => &[Key(Keyword::Submit), CONN, METHOD, NUMBER],
+            LineForm::Reply => &[Key(Keyword::Submit), CONN, METHOD, NUMBER, REQUEST],
+            LineForm::Race => &[Key(Keyword::Race), CONN, NUMBER, Unbounded, Value],
+            LineForm::Turn => &[Key(Keyword::Turn), CONN, Unbounded],
+            LineForm::Send => &[Key(Keyword::Send), CONN],
+            LineForm::Drain => &[Key(Keyword::Drain), CONN],
+            LineForm::Moment => &[Key(Keyword::Moment), CONN, MOMENT],
+            LineForm::Attach => &[Key(Keyword::Attach), CONN, Unbounded, Name, Name],
+            LineForm::Detach => &[Key(Keyword::Detach), CONN, Name],
+            LineForm::Upgrade => &[Key(Keyword::Upgrade), CONN, Name, Name],
+            LineForm::Conn => &[Key(Keyword::Conn), CONN, WORDS],
+            LineForm::Tenant => &[Key(Keyword::Tenant), Name, MILLISECONDS],
+            LineForm::Access => &[Key(Keyword::Policy), Name, Key(Keyword::Access)],
+            LineForm::Rate => &[
                 Key(Keyword::Policy),
                 Name,
                 Key(Keyword::Rate),
@@ -155,7 +155,7 @@ impl Form {
                 CALLS,
                 Either(Keyword::Hold, Keyword::Deny),
             ],
-            Form::Quota => &[
+            LineForm::Quota => &[
                 Key(Keyword::Policy),
                 Name,
                 Key(Keyword::Quota),
@@ -163,25 +163,25 @@ impl Form {
                 Fixed(Keyword::Cap),
                 CAP,
             ],
-            Form::Count => &[Key(Keyword::Policy), Name, Key(Keyword::Count)],
-            Form::Redact => &[Key(Keyword::Policy), Name, Key(Keyword::Redact)],
-            Form::Close => &[Key(Keyword::Close)],
+            LineForm::Count => &[Key(Keyword::Policy), Name, Key(Keyword::Count)],
+            LineForm::Redact => &[Key(Keyword::Policy), Name, Key(Keyword::Redact)],
+            LineForm::Close => &[Key(Keyword::Close)],
         }
     }
 }
 
 // Returns false only if the sort is a key word and this isn't that word.
-fn fits_key(sort: Sort, word: &[u8]) -> bool
+fn fits_key(sort: WordKind, word: &[u8]) -> bool
     ensures { result ≡ fits_key sort word.now }
 {
     match sort {
-        Sort::Key(keyword) => word == keyword.spelling(),
+        WordKind::Key(keyword) => word == keyword.spelling(),
         _ => true,
     }
 }
 
 // Returns true if the line has as many words as `sorts` and each key word matches.
-fn has_form(sorts: &[Sort], line: &[u8]) -> bool
+fn has_form(sorts: &[WordKind], line: &[u8]) -> bool
     ensures { result ≡ has_form sorts.now (words_of line.now) }
 {
     let mut rest = Some(line);
@@ -200,11 +200,11 @@ fn has_form(sorts: &[Sort], line: &[u8]) -> bool
 
 /// Returns the form of a line, by the number of its words and by its key words; `None` if it has no form. Other words
 /// aren't checked. The time is linear in the length of the line.
-pub fn form_of(line: &[u8]) -> Option<Form>
+pub fn form_of(line: &[u8]) -> Option<LineForm>
     ensures { result ≡ form_in (words_of line.now) }
 {
     FORMS
         .iter()
         .copied()
-        .find(|form| has_form(form.sorts(), line))
+        .find(|form| has_form(form.word_kinds(), line))
 }

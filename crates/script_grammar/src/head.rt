@@ -1,12 +1,12 @@
 //! The lines before the text of the table.
 
 ghost use Rattle.std.specs.Prelude.{◌≡◌, ◌≤◌, ◌++◌, ℕ, List, length, IfOk, IfErr};
-ghost use Rattle.script_grammar.specs.Fronts.{IsHead, IsFaultOf};
+ghost use Rattle.script_grammar.specs.Preambles.{IsHead, IsFaultOfPreamble};
 ghost use Rattle.script_grammar.specs.Limits.{HasLimit, IsLimitFault, within};
 
 use crate::limits::USUAL_LOADS;
 use crate::{ScriptFault, ScriptReason};
-use mrpc_table::{Decimal, MAX_LOADS, cut, number_of};
+use mrpc_table::{Decimal, MAX_LOADS, number_of, split_once};
 
 // The line before the table's text.
 const TABLE_LINE: &[u8] = b"table\n";
@@ -16,7 +16,7 @@ const LOADS: &[u8] = b"loads ";
 
 // The lines before the table's text.
 #[derive(Clone, Copy)]
-pub(crate) struct ScriptHead<'a> {
+pub(crate) struct PreambleHead<'a> {
     // The limit of words that are loaded for one call.
     pub loads: u64,
     // These lines.
@@ -26,10 +26,10 @@ pub(crate) struct ScriptHead<'a> {
 }
 
 // Reads the lines before the text of the table, up to `table`. `first` is the first line, with its line feed.
-pub(crate) fn read_head<'a>(text: &'a [u8], first: &[u8]) -> Result<ScriptHead<'a>, ScriptFault>
+pub(crate) fn read_head<'a>(text: &'a [u8], first: &[u8]) -> Result<PreambleHead<'a>, ScriptFault>
     ensures head { IfOk result (λ h. IsHead first.now h.front.now h.loads
         × (text.now ≡ h.front.now ++ h.behind.now)) }
-    ensures fault { IfErr result (IsFaultOf first.now text.now) }
+    ensures fault { IfErr result (IsFaultOfPreamble first.now text.now) }
 {
     let Some(second) = text.strip_prefix(first) else {
         return Err(fault(1, ScriptReason::Header));
@@ -48,13 +48,13 @@ pub(crate) fn read_head<'a>(text: &'a [u8], first: &[u8]) -> Result<ScriptHead<'
 }
 
 // Makes the head of a text from the remainder after it.
-fn head_before<'a>(text: &'a [u8], loads: u64, behind: &'a [u8]) -> ScriptHead<'a>
+fn head_before<'a>(text: &'a [u8], loads: u64, behind: &'a [u8]) -> PreambleHead<'a>
     requires { length behind.now ≤ length text.now }
     ensures front { (front : List ℕ) → text.now ≡ front ++ behind.now → result.front.now ≡ front }
     ensures behind { result.behind.now ≡ behind.now }
     ensures loads { result.loads ≡ loads }
 {
-    ScriptHead {
+    PreambleHead {
         loads,
         front: &text[..text.len() - behind.len()],
         behind,
@@ -72,7 +72,7 @@ fn read_limit(text: &[u8]) -> Result<(u64, &[u8]), ScriptReason>
     ensures limit { IfOk result (λ p. HasLimit text.now p.0 p.1.now) }
     ensures fault { IfErr result (IsLimitFault text.now) }
 {
-    let Some((line, behind)) = cut(text, b'\n') else {
+    let Some((line, behind)) = split_once(text, b'\n') else {
         return Err(ScriptReason::Word);
     };
     let Some(word) = line.strip_prefix(LOADS) else {

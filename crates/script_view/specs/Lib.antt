@@ -1,4 +1,4 @@
 pub mod Playing
 pub mod Scripts
 pub mod Unplayable
-pub mod Walks
+pub mod ReplayRanges

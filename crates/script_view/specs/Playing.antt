@@ -8,8 +8,8 @@ use Rattle.frame_transport.specs.declared.format.TheConstants.{REQUEST}
 use Rattle.script_view.specs.declared.limits.TheConstants.{FIRST_PLACE, MAX_REPLAY_WORDS}
 
 -- a hello becomes a comment
-abbrev pub hello_line : List ℕ
-hello_line = codes "# a hello, which isn't replayed\n"
+abbrev pub hello_comment : List ℕ
+hello_comment = codes "# a hello, which isn't replayed\n"
 
 -- a connection is opened, with as many words as it may have
 abbrev pub conn_line : ℕ → List ℕ
@@ -47,12 +47,12 @@ send_line conn = line (codes "send" ∷ decimal conn ∷ [])
 -- The number of a call's frame, if its connection has the last number `last` and then this number of
 -- submissions without a message: a request has the next number, and a reply that of the request it answers,
 -- whatever its own is.
-pub data IsNumbered (f : Frame) (last blanks : ℕ) : Type 0 where
-  request : f.kind ≡ REQUEST → f.number ≡ last + blanks + 1 → IsNumbered f last blanks
-  reply : (f.kind ≡ REQUEST → ⊥) → 0 < f.number → blanks ≡ 0 → IsNumbered f last blanks
+pub data IsNumberedAfter (f : Frame) (last blanks : ℕ) : Type 0 where
+  request : f.kind ≡ REQUEST → f.number ≡ last + blanks + 1 → IsNumberedAfter f last blanks
+  reply : (f.kind ≡ REQUEST → ⊥) → 0 < f.number → blanks ≡ 0 → IsNumberedAfter f last blanks
 
 -- all lines for the frame of a call whose message has these words
-abbrev pub call_lines : Frame → ℕ → ℕ → List (ℕ × ℕ) → List ℕ
-call_lines f last blanks words =
+abbrev pub lines_of_call : Frame → ℕ → ℕ → List (ℕ × ℕ) → List ℕ
+lines_of_call f last blanks words =
     (if last == 0 then conn_line f.conn else [])
     ++ (blank_lines f.conn blanks ++ (store_lines f.conn words ++ (submit_line f ++ send_line f.conn)))

@@ -8,7 +8,7 @@ use replay_script::{MAX_CONNECTIONS, MAX_WORK};
 
 // The calls of a script so far.
 #[derive(Drop)]
-pub(crate) struct Calls {
+pub(crate) struct ReplayCalls {
     // The number of the last call of each connection, 0 if it has none. Index 0 is no connection.
     pub counts: [u64; 17],
     // The total number of calls.
@@ -21,14 +21,14 @@ pub(crate) struct Calls {
     ghost some: { 1 ≤ loads },
 }
 
-impl Calls {
+impl ReplayCalls {
     // No calls yet.
-    pub(crate) fn new() -> Calls
+    pub(crate) fn new() -> ReplayCalls
         ensures counts { result.counts ≡ replicate 17 0 }
         ensures total { result.total ≡ 0 }
         ensures loads { result.loads ≡ 1 }
     {
-        Calls {
+        ReplayCalls {
             counts: [0; 17],
             total: 0,
             loads: 1,
@@ -46,7 +46,7 @@ impl Calls {
     // Adds a call of a connection that takes `loads` loads, after `blanks` calls without a message. Returns
     // whether a script may have this total of calls, given the loads that each may take. If not, nothing
     // changes.
-    pub(crate) fn take(&mut self, conn: u32, blanks: u64, loads: u64) -> bool
+    pub(crate) fn add(&mut self, conn: u32, blanks: u64, loads: u64) -> bool
         requires conn { conn ≤ MAX_CONNECTIONS }
         requires blanks { blanks < 2 ^ 32 }
         ensures few { IsTrue result ↔ ((self.old.total + blanks + 1) * max self.old.loads loads ≤ MAX_WORK) }

@@ -4,8 +4,8 @@ ghost use Rattle.std.specs.Prelude.{◌≡◌, ◌∷◌, ◌++◌, OnOk, map};
 ghost use Rattle.std.specs.Fmt.{decimal};
 ghost use Rattle.std.specs.List.{flat_map};
 ghost use Rattle.mrpc_table.specs.Text.{line};
-ghost use Rattle.frame_transport.specs.Standing.{frame_of};
-ghost use Rattle.script_view.specs.Playing.{blank_line, blank_lines, conn_line, hello_line, send_line, store_lines, submit_line};
+ghost use Rattle.frame_transport.specs.FramesInPlace.{owned_frame};
+ghost use Rattle.script_view.specs.Playing.{blank_line, blank_lines, conn_line, hello_comment, send_line, store_lines, submit_line};
 
 use crate::limits::{FIRST_PLACE, MAX_REPLAY_WORDS};
 use frame_transport::{FrameRef, REQUEST};
@@ -13,7 +13,7 @@ use mrpc_table::{Bytes, Memory};
 
 // Appends a comment in place of a hello.
 pub(crate) fn put_hello(out: &mut Bytes) -> Result<(), Memory>
-    ensures { OnOk result (out.new ≡ out.old ++ hello_line) }
+    ensures { OnOk result (out.new ≡ out.old ++ hello_comment) }
 {
     out.append(b"# a hello, which isn't replayed\n")
 }
@@ -74,7 +74,7 @@ pub(crate) fn put_stores(out: &mut Bytes, conn: u32, words: &[(u64, u64)]) -> Re
 
 // Appends the submission of a frame's message.
 pub(crate) fn put_submit(out: &mut Bytes, frame: &FrameRef) -> Result<(), Memory>
-    ensures { OnOk result (out.new ≡ out.old ++ submit_line (frame_of frame.now)) }
+    ensures { OnOk result (out.new ≡ out.old ++ submit_line (owned_frame frame.now)) }
 {
     let conn = u64::from(frame.conn);
     let method = u64::from(frame.method);

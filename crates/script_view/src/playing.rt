@@ -2,27 +2,27 @@
 
 ghost use Rattle.std.specs.Prelude.{◌≡◌, ◌<◌, ◌≤◌, ◌^◌, ◌++◌, ◌+◌, ◌==◌, ℕ, List, [], length, if◌then◌else◌, IfOk, IfErr, IfSome, IfNone, OnOk};
 ghost use Rattle.mrpc_table.specs.Valid.{IsValid};
-ghost use Rattle.frame_transport.specs.Standing.{frame_of};
-ghost use Rattle.frame_view.specs.Contents.{IsContentOf, IsMessageOf};
-ghost use Rattle.frame_transport.specs.Messages.{message_in};
+ghost use Rattle.frame_transport.specs.FramesInPlace.{owned_frame};
+ghost use Rattle.frame_view.specs.Contents.{IsContentOf, IsMessageOfFrame};
+ghost use Rattle.frame_transport.specs.Messages.{payload_message};
 ghost use Rattle.frame_view.specs.Faults.{OnFault};
-ghost use Rattle.script_view.specs.Playing.{IsNumbered, call_lines, conn_line};
+ghost use Rattle.script_view.specs.Playing.{IsNumberedAfter, lines_of_call, conn_line};
 ghost use Rattle.mrpc_table.specs.declared.table.Table.{Table};
 ghost use Rattle.replay_script.specs.declared.limits.TheConstants.{MAX_CONNECTIONS};
-ghost use Rattle.script_view.specs.Unplayable.{IsLaidOut, IsMadeBy, IsUnplayable, Made, last_of};
+ghost use Rattle.script_view.specs.Unplayable.{IsLaidOut, IsReplayedBy, IsUnplayable, CallCounts, last_number};
 ghost use Rattle.script_view.specs.declared.limits.TheConstants.{MAX_BODY};
-ghost use Rattle.script_view.specs.Walks.{Plays, PlaysFrame, StopsAt, StopsHere, made_by};
+ghost use Rattle.script_view.specs.ReplayRanges.{IsReplayBetween, IsReplayOfFrame, IsFirstStop, IsStopOfNext, call_counts_of};
 
-use crate::calls::{Calls, is_conn};
+use crate::calls::{ReplayCalls, is_conn};
 use crate::limits::{FIRST_PLACE, MAX_BODY, MAX_REPLAY_WORDS};
 use crate::lines::{put_blanks, put_conn, put_hello, put_send, put_stores, put_submit};
 use frame_transport::{FrameRef, HEADER_LEN, REQUEST};
-use frame_view::{Content, ReadFault, content_of, frame_here, frames_follow};
+use frame_view::{FrameContent, ReadFault, content_of, frame_from_stream, frames_are_consecutive};
 use graph_form::Placed;
 use graph_place::{layout, place_words};
 use mrpc_table::{Bytes, MAX_LOADS, Memory, Table, Tree};
 use std::alloc::Global;
-use wire_decode::Spare;
+use wire_decode::TreePool;
 
 // The offset of the sender's connection in a header, and that of the number.
 const CONN_PLACE: u64 = 8;
@@ -34,19 +34,19 @@ pub(crate) fn put_stream(
     alloc: Global,
     table: &Table,
     stream: &[u8],
-    spare: &mut Spare,
-    calls: &mut Calls,
+    spare: &mut TreePool,
+    calls: &mut ReplayCalls,
     body: &mut Bytes,
 ) -> Result<(), ReadFault>
     requires valid { IsValid table.now }
     requires countable { length stream.now < 2 ^ 63 }
     requires empty { body.old ≡ [] }
     ensures made { OnOk result ((to : ℕ) × (text : List ℕ) × (length stream.now ≤ to) × (body.new ≡ body.old ++ text)
-        × Plays table.now stream.now 0 to (made_by calls.old) text (made_by calls.new)) }
+        × IsReplayBetween table.now stream.now 0 to (call_counts_of calls.old) text (call_counts_of calls.new)) }
     ensures short { OnOk result (length body.new ≤ MAX_BODY) }
-    ensures fault { IfErr result (OnFault (StopsAt table.now stream.now (made_by calls.old))) }
+    ensures fault { IfErr result (OnFault (IsFirstStop table.now stream.now (call_counts_of calls.old))) }
 {
-    frames_follow();
+    frames_are_consecutive();
     let mut place = 0;
     while place < stream.len() {
         place = put_frame(alloc, table, stream, place, spare, calls, body)?;
@@ -60,21 +60,22 @@ fn put_frame(
     table: &Table,
     stream: &[u8],
     from: usize,
-    spare: &mut Spare,
-    calls: &mut Calls,
+    spare: &mut TreePool,
+    calls: &mut ReplayCalls,
     body: &mut Bytes,
 ) -> Result<usize, ReadFault>
     requires valid { IsValid table.now }
     requires countable { length stream.now < 2 ^ 63 }
     requires some { from < length stream.now }
     ensures made { IfOk result (λ to. (text : List ℕ) × (body.new ≡ body.old ++ text)
-        × Plays table.now stream.now from to (made_by calls.old) text (made_by calls.new)) }
+        × IsReplayBetween table.now stream.now from to (call_counts_of calls.old) text (call_counts_of calls.new)) }
     ensures short { OnOk result (length body.new ≤ MAX_BODY) }
     ensures further { IfOk result (λ to. from < to) }
-    ensures fault { IfErr result (OnFault (StopsHere table.now stream.now from (made_by calls.old) (length body.old))) }
+    ensures fault { IfErr result (OnFault
+        (IsStopOfNext table.now stream.now from (call_counts_of calls.old) (length body.old))) }
 {
-    frames_follow();
-    let frame = frame_here(stream, from)?;
+    frames_are_consecutive();
+    let frame = frame_from_stream(stream, from)?;
     let content = content_of(alloc, spare, table, &frame)?;
     put_content(alloc, table, &frame, content, spare, calls, body)?;
     if body.len() > MAX_BODY {
@@ -88,27 +89,28 @@ fn put_content(
     alloc: Global,
     table: &Table,
     frame: &FrameRef,
-    content: Content,
-    spare: &mut Spare,
-    calls: &mut Calls,
+    content: FrameContent,
+    spare: &mut TreePool,
+    calls: &mut ReplayCalls,
     body: &mut Bytes,
 ) -> Result<(), ReadFault>
     requires valid { IsValid table.now }
     requires near { frame.now.place < 2 ^ 63 }
-    requires content { IsContentOf table.now (frame_of frame.now) content }
+    requires content { IsContentOf table.now (owned_frame frame.now) content }
     ensures made { OnOk result ((text : List ℕ) × (body.new ≡ body.old ++ text)
-        × PlaysFrame table.now (made_by calls.old) (frame_of frame.now) text (made_by calls.new)) }
-    ensures fault { IfErr result (OnFault (λ place word. (size : ℕ) → IsUnplayable table.now (made_by calls.old) size
-        (frame_of frame.now) place word)) }
+        × IsReplayOfFrame table.now (call_counts_of calls.old) (owned_frame frame.now) text (call_counts_of calls.new)) }
+    ensures fault { IfErr result (OnFault (λ place word. (size : ℕ)
+        → IsUnplayable table.now (call_counts_of calls.old) size
+        (owned_frame frame.now) place word)) }
 {
     match content {
-        Content::Hello => {
+        FrameContent::Hello => {
             put_hello(body)?;
             Ok(())
         }
-        Content::Call { message, tree } => {
+        FrameContent::Call { message, tree } => {
             let put = put_call(alloc, table, frame, message, &tree, calls, body);
-            spare.take_back(tree);
+            spare.recycle(tree);
             put
         }
     }
@@ -121,17 +123,18 @@ fn put_call(
     frame: &FrameRef,
     message: u32,
     tree: &Tree,
-    calls: &mut Calls,
+    calls: &mut ReplayCalls,
     body: &mut Bytes,
 ) -> Result<(), ReadFault>
     requires valid { IsValid table.now }
-    requires message { message ≡ message_in table.now (frame_of frame.now) }
+    requires message { message ≡ payload_message table.now (owned_frame frame.now) }
     requires near { frame.now.place < 2 ^ 63 }
-    requires of_frame { IsMessageOf table.now (frame_of frame.now) tree.now }
+    requires of_frame { IsMessageOfFrame table.now (owned_frame frame.now) tree.now }
     ensures made { OnOk result ((text : List ℕ) × (body.new ≡ body.old ++ text)
-        × PlaysFrame table.now (made_by calls.old) (frame_of frame.now) text (made_by calls.new)) }
-    ensures fault { IfErr result (OnFault (λ place word. (size : ℕ) → IsUnplayable table.now (made_by calls.old) size
-        (frame_of frame.now) place word)) }
+        × IsReplayOfFrame table.now (call_counts_of calls.old) (owned_frame frame.now) text (call_counts_of calls.new)) }
+    ensures fault { IfErr result (OnFault (λ place word. (size : ℕ)
+        → IsUnplayable table.now (call_counts_of calls.old) size
+        (owned_frame frame.now) place word)) }
 {
     if !is_conn(frame.conn) {
         return Err(unplayable(frame, CONN_PLACE, "Conn"));
@@ -151,21 +154,21 @@ fn put_placed(
     last: u64,
     blanks: u64,
     placed: &Placed,
-    calls: &mut Calls,
+    calls: &mut ReplayCalls,
     body: &mut Bytes,
 ) -> Result<(), ReadFault>
     requires near { frame.now.place < 2 ^ 63 }
     requires conn { frame.now.conn ≤ MAX_CONNECTIONS }
     requires blanks { blanks < 2 ^ 32 }
-    requires last { last ≡ last_of (made_by calls.old) (frame_of frame.now) }
-    ensures made { (T : Table) → IsMadeBy T (made_by calls.old) (frame_of frame.now) blanks placed.now
+    requires last { last ≡ last_number (call_counts_of calls.old) (owned_frame frame.now) }
+    ensures made { (T : Table) → IsReplayedBy T (call_counts_of calls.old) (owned_frame frame.now) blanks placed.now
         → OnOk result ((text : List ℕ) × (body.new ≡ body.old ++ text)
-        × PlaysFrame T (made_by calls.old) (frame_of frame.now) text (made_by calls.new)) }
-    ensures fault { (T : Table) → IsMadeBy T (made_by calls.old) (frame_of frame.now) blanks placed.now
-        → IfErr result (OnFault (λ place word. (size : ℕ) → IsUnplayable T (made_by calls.old) size
-        (frame_of frame.now) place word)) }
+        × IsReplayOfFrame T (call_counts_of calls.old) (owned_frame frame.now) text (call_counts_of calls.new)) }
+    ensures fault { (T : Table) → IsReplayedBy T (call_counts_of calls.old) (owned_frame frame.now) blanks placed.now
+        → IfErr result (OnFault (λ place word. (size : ℕ) → IsUnplayable T (call_counts_of calls.old) size
+        (owned_frame frame.now) place word)) }
 {
-    if !calls.take(frame.conn, blanks, placed.words.len() as u64) {
+    if !calls.add(frame.conn, blanks, placed.words.len() as u64) {
         return Err(unplayable(frame, 0, "Work"));
     }
     put_lines(body, frame, last, blanks, placed)?;
@@ -175,9 +178,9 @@ fn put_placed(
 // How many calls without a message must precede that of a frame, given the last number of its connection.
 // `None` if no call can have the frame's number.
 fn blanks_before(frame: &FrameRef, last: u64) -> Option<u64>
-    ensures some { IfSome result (λ blanks. IsNumbered (frame_of frame.now) last blanks) }
+    ensures some { IfSome result (λ blanks. IsNumberedAfter (owned_frame frame.now) last blanks) }
     ensures small { IfSome result (λ blanks. blanks < 2 ^ 32) }
-    ensures none { IfNone result ((blanks : ℕ) → IsNumbered (frame_of frame.now) last blanks → ⊥) }
+    ensures none { IfNone result ((blanks : ℕ) → IsNumberedAfter (owned_frame frame.now) last blanks → ⊥) }
 {
     let number = u64::from(frame.number);
     if frame.kind == REQUEST {
@@ -199,11 +202,12 @@ fn laid_out(
 ) -> Result<Placed, ReadFault>
     requires valid { IsValid table.now }
     requires near { frame.now.place < 2 ^ 63 }
-    requires of_frame { IsMessageOf table.now (frame_of frame.now) tree.now }
-    requires message { message ≡ message_in table.now (frame_of frame.now) }
+    requires of_frame { IsMessageOfFrame table.now (owned_frame frame.now) tree.now }
+    requires message { message ≡ payload_message table.now (owned_frame frame.now) }
     ensures placed { IfOk result (IsLaidOut table.now message tree.now) }
-    ensures fault { IfErr result (OnFault (λ place word. (before : Made) (size : ℕ) → IsUnplayable table.now before size
-        (frame_of frame.now) place word)) }
+    ensures fault { IfErr result (OnFault (λ place word. (before : CallCounts) (size : ℕ)
+        → IsUnplayable table.now before size
+        (owned_frame frame.now) place word)) }
 {
     if place_words(tree, table, message) >= MAX_REPLAY_WORDS {
         return Err(unplayable(frame, HEADER_LEN as u64, "Words"));
@@ -235,7 +239,7 @@ fn put_lines(
     blanks: u64,
     placed: &Placed,
 ) -> Result<(), Memory>
-    ensures { OnOk result (body.new ≡ body.old ++ call_lines (frame_of frame.now) last blanks placed.now.words) }
+    ensures { OnOk result (body.new ≡ body.old ++ lines_of_call (owned_frame frame.now) last blanks placed.now.words) }
 {
     put_opening(body, frame.conn, last)?;
     put_blanks(body, frame.conn, blanks)?;

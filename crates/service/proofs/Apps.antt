@@ -9,12 +9,12 @@ use Rattle.std.proofs.Common.{Bor}
 use Rattle.std.specs.Option.{option_copied}
 use Rattle.std.proofs.lemmas.Option.{none-some}
 use Rattle.mrpc_table.specs.Valid.{IsValid}
-use Rattle.run_plan.specs.Chains.{table_by, table_of}
+use Rattle.run_plan.specs.Chains.{table_by, app_table}
 use Rattle.run_plan.specs.Plans.{IsApplication, IsOwnSchema, IsPlan}
-use Rattle.run_plan.specs.Ports.{all_ends, application_in, connections_of, ends_of}
+use Rattle.run_plan.specs.Links.{all_ends, application_in, connections_of, ends_of}
 use Rattle.run_plan.specs.declared.application.Application.{Application}
 use Rattle.run_plan.specs.declared.application.OwnSchema.{OwnSchema}
-use Rattle.run_plan.specs.declared.plan.Pair.{Pair}
+use Rattle.run_plan.specs.declared.plan.LinkPlan.{LinkPlan}
 use Rattle.run_plan.specs.declared.plan.Plan.{Plan}
 use Rattle.service.proofs.Finding.{few_below, found, found_number, is_found}
 
@@ -42,13 +42,13 @@ valid-by plan None shared h = shared
 valid-by plan (Some own) shared h = h.table
 
 pub valid-table : (plan : Plan) (app : Application) → IsPlan plan → Contains plan.applications app
-    → IsValid (table_of plan app)
+    → IsValid (app_table plan app)
 valid-table plan app h there = valid-by plan app.own h.table (is-application plan app h there).own
 
 -- ---- ends of links
 
 -- what holds of all ends holds of both ends of the link at an index
-pub both-ends : (P : ℕ → Type 0) (links : List Pair) (i : ℕ) (d : Pair) → i < length links → All P (all_ends links)
+pub both-ends : (P : ℕ → Type 0) (links : List LinkPlan) (i : ℕ) (d : LinkPlan) → i < length links → All P (all_ends links)
     → P (get_or links i d).a × P (get_or links i d).b
 both-ends P [] i d within all = absurd (omega (arith, within))
 both-ends P (x ∷ links) zero d within all = (
@@ -60,7 +60,7 @@ both-ends P (x ∷ links) (suc i) d within all =
     (All-tail P x.b (all_ends links) (All-tail P x.a (x.b ∷ all_ends links) all))
 
 -- the ends of one more link
-pub ends-more : (links : List Pair) (i : ℕ) (d : Pair) → i < length links
+pub ends-more : (links : List LinkPlan) (i : ℕ) (d : LinkPlan) → i < length links
     → all_ends (take (i + 1) links) ≡ all_ends (take i links) ++ (get_or links i d).a ∷ (get_or links i d).b ∷ []
 ends-more links i d within =
     let upto : take (i + 1) links ≡ take i links ++ get_or links i d ∷ [] = rw add-one (take-suc links i d within) in
@@ -68,7 +68,7 @@ ends-more links i d within =
 
 -- ---- the number of ends
 
-pub ends-count : (links : List Pair) → length (all_ends links) ≡ 2 * length links
+pub ends-count : (links : List LinkPlan) → length (all_ends links) ≡ 2 * length links
 ends-count [] = refl
 ends-count (l ∷ links) = let rest = ends-count links in omega arith
 

@@ -4,20 +4,20 @@ use Rattle.std.proofs.Common.{None, Result, Ok, Err, refl, sym, ap, subst, ◌�
 use Rattle.std.specs.Prelude.{IfSome, IsTrue, OnOk}
 use Rattle.std.specs.Io.KnownBytes.{Appends}
 use Rattle.std.specs.Option.{option_copied}
-use Rattle.mrpc_base.specs.Faults.{HasCause, Rose}
+use Rattle.mrpc_base.specs.Failures.{HasCause, HasRisen}
 use Rattle.mrpc_base.specs.declared.link.Link.{Ghosts as LinkMembers}
 use Rattle.mrpc_table.specs.declared.table.Table.{Table}
 use Rattle.message_delivery.specs.declared.arrivals.Arrivals.{Arrivals}
-use Rattle.message_delivery.specs.declared.arrivals.Stream.{Stream}
-use Rattle.message_delivery.specs.declared.arrivals.Stream.TheVariants.{Failed}
-use Rattle.link_handshake.specs.Greeting.{HasBound, IsBound, IsUnbound, failed}
+use Rattle.message_delivery.specs.declared.arrivals.StreamState.{StreamState}
+use Rattle.message_delivery.specs.declared.arrivals.StreamState.TheVariants.{Failed}
+use Rattle.link_handshake.specs.Handshake.{HasBound, IsBound, IsUnbound, failed}
 use Rattle.link_handshake.specs.declared.unbound.Unbound.{Unbound}
-use Rattle.run_plan.specs.Chains.{inbound_of, table_of}
+use Rattle.run_plan.specs.Chains.{inbound_of, app_table}
 use Rattle.run_plan.specs.declared.application.Application.{Application}
 use Rattle.run_plan.specs.declared.plan.Plan.{Plan}
 use Rattle.shared_heap.specs.Fresh.{Reading}
-use Rattle.service.specs.Greeted.{Heard, WasHeard, WasLeft, WasSaid}
-use Rattle.service.specs.Served.{IsNewLink, WasRefused, hello_in}
+use Rattle.service.specs.Handshakes.{IsHelloOutcome, WasHelloReceived, WasLeftUnbound, WasHelloSent}
+use Rattle.service.specs.Served.{IsNewLink, WasRefused, app_hello}
 
 -- ---- what is received
 
@@ -32,32 +32,32 @@ appends-same : (a a' b b' : Option (List ℕ)) (bytes : List ℕ) → a' ≡ a �
 appends-same a a' b b' bytes same same' h =
     subst (λ x. Appends x b' bytes) (sym same) (subst (λ y. Appends a y bytes) (sym same') h)
 
-rose-falls : (before now : ℕ) → before ≡ 0 → Rose before now → before ≤ now
+rose-falls : (before now : ℕ) → before ≡ 0 → HasRisen before now → before ≤ now
 rose-falls before now none rose = omega (arith, none)
 
-cause-by : (said : Bool) (state : Stream) (start middle now : ℕ) → start ≡ 0 → (said ≡ true → middle ≡ start)
-    → (said ≡ false → Rose start middle) → (said ≡ true → HasCause (state ≡ Failed) middle now)
+cause-by : (said : Bool) (state : StreamState) (start middle now : ℕ) → start ≡ 0 → (said ≡ true → middle ≡ start)
+    → (said ≡ false → HasRisen start middle) → (said ≡ true → HasCause (state ≡ Failed) middle now)
     → (said ≡ false → state ≡ Failed) → (said ≡ false → now ≡ middle) → HasCause (state ≡ Failed) start now
 cause-by true state start middle now none stays rose cause fails same =
     subst (λ n. HasCause (state ≡ Failed) n now) (stays refl) (cause refl)
 cause-by false state start middle now none stays rose cause fails same = record {
-  rose = λ _. subst (λ n. Rose start n) (sym (same refl)) (rose refl);
+  rose = λ _. subst (λ n. HasRisen start n) (sym (same refl)) (rose refl);
   stays = λ works. absurd (works (fails refl));
-  never_falls = rose-falls start now none (subst (λ n. Rose start n) (sym (same refl)) (rose refl));
+  never_falls = rose-falls start now none (subst (λ n. HasRisen start n) (sym (same refl)) (rose refl));
 }
 
 module _ {L : Type 0} (of_link : LinkMembers L) (plan : Plan) (app : Application) (start link heard now : L)
-    (said : Bool) (new : IsNewLink of_link start) (was : WasSaid of_link plan app start link said)
+    (said : Bool) (new : IsNewLink of_link start) (was : WasHelloSent of_link plan app start link said)
     (handed : of_link.handed heard ≡ of_link.handed link) (handed' : of_link.handed now ≡ of_link.handed heard)
     (given' : of_link.given now ≡ of_link.given heard) (ended' : of_link.ended now ≡ of_link.ended heard)
-    (faults' : of_link.faults now ≡ of_link.faults heard) where
-  handed-by : (said' : Bool) → said' ≡ said → (state : Stream) → (said' ≡ false → state ≡ Failed)
-      → (of_link.handed now ≡ hello_in plan app ∷ []) ⊎ ((of_link.handed now ≡ []) × (state ≡ Failed))
+    (faults' : of_link.failures now ≡ of_link.failures heard) where
+  handed-by : (said' : Bool) → said' ≡ said → (state : StreamState) → (said' ≡ false → state ≡ Failed)
+      → (of_link.handed now ≡ app_hello plan app ∷ []) ⊎ ((of_link.handed now ≡ []) × (state ≡ Failed))
   handed-by true is state fails = inl (handed' ∙ handed ∙ was.handed (sym is))
   handed-by false is state fails = inr (handed' ∙ handed ∙ was.not_handed (sym is), fails refl)
 
-  pub refused-by : (T : Table) (why : Unbound) → T ≡ table_of plan app
-      → WasLeft plan.service T (of_link.given link) (of_link.given heard) (of_link.faults link) (of_link.faults heard)
+  pub refused-by : (T : Table) (why : Unbound) → T ≡ app_table plan app
+      → WasLeftUnbound plan.service T (of_link.given link) (of_link.given heard) (of_link.failures link) (of_link.failures heard)
       said (of_link.ended heard) why → WasRefused of_link plan app start now why
   refused-by T why table h = record {
     stream = h.stream;
@@ -69,17 +69,17 @@ module _ {L : Type 0} (of_link : LinkMembers L) (plan : Plan) (app : Application
     says = h.says;
     handed = handed-by said refl h.state h.failed;
     ended = λ is. subst (λ b. IsTrue b) (sym ended') (h.ends is);
-    cause = subst (λ n. HasCause (h.state ≡ Failed) (of_link.faults start) n) (sym faults')
-        (cause-by said h.state (of_link.faults start) (of_link.faults link) (of_link.faults heard) new.faults was.stays
+    cause = subst (λ n. HasCause (h.state ≡ Failed) (of_link.failures start) n) (sym faults')
+        (cause-by said h.state (of_link.failures start) (of_link.failures link) (of_link.failures heard) new.failures was.stays
         was.rose h.cause h.failed h.stays);
     transport = h.transport;
   }
 
-  pub heard-by : (a : Arrivals) (reader : Reading) → said ≡ true → of_link.faults heard ≡ of_link.faults link
-      → a.table.now ≡ table_of plan app → HasBound plan.service (of_link.given link) (of_link.given heard) a
+  pub heard-by : (a : Arrivals) (reader : Reading) → said ≡ true → of_link.failures heard ≡ of_link.failures link
+      → a.table.now ≡ app_table plan app → HasBound plan.service (of_link.given link) (of_link.given heard) a
       → a.stream ≢ Failed → a.inbound.heap.held ≡ [] → option_copied a.policy ≡ inbound_of plan app
       → reader.heap ≡ a.writer.heap → reader.loads ≡ [] → reader.heap.words ≡ app.receive
-      → WasHeard of_link plan app start now a reader
+      → WasHelloReceived of_link plan app start now a reader
   heard-by a reader agreed works table h working held policy heap loads words = record {
     stream = h.stream;
     fault = h.fault;
@@ -89,7 +89,7 @@ module _ {L : Type 0} (of_link : LinkMembers L) (plan : Plan) (app : Application
     bound = subst (λ (x : Table). IsBound x plan.service h.stream h.fault h.hello) table h.bound;
     lived = h.lived;
     handed = handed' ∙ handed ∙ was.handed agreed;
-    faults = faults' ∙ works ∙ was.stays agreed ∙ new.faults;
+    failures = faults' ∙ works ∙ was.stays agreed ∙ new.failures;
     working = working;
     none_held = held;
     table = table;
@@ -100,30 +100,30 @@ module _ {L : Type 0} (of_link : LinkMembers L) (plan : Plan) (app : Application
   }
 
 pub heard-as : {L : Type 0} (of_link : LinkMembers L) (plan : Plan) (app : Application) (start now : L) (a : Arrivals)
-    (reader : Reading) (unbound : Option Unbound) → (unbound ≡ None → WasHeard of_link plan app start now a reader)
+    (reader : Reading) (unbound : Option Unbound) → (unbound ≡ None → WasHelloReceived of_link plan app start now a reader)
     → ((why : Unbound) → unbound ≡ Some why → WasRefused of_link plan app start now why)
-    → Heard of_link plan app start now a reader unbound
+    → IsHelloOutcome of_link plan app start now a reader unbound
 heard-as of_link plan app start now a reader None bound refused = bound refl
 heard-as of_link plan app start now a reader (Some why) bound refused = refused why refl
 
 -- ---- what a link was handed as it sent its hello
 
 pub said-by : {L : Type 0} (of_link : LinkMembers L) (plan : Plan) (app : Application) (start link now : L)
-    (said : Bool) (hello : List ℕ) → IsNewLink of_link start → hello ≡ hello_in plan app
+    (said : Bool) (hello : List ℕ) → IsNewLink of_link start → hello ≡ app_hello plan app
     → (said ≡ true → of_link.handed link ≡ of_link.handed start ++ hello ∷ [])
     → (said ≡ false → of_link.handed link ≡ of_link.handed start)
-    → HasCause (said ≡ false) (of_link.faults start) (of_link.faults link)
+    → HasCause (said ≡ false) (of_link.failures start) (of_link.failures link)
     → of_link.given link ≡ of_link.given start
     → ((first : L) → of_link.since first start → of_link.since first link) → of_link.handed now ≡ of_link.handed link
-    → of_link.given now ≡ of_link.given link → of_link.faults now ≡ of_link.faults link
-    → ((first : L) → of_link.since first link → of_link.since first now) → WasSaid of_link plan app start now said
+    → of_link.given now ≡ of_link.given link → of_link.failures now ≡ of_link.failures link
+    → ((first : L) → of_link.since first link → of_link.since first now) → WasHelloSent of_link plan app start now said
 said-by of_link plan app start link now said hello new is handed kept cause given since handed' given' faults' since' =
     record {
       given = given' ∙ given;
       handed = λ agreed. handed' ∙ handed agreed ∙ ap (λ fs. fs ++ hello ∷ []) new.handed ∙ ap (λ f. f ∷ []) is;
       not_handed = λ unsaid. handed' ∙ kept unsaid ∙ new.handed;
       stays = λ agreed. faults' ∙ cause.stays (λ unsaid. both said agreed unsaid);
-      rose = λ unsaid. subst (λ n. Rose (of_link.faults start) n) (sym faults') (cause.rose unsaid);
+      rose = λ unsaid. subst (λ n. HasRisen (of_link.failures start) n) (sym faults') (cause.rose unsaid);
       same_link = λ first from. since' first (since first from);
     }
 

@@ -8,20 +8,20 @@ use Rattle.std.proofs.lemmas.Option.{get_or_from_slice_get, slice_get-get_or, sl
 use Rattle.mrpc_base.specs.declared.clock.Clock.{Ghosts as ClockMembers}
 use Rattle.mrpc_base.specs.declared.link.Link.{Ghosts as LinkMembers}
 use Rattle.mrpc_base.specs.declared.tickets.TheConstants.{WINDOWS}
-use Rattle.call_history.specs.Tickets.{tickets_behind}
-use Rattle.conn_core.specs.Connections.{behind}
-use Rattle.tenant_quota.specs.Drawing.{AllOnce, AreLater, Drawing, EachOnce, QuotaId, all_shares, drawn_by, kept_half, new_half, quotas_of, told_in, tickets_in}
+use Rattle.call_history.specs.Tickets.{tickets_of_trace}
+use Rattle.conn_core.specs.Connections.{conn_trace}
+use Rattle.tenant_quota.specs.Drawing.{AreAllDrawn, AreLater, Drawing, IsPermutationOfRange, QuotaId, all_shares, tickets_of_tenant, kept_half, new_half, quotas_of, tickets_of_seat, tickets_in}
 use Rattle.run_plan.specs.declared.plan.Plan.{Plan}
 use Rattle.service_threads.specs.Closings.{Opening}
-use Rattle.service_threads.specs.Joining.{SplitInto, all_told}
+use Rattle.service_threads.specs.Joining.{IsSeatSplit, joined_tickets}
 use Rattle.service_threads.specs.Served.{HasServed}
-use Rattle.service_threads.specs.declared.meeting.Met.{Met}
-use Rattle.service.specs.Concluding.{WasServedAt, left_of, outcomes_of}
-use Rattle.service.specs.Ends.{Opened}
+use Rattle.service_threads.specs.declared.reconciling.ReconciledConnection.{ReconciledConnection}
+use Rattle.service.specs.Concluding.{WasServedAt, unmatched_of, outcomes_of}
+use Rattle.service.specs.Ends.{OpenedEnd}
 use Rattle.service.specs.Served.{all_tickets}
-use Rattle.service.specs.Standing.{AreStanding}
-use Rattle.service.specs.declared.beginning.Standing.{Standing}
-use Rattle.service.specs.declared.beginning.Standing.TheVariants.{Bound, Unbound}
+use Rattle.service.specs.Starting.{AreStartStates}
+use Rattle.service.specs.declared.starting.StartState.{StartState}
+use Rattle.service.specs.declared.starting.StartState.TheVariants.{Bound, Unbound}
 
 -- ---- quotas
 
@@ -29,7 +29,7 @@ module _ (kept : (seats : List Drawing) → quotas_of (map kept_half seats) ≡ 
     (new : (seats : List Drawing) → quotas_of (map new_half seats) ≡ quotas_of seats) where
   -- seats that were split among others, and the remaining ones, are of the same quotas
   pub split-quotas : (whole : List Drawing) (owns : List (List Drawing)) (rest : List Drawing)
-      → SplitInto whole owns rest
+      → IsSeatSplit whole owns rest
       → (quotas_of rest ≡ quotas_of whole) × All (λ own. quotas_of own ≡ quotas_of whole) owns
   split-quotas whole [] rest split =
       (ap quotas_of split, All-nil (λ (own : List Drawing). quotas_of own ≡ quotas_of whole))
@@ -57,33 +57,33 @@ later-quotas quotas law (own ∷ owns) (x ∷ laters) zip all =
 
 -- seats without draws hold no ticket
 pub drawn-none : (seats : List Drawing) (tenant window : ℕ) → tenant < length seats
-    → All (λ seat. seat.draws ≡ []) seats → drawn_by seats tenant window ≡ Some []
+    → All (λ seat. seat.draws ≡ []) seats → tickets_of_tenant seats tenant window ≡ Some []
 drawn-none [] tenant window less none = absurd (omega (arith, less))
 drawn-none (seat ∷ seats) tenant window less none =
-    ap (λ o. told_in window o) (slice_get-get_or (seat ∷ seats) tenant seat less)
+    ap (λ o. tickets_of_seat window o) (slice_get-get_or (seat ∷ seats) tenant seat less)
     ∙ ap (λ draws. Some (tickets_in window draws))
     (All-get_or (λ (d : Drawing). d.draws ≡ []) (seat ∷ seats) tenant seat less none)
 
 -- the tickets of a window of a seat that has all shares are those from 0 on
-told-once : (o : Option Drawing) (window : ℕ) (tickets : List ℕ) → ((d : Drawing) → o ≡ Some d → AllOnce WINDOWS d.draws)
-    → told_in window o ≡ Some tickets → window < WINDOWS → length tickets < 2 ^ 64 → EachOnce tickets
+told-once : (o : Option Drawing) (window : ℕ) (tickets : List ℕ) → ((d : Drawing) → o ≡ Some d → AreAllDrawn WINDOWS d.draws)
+    → tickets_of_seat window o ≡ Some tickets → window < WINDOWS → length tickets < 2 ^ 64 → IsPermutationOfRange tickets
 told-once None window tickets once told within few = absurd cc
 told-once (Some d) window tickets once told within few =
     let same : tickets_in window d.draws ≡ tickets = cc in
-    subst (λ ts. EachOnce ts) same
+    subst (λ ts. IsPermutationOfRange ts) same
     (once d refl window within (subst (λ ts. length ts < 2 ^ 64) (sym same) few))
 
 pub drawn-once : (seats : List Drawing) (tenant window : ℕ) (tickets : List ℕ)
-    → All (λ seat. seat.share ≡ all_shares → AllOnce WINDOWS seat.draws) seats
-    → All (λ seat. seat.share ≡ all_shares) seats → drawn_by seats tenant window ≡ Some tickets → window < WINDOWS
-    → length tickets < 2 ^ 64 → EachOnce tickets
+    → All (λ seat. seat.share ≡ all_shares → AreAllDrawn WINDOWS seat.draws) seats
+    → All (λ seat. seat.share ≡ all_shares) seats → tickets_of_tenant seats tenant window ≡ Some tickets → window < WINDOWS
+    → length tickets < 2 ^ 64 → IsPermutationOfRange tickets
 drawn-once seats tenant window tickets once shares told within few =
     told-once (slice_get seats tenant) window tickets
     (λ d is.
     let less = slice_get_within seats tenant d is in
     let at = get_or_from_slice_get seats tenant d d is in
-    subst (λ (x : Drawing). x.share ≡ all_shares → AllOnce WINDOWS x.draws) at
-    (All-get_or (λ (x : Drawing). x.share ≡ all_shares → AllOnce WINDOWS x.draws) seats tenant d less once)
+    subst (λ (x : Drawing). x.share ≡ all_shares → AreAllDrawn WINDOWS x.draws) at
+    (All-get_or (λ (x : Drawing). x.share ≡ all_shares → AreAllDrawn WINDOWS x.draws) seats tenant d less once)
     (subst (λ (x : Drawing). x.share ≡ all_shares) at
     (All-get_or (λ (x : Drawing). x.share ≡ all_shares) seats tenant d less shares)))
     told within few
@@ -91,14 +91,14 @@ drawn-once seats tenant window tickets once shares told within few =
 -- ---- tickets of several seats
 
 -- tickets of several seats in a row are all of them, in some order
-pub told-all : (told : List (List ℕ)) → IsPermutation (all_told [] told) (flat_map (λ tickets. tickets) told)
+pub told-all : (told : List (List ℕ)) → IsPermutation (joined_tickets [] told) (flat_map (λ tickets. tickets) told)
 told-all [] = IsPermutation-refl []
 told-all (tickets ∷ told) =
-    IsPermutation-trans (all_told [] told ++ tickets) (tickets ++ all_told [] told)
-    (tickets ++ flat_map (λ ts. ts) told) (IsPermutation-append_comm (all_told [] told) tickets)
-    (IsPermutation-append_right tickets (all_told [] told) (flat_map (λ ts. ts) told) (told-all told))
+    IsPermutation-trans (joined_tickets [] told ++ tickets) (tickets ++ joined_tickets [] told)
+    (tickets ++ flat_map (λ ts. ts) told) (IsPermutation-append_comm (joined_tickets [] told) tickets)
+    (IsPermutation-append_right tickets (joined_tickets [] told) (flat_map (λ ts. ts) told) (told-all told))
 
-pub once-too : (a b : List ℕ) → IsPermutation a b → EachOnce a → EachOnce b
+pub once-too : (a b : List ℕ) → IsPermutation a b → IsPermutationOfRange a → IsPermutationOfRange b
 once-too a b moved once =
     let long = length_permutation a b moved in
     subst (λ n. IsPermutation (range_with_len 0 n) b) (sym long)
@@ -106,24 +106,24 @@ once-too a b moved once =
 
 -- joined seats hold the tickets from 0 on, each once
 pub once-told : (joined : List Drawing) (tenant window : ℕ) (told : List (List ℕ)) (tickets : List ℕ)
-    → All (λ seat. seat.share ≡ all_shares → AllOnce WINDOWS seat.draws) joined
-    → All (λ seat. seat.share ≡ all_shares) joined → drawn_by joined tenant window ≡ Some (all_told [] told)
-    → tickets ≡ flat_map (λ ts. ts) told → window < WINDOWS → length tickets < 2 ^ 64 → EachOnce tickets
+    → All (λ seat. seat.share ≡ all_shares → AreAllDrawn WINDOWS seat.draws) joined
+    → All (λ seat. seat.share ≡ all_shares) joined → tickets_of_tenant joined tenant window ≡ Some (joined_tickets [] told)
+    → tickets ≡ flat_map (λ ts. ts) told → window < WINDOWS → length tickets < 2 ^ 64 → IsPermutationOfRange tickets
 once-told joined tenant window told tickets once shares drawn are within few =
-    let moved : IsPermutation (all_told [] told) tickets =
-    subst (λ ts. IsPermutation (all_told [] told) ts) (sym are) (told-all told) in
-    once-too (all_told [] told) tickets moved
-    (drawn-once joined tenant window (all_told [] told) once shares drawn within
-    (subst (λ n. n < 2 ^ 64) (length_permutation (all_told [] told) tickets moved) few))
+    let moved : IsPermutation (joined_tickets [] told) tickets =
+    subst (λ ts. IsPermutation (joined_tickets [] told) ts) (sym are) (told-all told) in
+    once-too (joined_tickets [] told) tickets moved
+    (drawn-once joined tenant window (joined_tickets [] told) once shares drawn within
+    (subst (λ n. n < 2 ^ 64) (length_permutation (joined_tickets [] told) tickets moved) few))
 
 -- ---- the outcomes of connections
 
 -- the tickets of a tenant's window in the history of a reconciled connection
-abbrev pub tickets_met : {L : Type 0} → ℕ → ℕ → Met L → List ℕ
-tickets_met tenant window m = tickets_behind tenant window (behind m.bound.submissions.conn)
+abbrev pub tickets_met : {L : Type 0} → ℕ → ℕ → ReconciledConnection L → List ℕ
+tickets_met tenant window m = tickets_of_trace tenant window (conn_trace m.bound.submissions.conn)
 
 module _ {C L : Type 0} (of_clock : ClockMembers C) (of_link : LinkMembers L) (plan : Plan) (clock : C) where
-  abbrev pub Ran : Opening C L → Met L → Type 0
+  abbrev pub Ran : Opening C L → ReconciledConnection L → Type 0
   Ran o m = HasServed of_clock of_link o m.bound m.seats m.link
 
   -- seats of connections with these openings have no draws
@@ -131,8 +131,8 @@ module _ {C L : Type 0} (of_clock : ClockMembers C) (of_link : LinkMembers L) (p
     pub tenants : length o.begun.seats ≡ length plan.declared.tenants
     pub not_drawn : All (λ seat. seat.draws ≡ []) o.begun.seats
 
-  pub have-seats : (ends : List (Opened L)) (standings : List (Standing L)) (openings : List (Opening C L))
-      → AreStanding of_link plan clock ends standings openings → All HasSeats openings
+  pub have-seats : (ends : List (OpenedEnd L)) (standings : List (StartState L)) (openings : List (Opening C L))
+      → AreStartStates of_link plan clock ends standings openings → All HasSeats openings
   have-seats [] [] openings are = subst (λ os. All HasSeats os) (sym are) (All-nil HasSeats)
   have-seats [] (s ∷ standings) openings are = absurd are
   have-seats (e ∷ ends) [] openings are = absurd are
@@ -146,8 +146,8 @@ module _ {C L : Type 0} (of_clock : ClockMembers C) (of_link : LinkMembers L) (p
 
   -- each seat holds the tickets of its connection
   pub each-told : (tenant window : ℕ) → tenant < length plan.declared.tenants → window < WINDOWS
-      → (openings : List (Opening C L)) (met : List (Met L)) → All HasSeats openings → AllZip Ran openings met
-      → AllZip (λ own tickets. drawn_by own tenant window ≡ Some tickets) (map (λ m. m.seats) met)
+      → (openings : List (Opening C L)) (met : List (ReconciledConnection L)) → All HasSeats openings → AllZip Ran openings met
+      → AllZip (λ own tickets. tickets_of_tenant own tenant window ≡ Some tickets) (map (λ m. m.seats) met)
       (map (tickets_met tenant window) met)
   each-told tenant window less within [] [] seats ran = tt
   each-told tenant window less within [] (m ∷ met) seats ran = absurd ran
@@ -159,7 +159,7 @@ module _ {C L : Type 0} (of_clock : ClockMembers C) (of_link : LinkMembers L) (p
         each-told tenant window less within openings met (All-tail HasSeats o openings seats) ran.1,
       )
 
-  pub later-seats : (openings : List (Opening C L)) (met : List (Met L)) → AllZip Ran openings met
+  pub later-seats : (openings : List (Opening C L)) (met : List (ReconciledConnection L)) → AllZip Ran openings met
       → AllZip AreLater (map (λ o. o.begun.seats) openings) (map (λ m. m.seats) met)
   later-seats [] [] ran = tt
   later-seats [] (m ∷ met) ran = absurd ran
@@ -167,9 +167,9 @@ module _ {C L : Type 0} (of_clock : ClockMembers C) (of_link : LinkMembers L) (p
   later-seats (o ∷ openings) (m ∷ met) ran = (ran.0.same_seats, later-seats openings met ran.1)
 
   -- all reconciled connections are used
-  pub none-over : (ends : List (Opened L)) (standings : List (Standing L)) (met : List (Met L))
-      (openings : List (Opening C L)) → AreStanding of_link plan clock ends standings openings
-      → AllZip Ran openings met → left_of standings met ≡ []
+  pub none-over : (ends : List (OpenedEnd L)) (standings : List (StartState L)) (met : List (ReconciledConnection L))
+      (openings : List (Opening C L)) → AreStartStates of_link plan clock ends standings openings
+      → AllZip Ran openings met → unmatched_of standings met ≡ []
   none-over [] [] [] openings are ran = refl
   none-over [] [] (m ∷ met) openings are ran = absurd (subst (λ os. AllZip Ran os (m ∷ met)) are ran)
   none-over [] (s ∷ standings) met openings are ran = absurd are
@@ -181,19 +181,19 @@ module _ {C L : Type 0} (of_clock : ClockMembers C) (of_link : LinkMembers L) (p
       none-over ends standings met are.1 are.4 (subst (λ os. AllZip Ran os (m ∷ met)) are.2 ran).1
 
   -- so all seats are joined
-  pub seats-of-all : (ends : List (Opened L)) (standings : List (Standing L)) (met : List (Met L))
+  pub seats-of-all : (ends : List (OpenedEnd L)) (standings : List (StartState L)) (met : List (ReconciledConnection L))
       (openings : List (Opening C L)) (others : List (List Drawing))
-      → AreStanding of_link plan clock ends standings openings → AllZip Ran openings met
-      → others ++ map (λ m. m.seats) (left_of standings met) ≡ map (λ m. m.seats) met
+      → AreStartStates of_link plan clock ends standings openings → AllZip Ran openings met
+      → others ++ map (λ m. m.seats) (unmatched_of standings met) ≡ map (λ m. m.seats) met
       → others ≡ map (λ m. m.seats) met
   seats-of-all ends standings met openings others are ran same =
       sym (append-nil others)
-      ∙ sym (ap (λ (ms : List (Met L)). others ++ map (λ m. m.seats) ms) (none-over ends standings met openings are ran))
+      ∙ sym (ap (λ (ms : List (ReconciledConnection L)). others ++ map (λ m. m.seats) ms) (none-over ends standings met openings are ran))
       ∙ same
 
   -- the tickets of all connections are those of the reconciled connections
-  pub tickets-of-all : (tenant window : ℕ) (ends : List (Opened L)) (standings : List (Standing L))
-      (met : List (Met L)) (openings : List (Opening C L)) → AreStanding of_link plan clock ends standings openings
+  pub tickets-of-all : (tenant window : ℕ) (ends : List (OpenedEnd L)) (standings : List (StartState L))
+      (met : List (ReconciledConnection L)) (openings : List (Opening C L)) → AreStartStates of_link plan clock ends standings openings
       → AllZip Ran openings met
       → all_tickets tenant window (outcomes_of standings met)
       ≡ flat_map (λ tickets. tickets) (map (tickets_met tenant window) met)
@@ -212,8 +212,8 @@ module _ {C L : Type 0} (of_clock : ClockMembers C) (of_link : LinkMembers L) (p
       (subst (λ os. AllZip Ran os (m ∷ met)) are.2 ran).1)
 
   -- each connection was served according to its state
-  pub were-served : (ends : List (Opened L)) (standings : List (Standing L)) (met : List (Met L))
-      (openings : List (Opening C L)) → AreStanding of_link plan clock ends standings openings
+  pub were-served : (ends : List (OpenedEnd L)) (standings : List (StartState L)) (met : List (ReconciledConnection L))
+      (openings : List (Opening C L)) → AreStartStates of_link plan clock ends standings openings
       → AllZip Ran openings met → AllZip (WasServedAt of_clock of_link plan clock) ends (outcomes_of standings met)
   were-served [] [] met openings are ran = tt
   were-served [] (s ∷ standings) met openings are ran = absurd are
@@ -227,7 +227,7 @@ module _ {C L : Type 0} (of_clock : ClockMembers C) (of_link : LinkMembers L) (p
         start = e.link;
         is_new = are.0.is_new;
         same_link = are.0.same_link;
-        became = are.0.refused;
+        outcome = are.0.refused;
       };
       same_link = are.0.same_link;
     },
@@ -248,7 +248,7 @@ module _ {C L : Type 0} (of_clock : ClockMembers C) (of_link : LinkMembers L) (p
             start = e.link;
             is_new = begun.is_new;
             same_link = same;
-            became = record { opening = are.0; seats = m.seats; bound = begun.bound; served = zip.0 };
+            outcome = record { opening = are.0; seats = m.seats; bound = begun.bound; served = zip.0 };
           };
           same_link = same;
         },

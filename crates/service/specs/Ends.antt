@@ -2,9 +2,9 @@
 use Rattle.std.specs.Prelude.{ℕ, List, map}
 
 -- an opened end of a link, with its connection
-pub record Opened (L : Type 0) : Type 0 where
+pub record OpenedEnd (L : Type 0) : Type 0 where
   pub conn : ℕ
   pub link : L
 
-abbrev pub conns_of : {L : Type 0} → List (Opened L) → List ℕ
-conns_of ends = map (λ e. e.conn) ends
+abbrev pub conns_of_ends : {L : Type 0} → List (OpenedEnd L) → List ℕ
+conns_of_ends ends = map (λ e. e.conn) ends

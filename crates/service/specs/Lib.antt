@@ -1,6 +1,6 @@
 pub mod Concluding
 pub mod Ends
-pub mod Greeted
-pub mod Prepared
+pub mod Handshakes
+pub mod PreparedRun
 pub mod Served
-pub mod Standing
+pub mod Starting

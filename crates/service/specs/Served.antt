@@ -3,45 +3,45 @@ use Rattle.std.specs.Prelude.{◌≡◌, ◌⊎◌, ℕ, List, [], ◌∷◌, Al
 use Rattle.std.specs.List.{flat_map}
 use Rattle.std.specs.Io.KnownBytes.{Appends}
 use Rattle.std.specs.Option.{option_copied}
-use Rattle.mrpc_base.specs.Faults.{HasCause}
-use Rattle.mrpc_base.specs.Linking.{TellsNone}
+use Rattle.mrpc_base.specs.Failures.{HasCause}
+use Rattle.mrpc_base.specs.Links.{IsEmptyIfKnown}
 use Rattle.mrpc_base.specs.declared.clock.Clock.{Ghosts as ClockMembers}
 use Rattle.mrpc_base.specs.declared.link.Link.{Ghosts as LinkMembers}
 use Rattle.frame_transport.specs.declared.fault.FeedFault.{FeedFault}
 use Rattle.frame_transport.specs.declared.format.Frame.{Frame}
 use Rattle.tenant_quota.specs.Drawing.{Drawing}
-use Rattle.call_history.specs.Tickets.{tickets_behind}
-use Rattle.conn_core.specs.Connections.{behind}
-use Rattle.receive_core.specs.Life.{fed, greeted, no_life}
-use Rattle.message_delivery.specs.declared.arrivals.Stream.{Stream}
-use Rattle.message_delivery.specs.declared.arrivals.Stream.TheVariants.{Ended, Failed}
-use Rattle.link_handshake.specs.Greeting.{IsBound, IsUnbound, SaysWhy, hello_of}
+use Rattle.call_history.specs.Tickets.{tickets_of_trace}
+use Rattle.conn_core.specs.Connections.{conn_trace}
+use Rattle.receive_core.specs.ReceiverTraces.{after_piece, after_hello, empty_trace}
+use Rattle.message_delivery.specs.declared.arrivals.StreamState.{StreamState}
+use Rattle.message_delivery.specs.declared.arrivals.StreamState.TheVariants.{Ended, Failed}
+use Rattle.link_handshake.specs.Handshake.{IsBound, IsUnbound, IsUnboundCause, hello_of}
 use Rattle.link_handshake.specs.declared.unbound.Unbound.{Unbound as Cause}
 use Rattle.link_handshake.specs.declared.unbound.Unbound.TheVariants.{Transport}
-use Rattle.run_plan.specs.Chains.{inbound_of, table_of}
-use Rattle.run_plan.specs.Ports.{application_in}
+use Rattle.run_plan.specs.Chains.{inbound_of, app_table}
+use Rattle.run_plan.specs.Links.{application_in}
 use Rattle.run_plan.specs.declared.application.Application.{Application}
 use Rattle.run_plan.specs.declared.plan.Plan.{Plan}
-use Rattle.service_wiring.specs.Stepping.{IsStepsOf}
+use Rattle.service_wiring.specs.Scheduling.{AreOpsOfPlan}
 use Rattle.service_threads.specs.Closings.{Opening}
 use Rattle.service_threads.specs.Served.{HasServed}
 use Rattle.service_threads.specs.declared.served.BoundConn.{BoundConn}
-use Rattle.service.specs.declared.served.Outcome.{Outcome}
-use Rattle.service.specs.declared.served.Outcome.TheVariants.{Unbound, Bound}
+use Rattle.service.specs.declared.served.ConnectionOutcome.{ConnectionOutcome}
+use Rattle.service.specs.declared.served.ConnectionOutcome.TheVariants.{Unbound, Bound}
 use Rattle.service.specs.declared.served.ServedConn.{ServedConn}
 
 -- the hello of an application's connection: a frame with the plan's service and the application's table
-abbrev pub hello_in : Plan → Application → List ℕ
-hello_in plan app = hello_of app.conn plan.service (table_of plan app)
+abbrev pub app_hello : Plan → Application → List ℕ
+app_hello plan app = hello_of app.conn plan.service (app_table plan app)
 
 -- ---- links
 
 -- a link as opened: nothing was sent to it or received from it, and it never failed
 pub record IsNewLink {L : Type 0} (of_link : LinkMembers L) (link : L) : Type 0 where
   pub handed : of_link.handed link ≡ []
-  pub given : TellsNone (of_link.given link)
+  pub given : IsEmptyIfKnown (of_link.given link)
   pub not_ended : of_link.ended link ≡ false
-  pub faults : of_link.faults link ≡ 0
+  pub failures : of_link.failures link ≡ 0
 
 -- each two items in a row have the ends of one link
 abbrev pub ArePairs : {A L : Type 0} → (A → L) → (L → L → Type 0) → List A → Type 0
@@ -58,13 +58,13 @@ pub record WasRefused {L : Type 0} (of_link : LinkMembers L) (plan : Plan) (app 
     (why : Cause) : Type 0 where
   pub stream : List ℕ
   pub fault : Option FeedFault
-  pub state : Stream
+  pub state : StreamState
   pub came : Appends (of_link.given start) (of_link.given now) stream
-  pub unbound : IsUnbound (table_of plan app) plan.service stream fault state why
-  pub says : SaysWhy why
-  pub handed : (of_link.handed now ≡ hello_in plan app ∷ []) ⊎ ((of_link.handed now ≡ []) × (state ≡ Failed))
+  pub unbound : IsUnbound (app_table plan app) plan.service stream fault state why
+  pub says : IsUnboundCause why
+  pub handed : (of_link.handed now ≡ app_hello plan app ∷ []) ⊎ ((of_link.handed now ≡ []) × (state ≡ Failed))
   pub ended : state ≡ Ended → IsTrue (of_link.ended now)
-  pub cause : HasCause (state ≡ Failed) (of_link.faults start) (of_link.faults now)
+  pub cause : HasCause (state ≡ Failed) (of_link.failures start) (of_link.failures now)
   pub transport : state ≡ Failed → why ≡ Transport
 
 -- A connection was bound with this opening: by the hello that is a prefix of what its link gave, after which its
@@ -80,12 +80,12 @@ pub record WasBound {C L : Type 0} (of_link : LinkMembers L) (plan : Plan) (cloc
   pub fault : Option FeedFault
   pub hello : Frame
   pub came : Appends (of_link.given start) (of_link.given opening.begun.link) stream
-  pub bound : IsBound (table_of plan app) plan.service stream fault hello
-  pub life : opening.begun.life ≡ greeted (fed no_life stream fault) hello
-  pub handed : of_link.handed opening.begun.link ≡ hello_in plan app ∷ []
-  pub faults : of_link.faults opening.begun.link ≡ 0
-  pub steps : IsStepsOf plan app opening.begun.steps
-  pub table : opening.begun.arrivals.table.now ≡ table_of plan app
+  pub bound : IsBound (app_table plan app) plan.service stream fault hello
+  pub life : opening.begun.life ≡ after_hello (after_piece empty_trace stream fault) hello
+  pub handed : of_link.handed opening.begun.link ≡ app_hello plan app ∷ []
+  pub failures : of_link.failures opening.begun.link ≡ 0
+  pub steps : AreOpsOfPlan plan app opening.begun.steps
+  pub table : opening.begun.arrivals.table.now ≡ app_table plan app
   pub policy : option_copied opening.begun.arrivals.policy ≡ inbound_of plan app
   pub words : opening.begun.reader.heap.words ≡ app.receive
   pub not_loaded : opening.begun.reader.loads ≡ []
@@ -102,9 +102,9 @@ pub record WasServedBound {C L : Type 0} (of_clock : ClockMembers C) (of_link : 
 
 module _ {C L : Type 0} (of_clock : ClockMembers C) (of_link : LinkMembers L) (plan : Plan) (clock : C) where
   -- the outcome of an application's connection, from its link as opened and as it is now
-  abbrev pub Became : Application → L → L → Outcome → Type 0
-  Became app start now (Unbound why) = WasRefused of_link plan app start now why
-  Became app start now (Bound b) = WasServedBound of_clock of_link plan clock app start now b
+  abbrev pub IsConnectionOutcome : Application → L → L → ConnectionOutcome → Type 0
+  IsConnectionOutcome app start now (Unbound why) = WasRefused of_link plan app start now why
+  IsConnectionOutcome app start now (Bound b) = WasServedBound of_clock of_link plan clock app start now b
 
   -- what a run did on the connection with this number: it is that of the plan's application, and its link is a later
   -- state of the one opened for it
@@ -115,14 +115,14 @@ module _ {C L : Type 0} (of_clock : ClockMembers C) (of_link : LinkMembers L) (p
     pub start : L
     pub is_new : IsNewLink of_link start
     pub same_link : (first : L) → of_link.since first start → of_link.since first s.link
-    pub became : Became app start s.link s.outcome
+    pub outcome : IsConnectionOutcome app start s.link s.outcome
 
 -- ---- tickets
 
 -- the tickets of a tenant's window in the history of a connection
-abbrev pub tickets_on : ℕ → ℕ → Outcome → List ℕ
+abbrev pub tickets_on : ℕ → ℕ → ConnectionOutcome → List ℕ
 tickets_on tenant window (Unbound why) = []
-tickets_on tenant window (Bound b) = tickets_behind tenant window (behind b.submissions.conn)
+tickets_on tenant window (Bound b) = tickets_of_trace tenant window (conn_trace b.submissions.conn)
 
 -- the tickets of all connections of a run
 abbrev pub all_tickets : {L : Type 0} → ℕ → ℕ → List (ServedConn L) → List ℕ

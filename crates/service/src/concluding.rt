@@ -3,42 +3,42 @@
 ghost use Rattle.std.specs.Prelude.{◌≡◌, ◌<◌, ◌^◌, ◌∷◌, ◌++◌, [], ℕ, IfOk, List, OnOk, length, map};
 ghost use Rattle.std.specs.List.{AllZip};
 ghost use Rattle.mrpc_base.specs.declared.tickets.TheConstants.{WINDOWS};
-ghost use Rattle.tenant_quota.specs.Drawing.{EachOnce};
+ghost use Rattle.tenant_quota.specs.Drawing.{IsPermutationOfRange};
 ghost use Rattle.std.specs.Vec.Iter.{into_iter_items};
-ghost use Rattle.service.specs.declared.beginning.Standing.{Standing as TheStanding};
-ghost use Rattle.service.specs.Concluding.{WasServedAt, HaveRun, left_of, outcomes_of};
-ghost use Rattle.service.specs.Ends.{Opened};
+ghost use Rattle.service.specs.declared.starting.StartState.{StartState as TheStanding};
+ghost use Rattle.service.specs.Concluding.{WasServedAt, HaveRun, unmatched_of, outcomes_of};
+ghost use Rattle.service.specs.Ends.{OpenedEnd};
 ghost use Rattle.service.specs.Served.{all_tickets};
 
-use crate::beginning::Standing;
-use crate::served::{Outcome, Served, ServedConn};
+use crate::served::{ConnectionOutcome, Served, ServedConn};
+use crate::starting::StartState;
 use mrpc_base::{Clock, Link};
 use mrpc_table::Memory;
-use service_threads::{Met, join_all, seats_join_again};
-use service_wiring::Common;
+use service_threads::{ReconciledConnection, join_all, seats_join_again};
+use service_wiring::RunContext;
 use std::alloc::Global;
 use std::vec::IntoIter;
-use tenant_quota::{Seats, seats_come_together};
+use tenant_quota::{Seats, join_undoes_split};
 
 // The outcome of each connection, after the seats of all were joined.
 pub(crate) fn conclude<'t, R, L: Link + Drop, C: Clock, G, O>(
-    common: &Common<'t, R, C, G, O>,
-    standings: Vec<Standing<L>>,
-    met: Vec<Met<'t, L>>,
+    common: &RunContext<'t, R, C, G, O>,
+    standings: Vec<StartState<L>>,
+    met: Vec<ReconciledConnection<'t, L>>,
     mut seats: Seats,
 ) -> Result<Served<'t, L>, Memory>
-    requires run { (ends : List (Opened L)) × HaveRun C.Clock L.Link common.now.plan.now common.now.clock.now ends
+    requires run { (ends : List (OpenedEnd L)) × HaveRun C.Clock L.Link common.now.plan.now common.now.clock.now ends
         standings.items met.items seats }
-    ensures served { (ends : List (Opened L)) → HaveRun C.Clock L.Link common.now.plan.now common.now.clock.now ends
+    ensures served { (ends : List (OpenedEnd L)) → HaveRun C.Clock L.Link common.now.plan.now common.now.clock.now ends
         standings.items met.entry.items seats
         → IfOk result (λ served. AllZip (WasServedAt C.Clock L.Link common.now.plan.now common.now.clock.now) ends
         served.conns.items) }
     ensures tickets { IfOk result (λ served. (tenant window : ℕ) → tenant < length common.now.plan.now.declared.tenants
         → window < WINDOWS → length (all_tickets tenant window served.conns.items) < 2 ^ 64
-        → EachOnce (all_tickets tenant window served.conns.items)) }
+        → IsPermutationOfRange (all_tickets tenant window served.conns.items)) }
 {
     seats_join_again();
-    seats_come_together();
+    join_undoes_split();
     let alloc = common.alloc;
     let mut others = Vec::new(alloc);
     let conns = outcomes(alloc, standings, met, &mut others)?;
@@ -50,13 +50,13 @@ pub(crate) fn conclude<'t, R, L: Link + Drop, C: Clock, G, O>(
 // The outcome of each connection, in their order. Joins the seats of those that were served.
 fn outcomes<'t, L: Drop>(
     alloc: Global,
-    standings: Vec<Standing<L>>,
-    met: Vec<Met<'t, L>>,
+    standings: Vec<StartState<L>>,
+    met: Vec<ReconciledConnection<'t, L>>,
     others: &mut Vec<Seats>,
 ) -> Result<Vec<ServedConn<'t, L>>, Memory>
     requires { others.old.items ≡ [] }
     ensures conns { IfOk result (λ conns. conns.items ≡ outcomes_of standings.items met.entry.items) }
-    ensures seats { OnOk result (others.new.items ++ map (λ m. m.seats) (left_of standings.items met.entry.items)
+    ensures seats { OnOk result (others.new.items ++ map (λ m. m.seats) (unmatched_of standings.items met.entry.items)
         ≡ map (λ m. m.seats) met.entry.items) }
 {
     let mut conns = Vec::with_capacity(alloc, standings.len())?;
@@ -71,31 +71,31 @@ fn outcomes<'t, L: Drop>(
 
 // The outcome of the next connection. A bound one takes the next reconciled connection and keeps its seats.
 fn outcome_of<'t, L: Drop>(
-    one: Standing<L>,
-    met: &mut IntoIter<Met<'t, L>>,
+    one: StartState<L>,
+    met: &mut IntoIter<ReconciledConnection<'t, L>>,
     others: &mut Vec<Seats>,
 ) -> Result<ServedConn<'t, L>, Memory>
     ensures conn { (rest : List (TheStanding L)) → IfOk result (λ conn.
         outcomes_of (one ∷ rest) (into_iter_items met.old) ≡ conn ∷ outcomes_of rest (into_iter_items met.new)) }
-    ensures left { (rest : List (TheStanding L)) → OnOk result (left_of (one ∷ rest) (into_iter_items met.old)
-        ≡ left_of rest (into_iter_items met.new)) }
+    ensures left { (rest : List (TheStanding L)) → OnOk result (unmatched_of (one ∷ rest) (into_iter_items met.old)
+        ≡ unmatched_of rest (into_iter_items met.new)) }
     ensures seats { OnOk result (others.new.items ++ map (λ m. m.seats) (into_iter_items met.new)
         ≡ others.old.items ++ map (λ m. m.seats) (into_iter_items met.old)) }
 {
     match one {
-        Standing::Unbound { conn, link, why } => Ok(ServedConn {
+        StartState::Unbound { conn, link, why } => Ok(ServedConn {
             conn,
             link,
-            outcome: Outcome::Unbound(why),
+            outcome: ConnectionOutcome::Unbound(why),
         }),
-        Standing::Bound { conn } => match met.next() {
+        StartState::Bound { conn } => match met.next() {
             None => Err(Memory),
-            Some(Met { bound, seats, link }) => {
+            Some(ReconciledConnection { bound, seats, link }) => {
                 others.push(seats)?;
                 Ok(ServedConn {
                     conn,
                     link,
-                    outcome: Outcome::Bound(bound),
+                    outcome: ConnectionOutcome::Bound(bound),
                 })
             }
         },

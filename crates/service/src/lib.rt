@@ -12,17 +12,17 @@
 //! tickets of a tenant's window are 0, 1, 2 and so on, each once, if they are fewer than 2^64.
 #![tactic(auto)]
 
-mod beginning;
 mod concluding;
 mod fault;
-mod greeting;
+mod handshake;
 mod pairs;
-mod prepared;
+mod prepared_run;
 mod quotas;
 mod served;
 mod serving;
+mod starting;
 
 pub use fault::ServeFault;
-pub use prepared::{Prepared, prepare};
-pub use served::{Outcome, Served, ServedConn};
+pub use prepared_run::{PreparedRun, prepare};
+pub use served::{ConnectionOutcome, Served, ServedConn};
 pub use serving::serve;

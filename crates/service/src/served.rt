@@ -5,7 +5,7 @@ use service_threads::BoundConn;
 
 /// The outcome of a connection.
 #[derive(Drop)]
-pub enum Outcome<'t> {
+pub enum ConnectionOutcome<'t> {
     /// It wasn't bound, for this cause; its application wasn't started.
     Unbound(Unbound),
     /// It was bound, and served its application to the end.
@@ -19,7 +19,7 @@ pub struct ServedConn<'t, L> {
     pub conn: u32,
     /// Its end of the link, which was finished.
     pub link: L,
-    pub outcome: Outcome<'t>,
+    pub outcome: ConnectionOutcome<'t>,
 }
 
 /// The results for all connections, in the order of the plan's links: for each link first the connection `a`, then

@@ -4,18 +4,18 @@ use Rattle.std.proofs.Common.{Ok, Err, OnOk, refl, sym, ap, ◌∙◌, arith, ap
 use Rattle.std.proofs.Common.{drop, length-append, length-take}
 use Rattle.std.specs.Io.KnownBytes.{Appends}
 use Rattle.std.proofs.lemmas.List.Elements.{All-weaker}
-use Rattle.mrpc_base.specs.Faults.{HasCause, Rose}
+use Rattle.mrpc_base.specs.Failures.{HasCause, HasRisen}
 use Rattle.engine_core.specs.Policies.{KnowsTenantOf}
 use Rattle.engine_core.specs.declared.op.Op.{Op}
 use Rattle.engine_core.specs.declared.op.Op.TheVariants.{Attach, Detach, Upgrade}
 use Rattle.engine_core.specs.declared.policy.Policy.{Policy}
 use Rattle.engine_core.specs.declared.policy.Policy.TheVariants.{Access, Count, Quota, Rate, Redact}
-use Rattle.conn_core.specs.Connections.{Connection, IsSame, behind}
-use Rattle.conn_core.specs.Steps.{Draws, DrawsTickets, Hands, IfPolicy}
-use Rattle.call_history.specs.Tickets.{tickets_behind}
+use Rattle.conn_core.specs.Connections.{Connection, IsSameConnection, conn_trace}
+use Rattle.conn_core.specs.ConnectionSteps.{HasDrawnInWindow, HasDrawnTickets, HasHandedOver, IfPolicy}
+use Rattle.call_history.specs.Tickets.{tickets_of_trace}
 use Rattle.service_loop.specs.Serving.{AreSameSubmissions}
-use Rattle.service_loop.specs.Steps.{KnowTenants}
-use Rattle.service_loop.specs.declared.due_step.DueStep.{DueStep}
+use Rattle.service_loop.specs.ScheduledOps.{KnowTenants}
+use Rattle.service_loop.specs.declared.scheduled_op.ScheduledOp.{ScheduledOp}
 use Rattle.service_loop.specs.declared.submissions.Submissions.{Submissions}
 
 -- ---- results
@@ -49,33 +49,33 @@ appends-then (Some xs) (Some ys) (Some zs) p q first second =
 
 -- ---- frames, tickets and failures, step by step
 
-pub hands-then : (a b c : Connection) (x y z : List (List ℕ)) → Hands a b x y → Hands b c y z → Hands a c x z
+pub hands-then : (a b c : Connection) (x y z : List (List ℕ)) → HasHandedOver a b x y → HasHandedOver b c y z → HasHandedOver a c x z
 hands-then a b c x y z first second = (
   first.0 ++ second.0,
   second.1 ∙ ap (λ fs. fs ++ second.0) first.1 ∙ append_assoc _ first.0 second.0,
   second.2 ∙ ap (λ fs. fs ++ second.0) first.2 ∙ append_assoc x first.0 second.0,
 )
 
-draws-one : (t w : ℕ) (a b c : Connection) (x y z : Option (List ℕ)) → Draws t w a b x y → Draws t w b c y z
-    → Draws t w a c x z
+draws-one : (t w : ℕ) (a b c : Connection) (x y z : Option (List ℕ)) → HasDrawnInWindow t w a b x y → HasDrawnInWindow t w b c y z
+    → HasDrawnInWindow t w a c x z
 draws-one t w a b c x y None first second = tt
 draws-one t w a b c x None (Some n) first second = absurd second
 draws-one t w a b c None (Some m) (Some n) first second = absurd first
 draws-one t w a b c (Some e) (Some m) (Some n) first second = (
   first.0 ++ second.0,
-  second.1 ∙ ap (λ ts. ts ++ second.0) first.1 ∙ append_assoc (tickets_behind t w (behind a)) first.0 second.0,
+  second.1 ∙ ap (λ ts. ts ++ second.0) first.1 ∙ append_assoc (tickets_of_trace t w (conn_trace a)) first.0 second.0,
   second.2 ∙ ap (λ ts. ts ++ second.0) first.2 ∙ append_assoc e first.0 second.0,
 )
 
 draws-none : (t w : ℕ) (a b : Connection) (x : Option (List ℕ))
-    → tickets_behind t w (behind b) ≡ tickets_behind t w (behind a) → Draws t w a b x x
+    → tickets_of_trace t w (conn_trace b) ≡ tickets_of_trace t w (conn_trace a) → HasDrawnInWindow t w a b x x
 draws-none t w a b None same = tt
 draws-none t w a b (Some e) same =
-    ([], same ∙ sym (append-nil (tickets_behind t w (behind a))), sym (append-nil e))
+    ([], same ∙ sym (append-nil (tickets_of_trace t w (conn_trace a))), sym (append-nil e))
 
 module _ {Q : Type 0} (Knows : Q → ℕ → Type 0) (drawn_of : Q → ℕ → ℕ → Option (List ℕ)) (Since : Q → Q → Type 0) where
-  pub draw-then : (a b c : Connection) (x y z : Q) → DrawsTickets Knows drawn_of Since a b x y
-      → DrawsTickets Knows drawn_of Since b c y z → DrawsTickets Knows drawn_of Since a c x z
+  pub draw-then : (a b c : Connection) (x y z : Q) → HasDrawnTickets Knows drawn_of Since a b x y
+      → HasDrawnTickets Knows drawn_of Since b c y z → HasDrawnTickets Knows drawn_of Since a c x z
   draw-then a b c x y z first second = record {
     drawn = λ t w known within. draws-one t w a b c (drawn_of x t w) (drawn_of y t w) (drawn_of z t w)
         (first.drawn t w known within) (second.drawn t w (first.knows t known) within);
@@ -85,8 +85,8 @@ module _ {Q : Type 0} (Knows : Q → ℕ → Type 0) (drawn_of : Q → ℕ → �
 
   -- nothing was drawn
   pub draw-none : (a b : Connection) (x : Q)
-      → ((t w : ℕ) → tickets_behind t w (behind b) ≡ tickets_behind t w (behind a))
-      → DrawsTickets Knows drawn_of Since a b x x
+      → ((t w : ℕ) → tickets_of_trace t w (conn_trace b) ≡ tickets_of_trace t w (conn_trace a))
+      → HasDrawnTickets Knows drawn_of Since a b x x
   draw-none a b x same = record {
     drawn = λ t w known within. draws-none t w a b (drawn_of x t w) (same t w);
     knows = λ t known. known;
@@ -97,11 +97,11 @@ module _ {Q : Type 0} (Knows : Q → ℕ → Type 0) (drawn_of : Q → ℕ → �
 abbrev pub EndsIn : Bool → Bool → Type 0
 EndsIn a b = (a ≡ false) × (b ≡ true)
 
-rose-then : (x y z : ℕ) → Rose x y → y ≤ z → Rose x z
+rose-then : (x y z : ℕ) → HasRisen x y → y ≤ z → HasRisen x z
 rose-then x y z (inl less) most = inl (omega (arith, less, most))
 rose-then x y z (inr last) most = inr (omega (arith, last, most))
 
-rose-before : (x y z : ℕ) → x ≤ y → Rose y z → Rose x z
+rose-before : (x y z : ℕ) → x ≤ y → HasRisen y z → HasRisen x z
 rose-before x y z most (inl less) = inl (omega (arith, less, most))
 rose-before x y z most (inr last) = inr last
 
@@ -137,16 +137,16 @@ knows-in K M later (Attach at name label policy) known = knows-of K M later poli
 knows-in K M later (Detach name) known = tt
 knows-in K M later (Upgrade name label policy) known = knows-of K M later policy known
 
-pub known-later : (K M : ℕ → Type 0) → ((t : ℕ) → K t → M t) → (steps : List DueStep) → KnowTenants K steps
+pub known-later : (K M : ℕ → Type 0) → ((t : ℕ) → K t → M t) → (steps : List ScheduledOp) → KnowTenants K steps
     → KnowTenants M steps
 known-later K M later steps known =
-    All-weaker (λ (due : DueStep). IfPolicy due.step (KnowsTenantOf K))
-    (λ (due : DueStep). IfPolicy due.step (KnowsTenantOf M))
+    All-weaker (λ (due : ScheduledOp). IfPolicy due.step (KnowsTenantOf K))
+    (λ (due : ScheduledOp). IfPolicy due.step (KnowsTenantOf M))
     (λ due. knows-in K M later due.step) steps known
 
 -- ---- constants
 
-pub same-conn : (a b c : Connection) → IsSame a b → IsSame b c → IsSame a c
+pub same-conn : (a b c : Connection) → IsSameConnection a b → IsSameConnection b c → IsSameConnection a c
 same-conn a b c ab bc = record { conn = bc.conn ∙ ab.conn; table = bc.table ∙ ab.table; limit = bc.limit ∙ ab.limit }
 
 pub same-calls : (s : Submissions) → AreSameSubmissions s s

@@ -5,20 +5,20 @@ use Rattle.std.specs.Prelude.{All, Option, IsSomeAnd}
 use Rattle.std.specs.List.{AllZip}
 use Rattle.std.proofs.lemmas.List.{map-append, length-map, take-append-drop}
 use Rattle.std.proofs.lemmas.List.Elements.{All-append, All-cons, All-drop, All-filter, All-head, All-nil, All-tail, All-take, All-map, All-weaker}
-use Rattle.engine_core.specs.Chains.{Chain, Changes, Entry, Refuses, changed, is_named, new_entry, upgraded}
+use Rattle.engine_core.specs.Chains.{Chain, HasChanged, Entry, IsRejection, changed, is_named, new_entry, upgraded}
 use Rattle.engine_core.specs.Engines.{EngineParts}
 use Rattle.engine_core.specs.declared.op.Op.{Op as Step}
 use Rattle.engine_core.specs.declared.op.Op.TheVariants.{Attach, Detach, Upgrade}
 use Rattle.engine_core.specs.declared.policy.Policy.{Policy}
-use Rattle.chain_upgrade.specs.Chains.{ChainParts, chain_of, refusal_in}
+use Rattle.chain_upgrade.specs.Chains.{ChainParts, chain_of_state, refusal_in}
 use Rattle.chain_upgrade.specs.declared.fault.ChainFault.{ChainFault}
 use Rattle.chain_upgrade.specs.declared.fault.ChainFault.TheVariants as fault
-use Rattle.call_history.specs.Behind.{Behind, chain, empty_chain, taken}
+use Rattle.call_history.specs.Trace.{Trace, chain, empty_chain, taken}
 use Rattle.call_history.specs.declared.happening.Happening.TheVariants as what
-use Rattle.conn_core.specs.Connections.{Connection, IsConnection, behind}
-use Rattle.conn_core.specs.Steps.{IfPolicy}
-use Rattle.service_loop.specs.Steps.{AreSteps, HaveCome, IsCome, RefusesNone, steps_in}
-use Rattle.service_loop.specs.declared.due_step.DueStep.{DueStep}
+use Rattle.conn_core.specs.Connections.{Connection, IsConnection, conn_trace}
+use Rattle.conn_core.specs.ConnectionSteps.{IfPolicy}
+use Rattle.service_loop.specs.ScheduledOps.{AreScheduledOps, AreApplied, IsApplied, HasNoRefusal, applied_ops}
+use Rattle.service_loop.specs.declared.scheduled_op.ScheduledOp.{ScheduledOp}
 use Rattle.service_loop.proofs.Lists.{IsAt, all-of-map}
 
 -- a chain after a list of operations
@@ -31,16 +31,16 @@ changed-snoc : (steps : List Step) (step : Step) (c : Chain)
 changed-snoc [] step c = refl
 changed-snoc (first ∷ steps) step c = changed-snoc steps step (changed first c)
 
-abbrev pub ops_in : Behind → List Step
-ops_in past = map (λ came. came.0) (steps_in past)
+abbrev pub ops_in : Trace → List Step
+ops_in past = map (λ came. came.0) (applied_ops past)
 
 -- the chain of a trace is that of the operations applied
-pub chain-is : (past : Behind) → chain past ≡ changed_by (ops_in past) empty_chain
+pub chain-is : (past : Trace) → chain past ≡ changed_by (ops_in past) empty_chain
 chain-is [] = refl
 chain-is (what.Op step ∷ past) =
     ap (changed step) (chain-is past) ∙ sym (changed-snoc (ops_in past) step empty_chain) ∙ ap
     (λ ops. changed_by ops empty_chain)
-    (sym (map-append (λ (came : Step × ℕ). came.0) (steps_in past) ((step, length (taken past)) ∷ [])))
+    (sym (map-append (λ (came : Step × ℕ). came.0) (applied_ops past) ((step, length (taken past)) ∷ [])))
 chain-is (what.Took call ∷ past) = chain-is past
 chain-is (what.Away method number addr ∷ past) = chain-is past
 chain-is (what.Moment ms ∷ past) = chain-is past
@@ -51,8 +51,8 @@ chain-is (what.Redacted seq name version ∷ past) = chain-is past
 chain-is (what.Sent seq bytes ∷ past) = chain-is past
 chain-is (what.Refused seq why ∷ past) = chain-is past
 
-ops-come : (all : Option ℕ) (came : List (Step × ℕ)) (steps : List DueStep) → AllZip (IsCome all) came steps
-    → map (λ (x : Step × ℕ). x.0) came ≡ map (λ (due : DueStep). due.step) steps
+ops-come : (all : Option ℕ) (came : List (Step × ℕ)) (steps : List ScheduledOp) → AllZip (IsApplied all) came steps
+    → map (λ (x : Step × ℕ). x.0) came ≡ map (λ (due : ScheduledOp). due.step) steps
 ops-come all [] [] zip = refl
 ops-come all [] (due ∷ steps) zip = absurd zip
 ops-come all (x ∷ came) [] zip = absurd zip
@@ -143,21 +143,21 @@ pub record HasEngines (P : Policy → Type 0) (n : ℕ) (c : ChainParts) : Type 
   pub versions : All (λ e. e.entry.version ≤ n + 1) c.engines
   pub policies : All (λ e. P e.entry.policy) c.engines
 
-pub engines-bounded : (P : Policy → Type 0) (all : Option ℕ) (c : Connection) (steps : List DueStep) → IsConnection c
-    → HaveCome all (behind c) steps → All (λ due. IfPolicy due.step P) steps → HasEngines P (length steps) c.chain
+pub engines-bounded : (P : Policy → Type 0) (all : Option ℕ) (c : Connection) (steps : List ScheduledOp) → IsConnection c
+    → AreApplied all (conn_trace c) steps → All (λ due. IfPolicy due.step P) steps → HasEngines P (length steps) c.chain
 engines-bounded P all c steps h came policies =
-    let ops : ops_in (behind c) ≡ map (λ (due : DueStep). due.step) steps =
-    ops-come all (steps_in (behind c)) steps came in
-    let is : chain_of c.chain ≡ changed_by (map (λ (due : DueStep). due.step) steps) empty_chain =
-    h.same_chain ∙ chain-is (behind c) ∙ ap (λ ops. changed_by ops empty_chain) ops in
-    let bounded : IsBounded P (0 + length (map (λ (due : DueStep). due.step) steps)) (chain_of c.chain) =
-    subst (IsBounded P (0 + length (map (λ (due : DueStep). due.step) steps))) (sym is)
-    (bounded-steps P (map (λ (due : DueStep). due.step) steps) 0 empty_chain
-    (All-map (λ (s : Step). IfPolicy s P) (λ (due : DueStep). due.step) steps policies) (empty-bounded P)) in
-    let long : 0 + length (map (λ (due : DueStep). due.step) steps) ≡ length steps =
-    omega (arith, length-map steps (λ (due : DueStep). due.step)) in
-    let all-bounded : IsBounded P (length steps) (chain_of c.chain) =
-    subst (λ (n : ℕ). IsBounded P n (chain_of c.chain)) long bounded in
+    let ops : ops_in (conn_trace c) ≡ map (λ (due : ScheduledOp). due.step) steps =
+    ops-come all (applied_ops (conn_trace c)) steps came in
+    let is : chain_of_state c.chain ≡ changed_by (map (λ (due : ScheduledOp). due.step) steps) empty_chain =
+    h.same_chain ∙ chain-is (conn_trace c) ∙ ap (λ ops. changed_by ops empty_chain) ops in
+    let bounded : IsBounded P (0 + length (map (λ (due : ScheduledOp). due.step) steps)) (chain_of_state c.chain) =
+    subst (IsBounded P (0 + length (map (λ (due : ScheduledOp). due.step) steps))) (sym is)
+    (bounded-steps P (map (λ (due : ScheduledOp). due.step) steps) 0 empty_chain
+    (All-map (λ (s : Step). IfPolicy s P) (λ (due : ScheduledOp). due.step) steps policies) (empty-bounded P)) in
+    let long : 0 + length (map (λ (due : ScheduledOp). due.step) steps) ≡ length steps =
+    omega (arith, length-map steps (λ (due : ScheduledOp). due.step)) in
+    let all-bounded : IsBounded P (length steps) (chain_of_state c.chain) =
+    subst (λ (n : ℕ). IsBounded P n (chain_of_state c.chain)) long bounded in
     record {
       attached = all-bounded.attached;
       versions = all-of-map (λ (e : Entry). e.version ≤ length steps + 1) (λ (e : EngineParts). e.entry) c.chain.engines
@@ -167,18 +167,18 @@ engines-bounded P all c steps h came policies =
     }
 
 -- like `engines-bounded`, for a prefix of the operations
-pub engines-first : (P : Policy → Type 0) (all : Option ℕ) (c : Connection) (steps : List DueStep) (applied : ℕ)
-    → IsConnection c → HaveCome all (behind c) (take applied steps) → All (λ due. IfPolicy due.step P) steps
+pub engines-first : (P : Policy → Type 0) (all : Option ℕ) (c : Connection) (steps : List ScheduledOp) (applied : ℕ)
+    → IsConnection c → AreApplied all (conn_trace c) (take applied steps) → All (λ due. IfPolicy due.step P) steps
     → HasEngines P (length (take applied steps)) c.chain
 engines-first P all c steps applied h came policies =
     engines-bounded P all c (take applied steps) h came
-    (All-take (λ (due : DueStep). IfPolicy due.step P) applied steps policies)
+    (All-take (λ (due : ScheduledOp). IfPolicy due.step P) applied steps policies)
 
-pub few-attached : (P : Policy → Type 0) (c : ChainParts) (steps : List DueStep) (applied : ℕ)
+pub few-attached : (P : Policy → Type 0) (c : ChainParts) (steps : List ScheduledOp) (applied : ℕ)
     → HasEngines P (length (take applied steps)) c → length steps < 2 ^ 31 → c.attached + 1 < 2 ^ 32
 few-attached P c steps applied h few = omega (arith, h.attached, few, length-take applied steps)
 
-pub few-versions : (P : Policy → Type 0) (c : ChainParts) (steps : List DueStep) (applied : ℕ)
+pub few-versions : (P : Policy → Type 0) (c : ChainParts) (steps : List ScheduledOp) (applied : ℕ)
     → HasEngines P (length (take applied steps)) c → length steps < 2 ^ 31
     → All (λ e. e.entry.version + 1 < 2 ^ 32) c.engines
 few-versions P c steps applied h few =
@@ -188,14 +188,14 @@ few-versions P c steps applied h few =
 
 -- ---- no operation is refused
 
-refuses-at : (front : List Step) (step : Step) (back : List Step) (c : Chain) → RefusesNone c (front ++ step ∷ back)
-    → Changes (changed_by front c) step (changed step (changed_by front c))
+refuses-at : (front : List Step) (step : Step) (back : List Step) (c : Chain) → HasNoRefusal c (front ++ step ∷ back)
+    → HasChanged (changed_by front c) step (changed step (changed_by front c))
 refuses-at [] step back c none = none.0
 refuses-at (first ∷ front) step back c none = refuses-at front step back (changed first c) none.1
 
 -- a chain that applies an operation doesn't refuse it
-not-refused : (answer : ChainFault) (c : Chain) (step : Step) (after : Chain) → Changes c step after
-    → IsSomeAnd (refusal_in answer) (Refuses c step) → ⊥
+not-refused : (answer : ChainFault) (c : Chain) (step : Step) (after : Chain) → HasChanged c step after
+    → IsSomeAnd (refusal_in answer) (IsRejection c step) → ⊥
 not-refused (fault.NoSuch name) c step after changes refused = changes.free _ refused.against
 not-refused (fault.Taken name) c step after changes refused = changes.free _ refused.against
 not-refused (fault.At position) c step after changes refused = changes.free _ refused.against
@@ -204,21 +204,21 @@ not-refused (fault.OtherKind name) c step after changes refused = changes.free _
 not-refused fault.Memory c step after changes refused = refused
 
 -- the next operation isn't refused
-pub never-refused : (all : Option ℕ) (c : Connection) (steps : List DueStep) (applied : ℕ) (due : DueStep)
-    (answer : ChainFault) → IsConnection c → AreSteps steps → IsAt steps applied due
-    → HaveCome all (behind c) (take applied steps) → IsSomeAnd (refusal_in answer) (Refuses (chain_of c.chain) due.step)
+pub never-refused : (all : Option ℕ) (c : Connection) (steps : List ScheduledOp) (applied : ℕ) (due : ScheduledOp)
+    (answer : ChainFault) → IsConnection c → AreScheduledOps steps → IsAt steps applied due
+    → AreApplied all (conn_trace c) (take applied steps) → IsSomeAnd (refusal_in answer) (IsRejection (chain_of_state c.chain) due.step)
     → ⊥
 never-refused all c steps applied due answer h are at came refused =
-    let step : DueStep → Step = λ due. due.step in
+    let step : ScheduledOp → Step = λ due. due.step in
     let split : steps ≡ take applied steps ++ due ∷ drop (applied + 1) steps =
     sym (take-append-drop applied steps) ∙ ap (λ rest. take applied steps ++ rest) at.from in
     let ops : map step steps ≡ map step (take applied steps) ++ due.step ∷ map step (drop (applied + 1) steps) =
     ap (map step) split ∙ map-append step (take applied steps) (due ∷ drop (applied + 1) steps) in
-    let front : ops_in (behind c) ≡ map step (take applied steps) =
-    ops-come all (steps_in (behind c)) (take applied steps) came in
-    let is : chain_of c.chain ≡ changed_by (map step (take applied steps)) empty_chain =
-    h.same_chain ∙ chain-is (behind c) ∙ ap (λ ops. changed_by ops empty_chain) front in
+    let front : ops_in (conn_trace c) ≡ map step (take applied steps) =
+    ops-come all (applied_ops (conn_trace c)) (take applied steps) came in
+    let is : chain_of_state c.chain ≡ changed_by (map step (take applied steps)) empty_chain =
+    h.same_chain ∙ chain-is (conn_trace c) ∙ ap (λ ops. changed_by ops empty_chain) front in
     not-refused answer (changed_by (map step (take applied steps)) empty_chain) due.step _
     (refuses-at (map step (take applied steps)) due.step (map step (drop (applied + 1) steps)) empty_chain
-    (subst (RefusesNone empty_chain) ops are.refuses_none))
-    (subst (λ (c : Chain). IsSomeAnd (refusal_in answer) (Refuses c due.step)) is refused)
+    (subst (HasNoRefusal empty_chain) ops are.refuses_none))
+    (subst (λ (c : Chain). IsSomeAnd (refusal_in answer) (IsRejection c due.step)) is refused)

@@ -3,12 +3,12 @@ use Rattle.std.proofs.Common.{◌≡◌, ℕ, true, false, List, [], ◌++◌, O
 use Rattle.mrpc_base.specs.declared.clock.Clock.{Ghosts as ClockMembers}
 use Rattle.mrpc_base.specs.declared.link.Link.{Ghosts as LinkMembers}
 use Rattle.mrpc_base.specs.declared.tickets.Tickets.{Ghosts as TicketMembers}
-use Rattle.receive_core.specs.Life.{Life}
-use Rattle.service_loop.specs.Delivering.{AreSameDeliveries, DeliversOn, HaveDelivered, HaveGoneOn}
-use Rattle.service_loop.specs.Rounds.{GoesOn, IsSame, IsWhole, weight_of_share}
+use Rattle.receive_core.specs.ReceiverTraces.{ReceiverTrace}
+use Rattle.service_loop.specs.Delivering.{AreSameDeliveries, HasDeliveredMore, HaveDelivered, HaveAdvanced}
+use Rattle.service_loop.specs.Rounds.{HasAdvanced, HasSameIdentity, IsConsistent, weight_of_visits}
 use Rattle.service_loop.specs.declared.delivering.Deliveries.{Deliveries}
 use Rattle.service_loop.specs.declared.endpoint.Endpoint.{Endpoint}
-use Rattle.service_loop.specs.declared.share.Share.{Share}
+use Rattle.service_loop.specs.declared.visit_account.VisitAccount.{VisitAccount}
 use Rattle.service_loop.proofs.Cases.{appends-then, calls-then, cause-then, draw-none, draw-then, hands-then, same-calls}
 use Rattle.service_loop.proofs.Delivered.{gone-nowhere}
 
@@ -41,14 +41,14 @@ deliveries-then a b c ab bc = record {
 
 -- the deliveries stay, and the link gave nothing
 pub delivers-same : (given given' : Option (List ℕ)) (old new : Deliveries) → given' ≡ given
-    → ((life : Life) (numbers back : List ℕ) → HaveDelivered life numbers back old → HaveDelivered life numbers back new)
-    → DeliversOn given given' old new
+    → ((life : ReceiverTrace) (numbers back : List ℕ) → HaveDelivered life numbers back old → HaveDelivered life numbers back new)
+    → HasDeliveredMore given given' old new
 delivers-same given given' old new same stays life numbers back h =
-    subst (λ x. HaveGoneOn life numbers back given x new) (sym same)
+    subst (λ x. HaveAdvanced life numbers back given x new) (sym same)
     (gone-nowhere life numbers back given new (stays life numbers back h))
 
-pub delivers-then : (x y z : Option (List ℕ)) (a b c : Deliveries) → DeliversOn x y a b → DeliversOn y z b c
-    → DeliversOn x z a c
+pub delivers-then : (x y z : Option (List ℕ)) (a b c : Deliveries) → HasDeliveredMore x y a b → HasDeliveredMore y z b c
+    → HasDeliveredMore x z a c
 delivers-then x y z a b c first second life numbers back h =
     let one = first life numbers back h in
     let two = second one.later (numbers ++ one.more) (back ++ one.gained) one.delivered in
@@ -75,7 +75,7 @@ delivers-then x y z a b c first second life numbers back h =
 -- ---- connections
 
 module _ {C Q L : Type 0} (clock : ClockMembers C) (quotas : TicketMembers Q) (link : LinkMembers L) where
-  pub same-none : (e : Endpoint C Q L) → IsSame clock quotas link e e
+  pub same-none : (e : Endpoint C Q L) → HasSameIdentity clock quotas link e e
   same-none e = record {
     submissions = same-calls e.submissions;
     deliveries = same-deliveries e.deliveries;
@@ -85,8 +85,8 @@ module _ {C Q L : Type 0} (clock : ClockMembers C) (quotas : TicketMembers Q) (l
     weight = refl;
   }
 
-  pub same-then : (a b c : Endpoint C Q L) → IsSame clock quotas link a b → IsSame clock quotas link b c
-      → IsSame clock quotas link a c
+  pub same-then : (a b c : Endpoint C Q L) → HasSameIdentity clock quotas link a b → HasSameIdentity clock quotas link b c
+      → HasSameIdentity clock quotas link a c
   same-then a b c ab bc = record {
     submissions = calls-then a.submissions b.submissions c.submissions ab.submissions bc.submissions;
     deliveries = deliveries-then a.deliveries b.deliveries c.deliveries ab.deliveries bc.deliveries;
@@ -96,7 +96,7 @@ module _ {C Q L : Type 0} (clock : ClockMembers C) (quotas : TicketMembers Q) (l
     weight = bc.weight ∙ ab.weight;
   }
 
-  pub goes-nowhere : (e : Endpoint C Q L) → GoesOn clock quotas link e e
+  pub goes-nowhere : (e : Endpoint C Q L) → HasAdvanced clock quotas link e e
   goes-nowhere e = record {
     handed = ([], sym (append-nil _), sym (append-nil (link.handed e.link)));
     draws = draw-none quotas.knows quotas.drawn quotas.since e.submissions.conn e.submissions.conn e.tickets
@@ -111,23 +111,23 @@ module _ {C Q L : Type 0} (clock : ClockMembers C) (quotas : TicketMembers Q) (l
         (λ life numbers back h. h);
   }
 
-  pub goes-then : (a b c : Endpoint C Q L) → GoesOn clock quotas link a b → GoesOn clock quotas link b c
-      → GoesOn clock quotas link a c
+  pub goes-then : (a b c : Endpoint C Q L) → HasAdvanced clock quotas link a b → HasAdvanced clock quotas link b c
+      → HasAdvanced clock quotas link a c
   goes-then a b c ab bc = record {
     handed = hands-then a.submissions.conn b.submissions.conn c.submissions.conn (link.handed a.link)
         (link.handed b.link) (link.handed c.link) ab.handed bc.handed;
     draws = draw-then quotas.knows quotas.drawn quotas.since a.submissions.conn b.submissions.conn c.submissions.conn
         a.tickets b.tickets c.tickets ab.draws bc.draws;
-    cause = cause-then a.submissions.conn.ended b.submissions.conn.ended c.submissions.conn.ended (link.faults a.link)
-        (link.faults b.link) (link.faults c.link) ab.stays_ended bc.stays_ended ab.cause bc.cause;
+    cause = cause-then a.submissions.conn.ended b.submissions.conn.ended c.submissions.conn.ended (link.failures a.link)
+        (link.failures b.link) (link.failures c.link) ab.stays_ended bc.stays_ended ab.cause bc.cause;
     stays_ended = λ is. bc.stays_ended (ab.stays_ended is);
     delivers = delivers-then (link.given a.link) (link.given b.link) (link.given c.link) a.deliveries b.deliveries
         c.deliveries ab.delivers bc.delivers;
   }
 
   -- the kept rounds and the account aren't part of the invariant
-  pub whole-kept : (e : Endpoint C Q L) (kept : ℕ) (share : Option Share) → IsWhole clock quotas link e
-      → IsWhole clock quotas link (record e { kept = kept; share = share })
+  pub whole-kept : (e : Endpoint C Q L) (kept : ℕ) (share : Option VisitAccount) → IsConsistent clock quotas link e
+      → IsConsistent clock quotas link (record e { kept = kept; share = share })
   whole-kept e kept share h = record {
     served = h.served;
     known = h.known;
@@ -141,8 +141,8 @@ module _ {C Q L : Type 0} (clock : ClockMembers C) (quotas : TicketMembers Q) (l
     most = h.most;
   }
 
-  pub goes-kept : (a b : Endpoint C Q L) (kept : ℕ) (share : Option Share) → GoesOn clock quotas link a b
-      → GoesOn clock quotas link a (record b { kept = kept; share = share })
+  pub goes-kept : (a b : Endpoint C Q L) (kept : ℕ) (share : Option VisitAccount) → HasAdvanced clock quotas link a b
+      → HasAdvanced clock quotas link a (record b { kept = kept; share = share })
   goes-kept a b kept share h = record {
     handed = h.handed;
     draws = h.draws;
@@ -151,9 +151,9 @@ module _ {C Q L : Type 0} (clock : ClockMembers C) (quotas : TicketMembers Q) (l
     delivers = h.delivers;
   }
 
-  pub same-kept : (a b : Endpoint C Q L) (kept : ℕ) (share : Option Share)
-      → weight_of_share share ≡ weight_of_share b.share → IsSame clock quotas link a b
-      → IsSame clock quotas link a (record b { kept = kept; share = share })
+  pub same-kept : (a b : Endpoint C Q L) (kept : ℕ) (share : Option VisitAccount)
+      → weight_of_visits share ≡ weight_of_visits b.share → HasSameIdentity clock quotas link a b
+      → HasSameIdentity clock quotas link a (record b { kept = kept; share = share })
   same-kept a b kept share weight h = record {
     submissions = h.submissions;
     deliveries = h.deliveries;

@@ -5,26 +5,26 @@ use Rattle.engine_core.specs.declared.outcome.Noted.{Noted}
 use Rattle.engine_core.specs.declared.outcome.Noted.TheVariants as notes
 use Rattle.engine_core.specs.declared.outcome.Outcome.{Outcome}
 use Rattle.engine_core.specs.declared.outcome.Outcome.TheVariants as outcomes
-use Rattle.call_history.specs.Behind.{Behind, moment, standing, taken}
-use Rattle.call_history.specs.Draining.{BeginsToDrain, Drains, Ending, Passes, SendsSome, Turns, again, at_rest, begins_again, goes, is_held, is_idle, is_over, next, none, one, redacts}
-use Rattle.call_history.specs.Events.{Comes, Course, cause_of, changes, fails, has_turn, is_away, is_sent, link_failed, note_behind, refused_for_link, rises, sends, stays, takes, turned}
-use Rattle.call_history.specs.Rules.{Under}
+use Rattle.call_history.specs.Trace.{Trace, timestamp, pending_calls, taken}
+use Rattle.call_history.specs.Draining.{HasPartlyDrained, HasDrained, TurnsEnding, IsPass, HasSentSome, HasTurns, again, at_rest, begins_again, goes, is_held, is_idle, is_over, next, none, one, redacts}
+use Rattle.call_history.specs.Transitions.{IsTransition, ConnState, cause_of, changes, fails, has_turn, is_away, is_sent, link_failed, with_note, refused_for_link, rises, sends, stays, takes, trace_after_turn}
+use Rattle.call_history.specs.Rules.{JudgeContext}
 use Rattle.call_history.specs.declared.happening.Cause.{Cause}
 use Rattle.call_history.specs.declared.happening.Cause.TheVariants as cause
 use Rattle.call_history.specs.declared.happening.Happening.TheVariants.{Charged, Counted, Drawn, Redacted, Refused, Sent}
-use Rattle.call_history.specs.declared.happening.Taken.{Taken}
-use Rattle.service_loop.specs.Calls.{moments_at_calls, moments_in, turned_away}
-use Rattle.service_loop.specs.Steps.{steps_in}
+use Rattle.call_history.specs.declared.happening.AcceptedCall.{AcceptedCall}
+use Rattle.service_loop.specs.Calls.{timestamps_at_calls, timestamps_in, rejected_count}
+use Rattle.service_loop.specs.ScheduledOps.{applied_ops}
 
-pub record SameViews (past new : Behind) : Type 0 where
+pub record SameViews (past new : Trace) : Type 0 where
   pub taken : taken new ≡ taken past
-  pub steps : steps_in new ≡ steps_in past
-  pub moments : moments_in new ≡ moments_in past
-  pub at_calls : moments_at_calls new ≡ moments_at_calls past
-  pub away : turned_away new ≡ turned_away past
-  pub moment : moment new ≡ moment past
+  pub steps : applied_ops new ≡ applied_ops past
+  pub moments : timestamps_in new ≡ timestamps_in past
+  pub at_calls : timestamps_at_calls new ≡ timestamps_at_calls past
+  pub away : rejected_count new ≡ rejected_count past
+  pub moment : timestamp new ≡ timestamp past
 
-pub same-views : (past : Behind) → SameViews past past
+pub same-views : (past : Trace) → SameViews past past
 same-views past = record {
   taken = refl;
   steps = refl;
@@ -34,7 +34,7 @@ same-views past = record {
   moment = refl;
 }
 
-pub views-then : (a b c : Behind) → SameViews a b → SameViews b c → SameViews a c
+pub views-then : (a b c : Trace) → SameViews a b → SameViews b c → SameViews a c
 views-then a b c ab bc = record {
   taken = bc.taken ∙ ab.taken;
   steps = bc.steps ∙ ab.steps;
@@ -44,11 +44,11 @@ views-then a b c ab bc = record {
   moment = bc.moment ∙ ab.moment;
 }
 
-pub views-as : (past new other : Behind) → new ≡ other → SameViews past other → SameViews past new
+pub views-as : (past new other : Trace) → new ≡ other → SameViews past other → SameViews past new
 views-as past new other is same = subst (SameViews past) (sym is) same
 
 -- one more event that is none of these
-one-charged : (seq : ℕ) (name : List ℕ) (left : ℕ) (past : Behind) → SameViews past (Charged seq name left ∷ past)
+one-charged : (seq : ℕ) (name : List ℕ) (left : ℕ) (past : Trace) → SameViews past (Charged seq name left ∷ past)
 one-charged seq name left past = record {
   taken = refl;
   steps = refl;
@@ -58,7 +58,7 @@ one-charged seq name left past = record {
   moment = refl;
 }
 
-one-drawn : (seq : ℕ) (name : List ℕ) (window : ℕ) (ticket : ℕ) (past : Behind)
+one-drawn : (seq : ℕ) (name : List ℕ) (window : ℕ) (ticket : ℕ) (past : Trace)
     → SameViews past (Drawn seq name window ticket ∷ past)
 one-drawn seq name window ticket past = record {
   taken = refl;
@@ -69,7 +69,7 @@ one-drawn seq name window ticket past = record {
   moment = refl;
 }
 
-one-counted : (seq : ℕ) (name : List ℕ) (past : Behind) → SameViews past (Counted seq name ∷ past)
+one-counted : (seq : ℕ) (name : List ℕ) (past : Trace) → SameViews past (Counted seq name ∷ past)
 one-counted seq name past = record {
   taken = refl;
   steps = refl;
@@ -79,7 +79,7 @@ one-counted seq name past = record {
   moment = refl;
 }
 
-one-redacted : (seq : ℕ) (name : List ℕ) (version : ℕ) (past : Behind)
+one-redacted : (seq : ℕ) (name : List ℕ) (version : ℕ) (past : Trace)
     → SameViews past (Redacted seq name version ∷ past)
 one-redacted seq name version past = record {
   taken = refl;
@@ -90,7 +90,7 @@ one-redacted seq name version past = record {
   moment = refl;
 }
 
-one-sent : (seq : ℕ) (bytes : ℕ) (past : Behind) → SameViews past (Sent seq bytes ∷ past)
+one-sent : (seq : ℕ) (bytes : ℕ) (past : Trace) → SameViews past (Sent seq bytes ∷ past)
 one-sent seq bytes past = record {
   taken = refl;
   steps = refl;
@@ -100,7 +100,7 @@ one-sent seq bytes past = record {
   moment = refl;
 }
 
-one-refused : (seq : ℕ) (why : Cause) (past : Behind) → SameViews past (Refused seq why ∷ past)
+one-refused : (seq : ℕ) (why : Cause) (past : Trace) → SameViews past (Refused seq why ∷ past)
 one-refused seq why past = record {
   taken = refl;
   steps = refl;
@@ -110,53 +110,53 @@ one-refused seq why past = record {
   moment = refl;
 }
 
-views-noted : (name : List ℕ) (seq : ℕ) (n : Noted) (past : Behind) → SameViews past (note_behind name seq n past)
+views-noted : (name : List ℕ) (seq : ℕ) (n : Noted) (past : Trace) → SameViews past (with_note name seq n past)
 views-noted name seq notes.Nothing past = same-views past
 views-noted name seq (notes.Charged left) past = one-charged seq name left past
 views-noted name seq (notes.Drawn window ticket) past = one-drawn seq name window ticket past
 views-noted name seq notes.Counted past = one-counted seq name past
 
-views-turned : (e : Entry) (seq : ℕ) (outcome : Outcome) (c : Course) → SameViews c.past (turned e seq outcome c).past
+views-turned : (e : Entry) (seq : ℕ) (outcome : Outcome) (c : ConnState) → SameViews c.past (trace_after_turn e seq outcome c).past
 views-turned e seq (outcomes.Passed n) c = views-noted e.name seq n c.past
 views-turned e seq (outcomes.Held left cost) c = same-views c.past
 views-turned e seq (outcomes.Refused n why) c =
-    views-then c.past (note_behind e.name seq n c.past) (Refused seq (cause_of e why) ∷ note_behind e.name seq n c.past)
-    (views-noted e.name seq n c.past) (one-refused seq (cause_of e why) (note_behind e.name seq n c.past))
+    views-then c.past (with_note e.name seq n c.past) (Refused seq (cause_of e why) ∷ with_note e.name seq n c.past)
+    (views-noted e.name seq n c.past) (one-refused seq (cause_of e why) (with_note e.name seq n c.past))
 views-turned e seq outcomes.Redacted c = one-redacted seq e.name e.version c.past
 
-ended-turned : (e : Entry) (seq : ℕ) (outcome : Outcome) (c : Course) → (turned e seq outcome c).ended ≡ c.ended
+ended-turned : (e : Entry) (seq : ℕ) (outcome : Outcome) (c : ConnState) → (trace_after_turn e seq outcome c).ended ≡ c.ended
 ended-turned e seq (outcomes.Passed n) c = refl
 ended-turned e seq (outcomes.Held left cost) c = refl
 ended-turned e seq (outcomes.Refused n why) c = refl
 ended-turned e seq outcomes.Redacted c = refl
 
 -- a connection advanced by turns and sends alone
-pub record StaysLinked (old new : Course) : Type 0 where
+pub record StaysLinked (old new : ConnState) : Type 0 where
   pub views : SameViews old.past new.past
   pub ended : new.ended ≡ old.ended
 
-linked-same : (c : Course) → StaysLinked c c
+linked-same : (c : ConnState) → StaysLinked c c
 linked-same c = record { views = same-views c.past; ended = refl }
 
-linked-then : (a b c : Course) → StaysLinked a b → StaysLinked b c → StaysLinked a c
+linked-then : (a b c : ConnState) → StaysLinked a b → StaysLinked b c → StaysLinked a c
 linked-then a b c ab bc = record {
   views = views-then a.past b.past c.past ab.views bc.views;
   ended = bc.ended ∙ ab.ended;
 }
 
-linked-turned : (e : Entry) (seq : ℕ) (outcome : Outcome) (c : Course) → StaysLinked c (turned e seq outcome c)
+linked-turned : (e : Entry) (seq : ℕ) (outcome : Outcome) (c : ConnState) → StaysLinked c (trace_after_turn e seq outcome c)
 linked-turned e seq outcome c = record { views = views-turned e seq outcome c; ended = ended-turned e seq outcome c }
 
-linked-turns : (u : Under) (position : ℕ) (old new : Course) (ending : Ending) → Turns u position old ending new
+linked-turns : (u : JudgeContext) (position : ℕ) (old new : ConnState) (ending : TurnsEnding) → HasTurns u position old ending new
     → StaysLinked old new
 linked-turns u position old new ending (is_idle c idle) = linked-same c
 linked-turns u position old new ending (is_held c seq left cost e has) = linked-same c
 linked-turns u position old new ending (redacts c seq e has) = linked-turned e seq outcomes.Redacted c
 linked-turns u position old new ending (goes c last end seq outcome e has done rest) =
-    linked-then c (turned e seq outcome c) last (linked-turned e seq outcome c)
-    (linked-turns u position (turned e seq outcome c) last end rest)
+    linked-then c (trace_after_turn e seq outcome c) last (linked-turned e seq outcome c)
+    (linked-turns u position (trace_after_turn e seq outcome c) last end rest)
 
-linked-passes : (u : Under) (position : ℕ) (old new : Course) → Passes u position old new → StaysLinked old new
+linked-passes : (u : JudgeContext) (position : ℕ) (old new : ConnState) → IsPass u position old new → StaysLinked old new
 linked-passes u position old new (is_over p c over) = linked-same c
 linked-passes u position old new (next p c between last within turns rest) =
     linked-then c between last (linked-turns u p c between at_rest turns) (linked-passes u (p + 1) between last rest)
@@ -165,7 +165,7 @@ linked-passes u position old new (begins_again p c between last within turns res
 
 -- ---- sends
 
-linked-sent : (u : Under) (old new : Course) (seq bytes : ℕ) → Comes u old (sends seq bytes) new → StaysLinked old new
+linked-sent : (u : JudgeContext) (old new : ConnState) (seq bytes : ℕ) → IsTransition u old (sends seq bytes) new → StaysLinked old new
 linked-sent u old new seq bytes (takes call is running may new-is) = absurd cc
 linked-sent u old new seq bytes (is_away method number addr is full new-is) = absurd cc
 linked-sent u old new seq bytes (changes step is may new-is) = absurd cc
@@ -173,24 +173,24 @@ linked-sent u old new seq bytes (rises ms is above new-is) = absurd cc
 linked-sent u old new seq bytes (stays ms is below new-is) = absurd cc
 linked-sent u old new seq bytes (has_turn p s o e is has new-is) = absurd cc
 linked-sent u old new seq bytes (is_sent s b is running ready new-is) = record {
-  views = views-as old.past new.past (Sent s b ∷ old.past) (ap (λ (c : Course). c.past) new-is) (one-sent s b old.past);
-  ended = ap (λ (c : Course). c.ended) new-is;
+  views = views-as old.past new.past (Sent s b ∷ old.past) (ap (λ (c : ConnState). c.past) new-is) (one-sent s b old.past);
+  ended = ap (λ (c : ConnState). c.ended) new-is;
 }
 linked-sent u old new seq bytes (link_failed is new-is) = absurd cc
 
-linked-sends : (u : Under) (old new : Course) → SendsSome u old new → StaysLinked old new
+linked-sends : (u : JudgeContext) (old new : ConnState) → HasSentSome u old new → StaysLinked old new
 linked-sends u old new (none c) = linked-same c
 linked-sends u old new (one c between last seq bytes comes rest) =
     linked-then c between last (linked-sent u c between seq bytes comes) (linked-sends u between last rest)
 
 -- ---- the end of a link
 
-pub record HasFailed (old new : Course) : Type 0 where
-  pub past : new.past ≡ refused_for_link (standing old.past) old.past
+pub record HasFailed (old new : ConnState) : Type 0 where
+  pub past : new.past ≡ refused_for_link (pending_calls old.past) old.past
   pub row : new.row ≡ []
   pub ended : new.ended ≡ true
 
-pub failed-in : (u : Under) (old new : Course) → Comes u old fails new → HasFailed old new
+pub failed-in : (u : JudgeContext) (old new : ConnState) → IsTransition u old fails new → HasFailed old new
 failed-in u old new (takes call is running may new-is) = absurd cc
 failed-in u old new (is_away method number addr is full new-is) = absurd cc
 failed-in u old new (changes step is may new-is) = absurd cc
@@ -199,34 +199,34 @@ failed-in u old new (stays ms is below new-is) = absurd cc
 failed-in u old new (has_turn p s o e is has new-is) = absurd cc
 failed-in u old new (is_sent s b is running ready new-is) = absurd cc
 failed-in u old new (link_failed is new-is) = record {
-  past = ap (λ (c : Course). c.past) new-is;
-  row = ap (λ (c : Course). c.row) new-is;
-  ended = ap (λ (c : Course). c.ended) new-is;
+  past = ap (λ (c : ConnState). c.past) new-is;
+  row = ap (λ (c : ConnState). c.row) new-is;
+  ended = ap (λ (c : ConnState). c.ended) new-is;
 }
 
-views-refused : (calls : List Taken) (past : Behind) → SameViews past (refused_for_link calls past)
+views-refused : (calls : List AcceptedCall) (past : Trace) → SameViews past (refused_for_link calls past)
 views-refused [] past = same-views past
 views-refused (call ∷ calls) past =
     views-then past (Refused call.seq cause.Transport ∷ past)
     (refused_for_link calls (Refused call.seq cause.Transport ∷ past)) (one-refused call.seq cause.Transport past)
     (views-refused calls (Refused call.seq cause.Transport ∷ past))
 
-pub views-failed : (u : Under) (old new : Course) → Comes u old fails new → SameViews old.past new.past
+pub views-failed : (u : JudgeContext) (old new : ConnState) → IsTransition u old fails new → SameViews old.past new.past
 views-failed u old new comes =
-    views-as old.past new.past _ (failed-in u old new comes).past (views-refused (standing old.past) old.past)
+    views-as old.past new.past _ (failed-in u old new comes).past (views-refused (pending_calls old.past) old.past)
 
 -- ---- drains
 
-pub linked-begun : (u : Under) (old new : Course) → BeginsToDrain u old new → StaysLinked old new
+pub linked-begun : (u : JudgeContext) (old new : ConnState) → HasPartlyDrained u old new → StaysLinked old new
 linked-begun u old new begins =
     linked-then old begins.between new (linked-passes u 0 old begins.between begins.passes)
     (linked-sends u begins.between new begins.sent)
 
-pub linked-drained : (u : Under) (old new : Course) → Drains u old new → StaysLinked old new
+pub linked-drained : (u : JudgeContext) (old new : ConnState) → HasDrained u old new → StaysLinked old new
 linked-drained u old new drains = linked-begun u old new drains.begins
 
 -- a drain whose link failed
-pub views-failing : (u : Under) (old between new : Course) → BeginsToDrain u old between → Comes u between fails new
+pub views-failing : (u : JudgeContext) (old between new : ConnState) → HasPartlyDrained u old between → IsTransition u between fails new
     → SameViews old.past new.past
 views-failing u old between new begins failed =
     views-then old.past between.past new.past (linked-begun u old between begins).views

@@ -2,5 +2,5 @@ pub mod Calls
 pub mod Delivering
 pub mod Rounds
 pub mod Serving
-pub mod Steps
+pub mod ScheduledOps
 pub mod Within

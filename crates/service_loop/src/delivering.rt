@@ -1,14 +1,14 @@
 //! Deliveries to one connection's application, and blocks that it gives back.
 
 ghost use Rattle.std.specs.Prelude.{◌≡◌, ◌≢◌, ◌<◌, ◌≤◌, ◌^◌, ◌++◌, [], ℕ, List, None, Some, IsTrue, OnOk, length, true, false};
-ghost use Rattle.mrpc_base.specs.Faults.{HasCause};
-ghost use Rattle.receive_core.specs.Life.{Life as TheLife, Fated, fated};
-ghost use Rattle.message_delivery.specs.Arriving.{HaveLived};
-ghost use Rattle.message_delivery.specs.Telling.{number_ring_of, ring_of};
-ghost use Rattle.service_loop.specs.Delivering.{AreDelivering, AreSameDeliveries, CountsAsEnded, DeliversOn, HaveDelivered, HaveGoneOn, IsClosing};
+ghost use Rattle.mrpc_base.specs.Failures.{HasCause};
+ghost use Rattle.receive_core.specs.ReceiverTraces.{ReceiverTrace as TheLife, Fated, after_fates};
+ghost use Rattle.message_delivery.specs.Arriving.{IsArrivalTrace};
+ghost use Rattle.message_delivery.specs.Noticing.{number_ring_of, ring_of};
+ghost use Rattle.service_loop.specs.Delivering.{AreDelivering, AreSameDeliveries, IsCountedAsEnded, HasDeliveredMore, HaveDelivered, HaveAdvanced, IsClosing};
 
 use descriptor_ring::{NumberReceiver, NumberSender, Sender};
-use message_delivery::{Arrivals, Notices, Reclaimed, Reclaims, Stream, Turned};
+use message_delivery::{Arrivals, DeliveryOutcome, Notices, ReclaimOutcome, Reclaims, StreamState};
 use mrpc_base::Link;
 use mrpc_table::Memory;
 use std::alloc::Global;
@@ -25,7 +25,7 @@ pub struct Deliveries<'t> {
 
 /// The service's ends of the rings that carry notices to an application and block numbers back.
 #[derive(Drop)]
-pub struct Rings {
+pub struct NoticeRings {
     pub notices: Sender,
     pub blocks: NumberSender,
     pub reclaims: NumberReceiver,
@@ -37,16 +37,16 @@ impl<'t> Deliveries<'t> {
     pub fn new(
         alloc: Global,
         arrivals: Arrivals<'t>,
-        rings: Rings,
+        rings: NoticeRings,
         programmed: u64,
     ) -> Deliveries<'t>
-        requires lived { (life : TheLife) × HaveLived life arrivals × (life.fates ≡ []) }
+        requires lived { (life : TheLife) × IsArrivalTrace life arrivals × (life.fates ≡ []) }
         requires none_held { arrivals.inbound.heap.held ≡ [] }
         requires one_heap { rings.notices.heap ≡ arrivals.writer.heap }
         requires new_rings { (rings.notices.sent ≡ []) × (rings.blocks.sent ≡ []) × (rings.reclaims.taken ≡ [])
             × (rings.reclaims.closed ≡ false) }
         requires few { programmed < 2 ^ 63 }
-        ensures delivered { (life : TheLife) → HaveLived life arrivals.entry → life.fates ≡ []
+        ensures delivered { (life : TheLife) → IsArrivalTrace life arrivals.entry → life.fates ≡ []
             → HaveDelivered life [] [] result }
         ensures arrivals { result.arrivals ≡ arrivals.entry }
         ensures notices { ring_of result.notices.notices result.notices.noticed ≡ Some rings.notices.ring }
@@ -54,7 +54,7 @@ impl<'t> Deliveries<'t> {
         ensures reclaims { result.reclaims.numbers ≡ rings.reclaims }
         ensures programmed { result.reclaims.programmed ≡ programmed }
     {
-        let Rings {
+        let NoticeRings {
             notices,
             blocks,
             reclaims,
@@ -94,18 +94,18 @@ impl<'t> Deliveries<'t> {
         requires delivering { AreDelivering self.old }
         requires room { 0 < length buffer.old }
         requires most { length buffer.old ≤ 2 ^ 32 }
-        ensures on { OnOk result (DeliversOn (L.given link.old) (L.given link.new) self.old self.new) }
+        ensures on { OnOk result (HasDeliveredMore (L.given link.old) (L.given link.new) self.old self.new) }
         ensures same { AreSameDeliveries self.old self.new }
 
         // The link comes to count as failed exactly if its count of failures rises. It counts as ended only if it
         // reported its end. What counts as ended stays so.
         ensures cause { OnOk result (HasCause
-            ((self.old.arrivals.stream ≢ Stream.Failed) × (self.new.arrivals.stream ≡ Stream.Failed))
-            (L.faults link.old) (L.faults link.new)) }
-        ensures ends { OnOk result ((self.old.arrivals.stream ≡ Stream.Ended → IsTrue (L.ended link.old))
-            → self.new.arrivals.stream ≡ Stream.Ended → IsTrue (L.ended link.new)) }
-        ensures over { OnOk result (CountsAsEnded self.old.arrivals → CountsAsEnded self.new.arrivals) }
-        ensures stream { OnOk result (CountsAsEnded self.old.arrivals
+            ((self.old.arrivals.stream ≢ StreamState.Failed) × (self.new.arrivals.stream ≡ StreamState.Failed))
+            (L.failures link.old) (L.failures link.new)) }
+        ensures ends { OnOk result ((self.old.arrivals.stream ≡ StreamState.Ended → IsTrue (L.ended link.old))
+            → self.new.arrivals.stream ≡ StreamState.Ended → IsTrue (L.ended link.new)) }
+        ensures over { OnOk result (IsCountedAsEnded self.old.arrivals → IsCountedAsEnded self.new.arrivals) }
+        ensures stream { OnOk result (IsCountedAsEnded self.old.arrivals
             → self.new.arrivals.stream ≡ self.old.arrivals.stream) }
 
         ensures handed { L.handed link.new ≡ L.handed link.old }
@@ -115,7 +115,7 @@ impl<'t> Deliveries<'t> {
         let reclaimed = self.reclaim(rt)?;
         let received = self.receive(link, buffer)?;
         let turned = self.turn()?;
-        let given = self.give(rt);
+        let given = self.send_notices(rt);
         Ok(reclaimed | received | turned | given)
     }
 
@@ -127,12 +127,12 @@ impl<'t> Deliveries<'t> {
             × HaveDelivered life (numbers ++ more) (back ++ gained) self.new) }
         ensures same { AreSameDeliveries self.old self.new }
         ensures stream { self.new.arrivals.stream ≡ self.old.arrivals.stream }
-        ensures over { CountsAsEnded self.old.arrivals → CountsAsEnded self.new.arrivals }
+        ensures over { IsCountedAsEnded self.old.arrivals → IsCountedAsEnded self.new.arrivals }
     {
         let reclaimed = self
             .reclaims
             .reclaim(rt, &mut self.arrivals.inbound, self.notices.given)?;
-        Ok(reclaimed == Reclaimed::Some)
+        Ok(reclaimed == ReclaimOutcome::Some)
     }
 
     // Receives once, unless the link counts as ended.
@@ -141,13 +141,14 @@ impl<'t> Deliveries<'t> {
         requires room { 0 < length buffer.old }
         requires most { length buffer.old ≤ 2 ^ 32 }
         ensures on { (life : TheLife) (numbers back : List ℕ) → HaveDelivered life numbers back self.old
-            → OnOk result (HaveGoneOn life numbers back (L.given link.old) (L.given link.new) self.new) }
+            → OnOk result (HaveAdvanced life numbers back (L.given link.old) (L.given link.new) self.new) }
         ensures same { AreSameDeliveries self.old self.new }
-        ensures cause { HasCause ((self.old.arrivals.stream ≢ Stream.Failed) × (self.new.arrivals.stream ≡ Stream.Failed))
-            (L.faults link.old) (L.faults link.new) }
-        ensures over { CountsAsEnded self.old.arrivals → self.new ≡ self.old }
-        ensures ends { (self.old.arrivals.stream ≡ Stream.Ended → IsTrue (L.ended link.old))
-            → self.new.arrivals.stream ≡ Stream.Ended → IsTrue (L.ended link.new) }
+        ensures cause { HasCause ((self.old.arrivals.stream ≢ StreamState.Failed)
+            × (self.new.arrivals.stream ≡ StreamState.Failed))
+            (L.failures link.old) (L.failures link.new) }
+        ensures over { IsCountedAsEnded self.old.arrivals → self.new ≡ self.old }
+        ensures ends { (self.old.arrivals.stream ≡ StreamState.Ended → IsTrue (L.ended link.old))
+            → self.new.arrivals.stream ≡ StreamState.Ended → IsTrue (L.ended link.new) }
         ensures handed { L.handed link.new ≡ L.handed link.old }
         ensures same_link { (first : L) → L.since first link.old → L.since first link.new }
         ensures buffer { length buffer.new ≡ length buffer.old }
@@ -162,7 +163,7 @@ impl<'t> Deliveries<'t> {
     fn turn(&mut self) -> Result<bool, Memory>
         requires { AreDelivering self.old }
         ensures delivered { (life : TheLife) (numbers back : List ℕ) → HaveDelivered life numbers back self.old
-            → OnOk result ((more : List Fated) × HaveDelivered (fated life more) numbers back self.new) }
+            → OnOk result ((more : List Fated) × HaveDelivered (after_fates life more) numbers back self.new) }
         ensures same { AreSameDeliveries self.old self.new }
         ensures stream { self.new.arrivals.stream ≡ self.old.arrivals.stream }
     {
@@ -170,9 +171,9 @@ impl<'t> Deliveries<'t> {
             return Ok(false);
         }
         match self.arrivals.turn()? {
-            Turned::Nothing => Ok(false),
-            Turned::Dropped => Ok(true),
-            Turned::Delivered(message) => {
+            DeliveryOutcome::Nothing => Ok(false),
+            DeliveryOutcome::Dropped => Ok(true),
+            DeliveryOutcome::Delivered(message) => {
                 self.notices.add(message)?;
                 Ok(true)
             }
@@ -188,20 +189,20 @@ impl<'t> Deliveries<'t> {
     }
 
     // Sends notices, and closes their rings once no more follow.
-    fn give<R: Wait>(&mut self, rt: &R) -> bool
+    fn send_notices<R: Wait>(&mut self, rt: &R) -> bool
         requires { AreDelivering self.old }
         ensures delivered { (life : TheLife) (numbers back : List ℕ) → HaveDelivered life numbers back self.old
             → HaveDelivered life numbers back self.new }
         ensures same { AreSameDeliveries self.old self.new }
         ensures arrivals { self.new.arrivals ≡ self.old.arrivals }
     {
-        let given = self.give_notices(rt);
+        let given = self.send_pending_notices(rt);
         let closed = self.close(rt);
         given | closed
     }
 
     // Sends notices while their rings have room.
-    fn give_notices<R: Wait>(&mut self, rt: &R) -> bool
+    fn send_pending_notices<R: Wait>(&mut self, rt: &R) -> bool
         requires { AreDelivering self.old }
         ensures delivered { (life : TheLife) (numbers back : List ℕ) → HaveDelivered life numbers back self.old
             → HaveDelivered life numbers back self.new }
@@ -211,7 +212,7 @@ impl<'t> Deliveries<'t> {
         if self.is_closing() {
             return false;
         }
-        self.notices.give(rt, &mut self.arrivals.writer)
+        self.notices.send_notices(rt, &mut self.arrivals.writer)
     }
 
     // Closes the rings of notices, as far as they have room, once no further frame can be handled and each message
@@ -222,10 +223,10 @@ impl<'t> Deliveries<'t> {
         ensures same { AreSameDeliveries self.old self.new }
         ensures arrivals { self.new.arrivals ≡ self.old.arrivals }
     {
-        if !self.arrivals.has_all() {
+        if !self.arrivals.is_complete() {
             return false;
         }
-        if !self.notices.is_given() {
+        if !self.notices.is_sent() {
             return false;
         }
         self.notices.close(rt)
@@ -233,10 +234,10 @@ impl<'t> Deliveries<'t> {
 
     /// Whether the link failed at a receive, or was stopped before its stream had ended.
     pub fn has_failed(&self) -> bool
-        ensures failed { result ≡ true → self.now.arrivals.stream ≡ Stream.Failed }
-        ensures works { result ≡ false → self.now.arrivals.stream ≢ Stream.Failed }
+        ensures failed { result ≡ true → self.now.arrivals.stream ≡ StreamState.Failed }
+        ensures works { result ≡ false → self.now.arrivals.stream ≢ StreamState.Failed }
     {
-        self.arrivals.stream == Stream::Failed
+        self.arrivals.stream == StreamState::Failed
     }
 
     /// Marks the link as ended, because a send on it failed. If the stream had ended by itself, frames that were
@@ -244,14 +245,14 @@ impl<'t> Deliveries<'t> {
     pub fn stop(&mut self)
         ensures delivered { (life : TheLife) (numbers back : List ℕ) → HaveDelivered life numbers back self.old
             → HaveDelivered life numbers back self.new }
-        ensures over { CountsAsEnded self.new.arrivals }
+        ensures over { IsCountedAsEnded self.new.arrivals }
         ensures same { AreSameDeliveries self.old self.new }
-        ensures ended { self.new.arrivals.stream ≡ Stream.Ended → self.old.arrivals.stream ≡ Stream.Ended }
-        ensures only { CountsAsEnded self.old.arrivals → self.new ≡ self.old }
+        ensures ended { self.new.arrivals.stream ≡ StreamState.Ended → self.old.arrivals.stream ≡ StreamState.Ended }
+        ensures only { IsCountedAsEnded self.old.arrivals → self.new ≡ self.old }
     {
         if self.arrivals.is_over() {
             return;
         }
-        self.arrivals.stream = Stream::Failed;
+        self.arrivals.stream = StreamState::Failed;
     }
 }

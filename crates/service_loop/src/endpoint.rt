@@ -1,21 +1,21 @@
 //! A connection with all that belongs to it.
 
 ghost use Rattle.std.specs.Prelude.{◌≡◌, ◌≢◌, ◌≤◌, ◌<◌, ◌^◌, ◌+◌, ◌-◌, ◌↔◌, ◌⊎◌, [], ℕ, true, false, IfSome, IsTrue, OnOk, length};
-ghost use Rattle.call_history.specs.Tickets.{tickets_behind};
-ghost use Rattle.conn_core.specs.Connections.{behind, frames};
-ghost use Rattle.qos_order.specs.Account.{Fits, kept_of, visited};
+ghost use Rattle.call_history.specs.Tickets.{tickets_of_trace};
+ghost use Rattle.conn_core.specs.Connections.{conn_trace, conn_frames};
+ghost use Rattle.qos_order.specs.Account.{IsWithinGrant, kept_rounds, after_visit};
 ghost use Rattle.service_loop.specs.Serving.{IsServed};
-ghost use Rattle.service_loop.specs.Steps.{KnowTenants};
-ghost use Rattle.service_loop.specs.Delivering.{AreDelivering, CountsAsEnded};
-ghost use Rattle.service_loop.specs.Within.{CanCount, Counts};
-ghost use Rattle.service_loop.specs.Rounds.{GoesOn, GrantsShare, HasShare, IsEndpoint, IsNewShare, IsOver, IsSame, IsWhole};
+ghost use Rattle.service_loop.specs.ScheduledOps.{KnowTenants};
+ghost use Rattle.service_loop.specs.Delivering.{AreDelivering, IsCountedAsEnded};
+ghost use Rattle.service_loop.specs.Within.{CanCount, IsVisitCounted};
+ghost use Rattle.service_loop.specs.Rounds.{HasAdvanced, IsGrantedByWeight, HasVisitAccount, IsEndpoint, IsNewVisitAccount, IsFinished, HasSameIdentity, IsConsistent};
 
-use crate::activity::Activity;
 use crate::delivering::Deliveries;
-use crate::share::Share;
+use crate::round_outcome::RoundOutcome;
 use crate::submissions::Submissions;
-use crate::visited::{Outcome, Visited};
-use message_delivery::Stream;
+use crate::visit_account::VisitAccount;
+use crate::visit_summary::{VisitOutcome, VisitSummary};
+use message_delivery::StreamState;
 use mrpc_base::{Clock, Gate, Link, ReadyOrder, Tickets};
 use mrpc_table::Memory;
 use qos_order::Ending;
@@ -35,7 +35,7 @@ pub struct Endpoint<'t, C, Q, L> {
     /// Rounds of earlier grants that later visits may still use.
     pub kept: u64,
     /// Its weight and account, if rounds go by weight.
-    pub share: Option<Share>,
+    pub share: Option<VisitAccount>,
     /// Whether it ran out of memory. Then it makes no further round.
     pub memory: bool,
 }
@@ -49,19 +49,19 @@ impl<'t, C: Clock, Q: Tickets, L: Link> Endpoint<'t, C, Q, L> {
         tickets: Q,
         clock: &'t C,
         buffer: Vec<u8>,
-        share: Option<Share>,
+        share: Option<VisitAccount>,
     ) -> Endpoint<'t, C, Q, L>
         requires served { IsServed submissions }
         requires nothing { submissions.conn.happenings ≡ [] }
         requires not_ended { submissions.conn.ended ≡ false }
         requires known { KnowTenants (Q.knows tickets) submissions.steps.now }
         requires delivering { AreDelivering deliveries }
-        requires working { deliveries.arrivals.stream ≢ Stream.Failed }
-        requires finished { deliveries.arrivals.stream ≡ Stream.Ended → IsTrue (L.ended link) }
+        requires working { deliveries.arrivals.stream ≢ StreamState.Failed }
+        requires finished { deliveries.arrivals.stream ≡ StreamState.Ended → IsTrue (L.ended link) }
         requires room { 0 < length buffer.items }
         requires most { length buffer.items ≤ 2 ^ 32 }
-        requires share { IfSome share IsNewShare }
-        ensures whole { IsWhole C.Clock Q.Tickets L.Link result }
+        requires share { IfSome share IsNewVisitAccount }
+        ensures whole { IsConsistent C.Clock Q.Tickets L.Link result }
         ensures memory { result.memory ≡ false }
         ensures submissions { result.submissions ≡ submissions.entry }
         ensures deliveries { result.deliveries ≡ deliveries.entry }
@@ -70,7 +70,7 @@ impl<'t, C: Clock, Q: Tickets, L: Link> Endpoint<'t, C, Q, L> {
         ensures clock { result.clock.now ≡ clock.now }
         ensures kept { result.kept ≡ 0 }
         ensures share { result.share ≡ share }
-        ensures has_share { HasShare result }
+        ensures has_share { HasVisitAccount result }
     {
         Endpoint {
             submissions,
@@ -87,36 +87,36 @@ impl<'t, C: Clock, Q: Tickets, L: Link> Endpoint<'t, C, Q, L> {
 
     /// Makes a round: takes, judges and sends submissions, reclaims the blocks that the application gives back, and
     /// delivers what the link gives. A link that fails ends the connection.
-    pub fn round<R: Wait>(&mut self, rt: &R, alloc: Global) -> Activity
-        requires whole { IsWhole C.Clock Q.Tickets L.Link self.old }
+    pub fn round<R: Wait>(&mut self, rt: &R, alloc: Global) -> RoundOutcome
+        requires whole { IsConsistent C.Clock Q.Tickets L.Link self.old }
         requires memory { self.old.memory ≡ false }
 
         // The invariant between rounds holds again, and the connection has advanced.
-        ensures whole { result ≢ Activity.Memory → IsWhole C.Clock Q.Tickets L.Link self.new }
-        ensures goes_on { result ≢ Activity.Memory → GoesOn C.Clock Q.Tickets L.Link self.old self.new }
+        ensures whole { result ≢ RoundOutcome.Memory → IsConsistent C.Clock Q.Tickets L.Link self.new }
+        ensures goes_on { result ≢ RoundOutcome.Memory → HasAdvanced C.Clock Q.Tickets L.Link self.old self.new }
 
-        ensures same { IsSame C.Clock Q.Tickets L.Link self.old self.new }
-        ensures memory { (self.new.memory ≡ true) ↔ (result ≡ Activity.Memory) }
+        ensures same { HasSameIdentity C.Clock Q.Tickets L.Link self.old self.new }
+        ensures memory { (self.new.memory ≡ true) ↔ (result ≡ RoundOutcome.Memory) }
         ensures kept { self.new.kept ≡ self.old.kept }
         ensures share { self.new.share ≡ self.old.share }
-        ensures one { result ≢ Activity.Memory → self.new.submissions.accepted ≤ self.old.submissions.accepted + 1 }
+        ensures one { result ≢ RoundOutcome.Memory → self.new.submissions.accepted ≤ self.old.submissions.accepted + 1 }
     {
         match self.make_round(rt, alloc) {
-            Ok(true) => Activity::Busy,
-            Ok(false) => Activity::Idle,
+            Ok(true) => RoundOutcome::Busy,
+            Ok(false) => RoundOutcome::Idle,
             Err(Memory) => {
                 self.memory = true;
-                Activity::Memory
+                RoundOutcome::Memory
             }
         }
     }
 
     // Like `round`, but returns whether anything was done.
     fn make_round<R: Wait>(&mut self, rt: &R, alloc: Global) -> Result<bool, Memory>
-        requires { IsWhole C.Clock Q.Tickets L.Link self.old }
-        ensures whole { OnOk result (IsWhole C.Clock Q.Tickets L.Link self.new) }
-        ensures goes_on { OnOk result (GoesOn C.Clock Q.Tickets L.Link self.old self.new) }
-        ensures same { IsSame C.Clock Q.Tickets L.Link self.old self.new }
+        requires { IsConsistent C.Clock Q.Tickets L.Link self.old }
+        ensures whole { OnOk result (IsConsistent C.Clock Q.Tickets L.Link self.new) }
+        ensures goes_on { OnOk result (HasAdvanced C.Clock Q.Tickets L.Link self.old self.new) }
+        ensures same { HasSameIdentity C.Clock Q.Tickets L.Link self.old self.new }
         ensures memory { self.new.memory ≡ self.old.memory }
         ensures kept { self.new.kept ≡ self.old.kept }
         ensures share { self.new.share ≡ self.old.share }
@@ -129,10 +129,10 @@ impl<'t, C: Clock, Q: Tickets, L: Link> Endpoint<'t, C, Q, L> {
 
     // Makes the round of the submissions. After the link failed, it delivers nothing more.
     fn submit<R: Wait>(&mut self, rt: &R, alloc: Global) -> Result<bool, Memory>
-        requires { IsWhole C.Clock Q.Tickets L.Link self.old }
-        ensures whole { OnOk result (IsWhole C.Clock Q.Tickets L.Link self.new) }
-        ensures goes_on { OnOk result (GoesOn C.Clock Q.Tickets L.Link self.old self.new) }
-        ensures same { IsSame C.Clock Q.Tickets L.Link self.old self.new }
+        requires { IsConsistent C.Clock Q.Tickets L.Link self.old }
+        ensures whole { OnOk result (IsConsistent C.Clock Q.Tickets L.Link self.new) }
+        ensures goes_on { OnOk result (HasAdvanced C.Clock Q.Tickets L.Link self.old self.new) }
+        ensures same { HasSameIdentity C.Clock Q.Tickets L.Link self.old self.new }
         ensures memory { self.new.memory ≡ self.old.memory }
         ensures kept { self.new.kept ≡ self.old.kept }
         ensures share { self.new.share ≡ self.old.share }
@@ -151,10 +151,10 @@ impl<'t, C: Clock, Q: Tickets, L: Link> Endpoint<'t, C, Q, L> {
 
     // Makes the round of the deliveries. If the link fails, it ends the connection.
     fn deliver<R: Wait>(&mut self, rt: &R) -> Result<bool, Memory>
-        requires { IsWhole C.Clock Q.Tickets L.Link self.old }
-        ensures whole { OnOk result (IsWhole C.Clock Q.Tickets L.Link self.new) }
-        ensures goes_on { OnOk result (GoesOn C.Clock Q.Tickets L.Link self.old self.new) }
-        ensures same { IsSame C.Clock Q.Tickets L.Link self.old self.new }
+        requires { IsConsistent C.Clock Q.Tickets L.Link self.old }
+        ensures whole { OnOk result (IsConsistent C.Clock Q.Tickets L.Link self.new) }
+        ensures goes_on { OnOk result (HasAdvanced C.Clock Q.Tickets L.Link self.old self.new) }
+        ensures same { HasSameIdentity C.Clock Q.Tickets L.Link self.old self.new }
         ensures memory { self.new.memory ≡ self.old.memory }
         ensures kept { self.new.kept ≡ self.old.kept }
         ensures share { self.new.share ≡ self.old.share }
@@ -173,16 +173,16 @@ impl<'t, C: Clock, Q: Tickets, L: Link> Endpoint<'t, C, Q, L> {
     /// Ends the connection because its link failed, as its joined writer reports: refuses the pending calls. Doesn't
     /// allocate.
     pub fn fail(&mut self)
-        requires { IsWhole C.Clock Q.Tickets L.Link self.old }
-        ensures whole { IsWhole C.Clock Q.Tickets L.Link self.new }
+        requires { IsConsistent C.Clock Q.Tickets L.Link self.old }
+        ensures whole { IsConsistent C.Clock Q.Tickets L.Link self.new }
         ensures ended { self.new.submissions.conn.ended ≡ true }
-        ensures frames { frames self.new.submissions.conn ≡ frames self.old.submissions.conn }
-        ensures drawn { (tenant window : ℕ) → tickets_behind tenant window (behind self.new.submissions.conn)
-            ≡ tickets_behind tenant window (behind self.old.submissions.conn) }
+        ensures frames { conn_frames self.new.submissions.conn ≡ conn_frames self.old.submissions.conn }
+        ensures drawn { (tenant window : ℕ) → tickets_of_trace tenant window (conn_trace self.new.submissions.conn)
+            ≡ tickets_of_trace tenant window (conn_trace self.old.submissions.conn) }
         ensures calls { self.new.submissions.calls ≡ self.old.submissions.calls }
         ensures finished { self.new.submissions.finished ≡ self.old.submissions.finished }
-        ensures deliveries { CountsAsEnded self.old.deliveries.arrivals → self.new.deliveries ≡ self.old.deliveries }
-        ensures same { IsSame C.Clock Q.Tickets L.Link self.old self.new }
+        ensures deliveries { IsCountedAsEnded self.old.deliveries.arrivals → self.new.deliveries ≡ self.old.deliveries }
+        ensures same { HasSameIdentity C.Clock Q.Tickets L.Link self.old self.new }
         ensures link { self.new.link ≡ self.old.link }
         ensures tickets { self.new.tickets ≡ self.old.tickets }
         ensures memory { self.new.memory ≡ self.old.memory }
@@ -196,8 +196,8 @@ impl<'t, C: Clock, Q: Tickets, L: Link> Endpoint<'t, C, Q, L> {
 
     /// Whether it gets no further round. Then both rings of the application were taken to their closing, the last
     /// drain is done, and the rings of notices and of block numbers were closed.
-    pub fn is_over(&self) -> bool
-        ensures { result ≡ true → IsOver C.Clock Q.Tickets L.Link self.now }
+    pub fn is_finished(&self) -> bool
+        ensures { result ≡ true → IsFinished C.Clock Q.Tickets L.Link self.now }
     {
         self.submissions.finished
             && self.deliveries.reclaims.closed
@@ -205,7 +205,7 @@ impl<'t, C: Clock, Q: Tickets, L: Link> Endpoint<'t, C, Q, L> {
     }
 
     /// Makes the rounds of a visit: as many as the order grants, while there is something to do and the gate is open.
-    /// Rounds of the grant that a closed gate leaves are kept. A connection with a `Share` counts the visit in its
+    /// Rounds of the grant that a closed gate leaves are kept. A connection with a `VisitAccount` counts the visit in its
     /// account.
     pub fn visit<R: Wait, G: Gate, O: ReadyOrder>(
         &mut self,
@@ -213,33 +213,33 @@ impl<'t, C: Clock, Q: Tickets, L: Link> Endpoint<'t, C, Q, L> {
         alloc: Global,
         gate: &G,
         order: &O,
-    ) -> Visited
+    ) -> VisitSummary
         requires endpoint { IsEndpoint C.Clock Q.Tickets L.Link self.old }
         // The order grants rounds by the weight of its visit account.
-        requires order { GrantsShare (O.grant_of order.now) self.old }
+        requires order { IsGrantedByWeight (O.grant_of order.now) self.old }
         ensures endpoint { IsEndpoint C.Clock Q.Tickets L.Link self.new }
-        ensures order { GrantsShare (O.grant_of order.now) self.new }
-        ensures goes_on { self.new.memory ≡ false → GoesOn C.Clock Q.Tickets L.Link self.old self.new }
-        ensures same { IsSame C.Clock Q.Tickets L.Link self.old self.new }
-        ensures memory { (self.new.memory ≡ true) ↔ (result.outcome ≡ Outcome.Memory) }
-        ensures over { result.outcome ≡ Outcome.Over → IsOver C.Clock Q.Tickets L.Link self.new }
+        ensures order { IsGrantedByWeight (O.grant_of order.now) self.new }
+        ensures goes_on { self.new.memory ≡ false → HasAdvanced C.Clock Q.Tickets L.Link self.old self.new }
+        ensures same { HasSameIdentity C.Clock Q.Tickets L.Link self.old self.new }
+        ensures memory { (self.new.memory ≡ true) ↔ (result.outcome ≡ VisitOutcome.Memory) }
+        ensures over { result.outcome ≡ VisitOutcome.Over → IsFinished C.Clock Q.Tickets L.Link self.new }
 
         // The rounds given are within the grant, and the rounds kept are those that the ending keeps, unless the
         // account no longer changes.
-        ensures fits { Fits (O.grant_of order.now self.old.submissions.conn.conn self.old.kept)
+        ensures fits { IsWithinGrant (O.grant_of order.now self.old.submissions.conn.conn self.old.kept)
             (record { given = result.given; ending = result.ending }) }
         ensures kept { IfSome self.old.share (λ share. share.account.visits < 2 ^ 40) → self.new.kept
-            ≡ kept_of result.ending
+            ≡ kept_rounds result.ending
             (O.grant_of order.now self.old.submissions.conn.conn self.old.kept - result.given) }
         ensures counted { self.old.memory ≡ false → IfSome self.old.share (λ share. IfSome self.new.share (λ now.
-            now.account ≡ visited share.weight share.account
+            now.account ≡ after_visit share.weight share.account
             (record { given = result.given; ending = result.ending }))) }
     {
         let grant = order.grant(self.submissions.conn.number(), self.kept);
         if self.memory {
             self.kept = 0;
-            return Visited {
-                outcome: Outcome::Memory,
+            return VisitSummary {
+                outcome: VisitOutcome::Memory,
                 given: 0,
                 ending: Ending::Idle,
             };
@@ -258,15 +258,15 @@ impl<'t, C: Clock, Q: Tickets, L: Link> Endpoint<'t, C, Q, L> {
         alloc: Global,
         gate: &G,
         grant: u64,
-    ) -> Visited
-        requires whole { IsWhole C.Clock Q.Tickets L.Link self.old }
+    ) -> VisitSummary
+        requires whole { IsConsistent C.Clock Q.Tickets L.Link self.old }
         requires memory { self.old.memory ≡ false }
-        ensures whole { self.new.memory ≡ false → IsWhole C.Clock Q.Tickets L.Link self.new }
-        ensures goes_on { self.new.memory ≡ false → GoesOn C.Clock Q.Tickets L.Link self.old self.new }
-        ensures same { IsSame C.Clock Q.Tickets L.Link self.old self.new }
-        ensures memory { (self.new.memory ≡ true) ↔ (result.outcome ≡ Outcome.Memory) }
-        ensures over { result.outcome ≡ Outcome.Over → IsOver C.Clock Q.Tickets L.Link self.new }
-        ensures fits { Fits grant (record { given = result.given; ending = result.ending }) }
+        ensures whole { self.new.memory ≡ false → IsConsistent C.Clock Q.Tickets L.Link self.new }
+        ensures goes_on { self.new.memory ≡ false → HasAdvanced C.Clock Q.Tickets L.Link self.old self.new }
+        ensures same { HasSameIdentity C.Clock Q.Tickets L.Link self.old self.new }
+        ensures memory { (self.new.memory ≡ true) ↔ (result.outcome ≡ VisitOutcome.Memory) }
+        ensures over { result.outcome ≡ VisitOutcome.Over → IsFinished C.Clock Q.Tickets L.Link self.new }
+        ensures fits { IsWithinGrant grant (record { given = result.given; ending = result.ending }) }
         ensures share { self.new.share ≡ self.old.share }
         ensures accepted { self.new.memory ≡ false
             → self.new.submissions.accepted ≤ self.old.submissions.accepted + result.given }
@@ -275,16 +275,16 @@ impl<'t, C: Clock, Q: Tickets, L: Link> Endpoint<'t, C, Q, L> {
         let mut given = 0;
         'rounds: while given < grant {
             if !gate.open(conn) {
-                return Visited {
+                return VisitSummary {
                     outcome: so_far(given),
                     given,
                     ending: Ending::Shut,
                 };
             }
             match self.advance(rt, alloc) {
-                Outcome::Busy => given += 1,
+                VisitOutcome::Busy => given += 1,
                 outcome => {
-                    return Visited {
+                    return VisitSummary {
                         outcome,
                         given: given + 1,
                         ending: ending_after(given + 1, grant),
@@ -292,7 +292,7 @@ impl<'t, C: Clock, Q: Tickets, L: Link> Endpoint<'t, C, Q, L> {
                 }
             }
         }
-        Visited {
+        VisitSummary {
             outcome: so_far(given),
             given,
             ending: Ending::Given,
@@ -300,54 +300,54 @@ impl<'t, C: Clock, Q: Tickets, L: Link> Endpoint<'t, C, Q, L> {
     }
 
     // Makes one round, and returns whether the connection is finished then.
-    fn advance<R: Wait>(&mut self, rt: &R, alloc: Global) -> Outcome
-        requires whole { IsWhole C.Clock Q.Tickets L.Link self.old }
+    fn advance<R: Wait>(&mut self, rt: &R, alloc: Global) -> VisitOutcome
+        requires whole { IsConsistent C.Clock Q.Tickets L.Link self.old }
         requires memory { self.old.memory ≡ false }
-        ensures whole { result ≢ Outcome.Memory → IsWhole C.Clock Q.Tickets L.Link self.new }
-        ensures goes_on { result ≢ Outcome.Memory → GoesOn C.Clock Q.Tickets L.Link self.old self.new }
-        ensures same { IsSame C.Clock Q.Tickets L.Link self.old self.new }
-        ensures memory { (self.new.memory ≡ true) ↔ (result ≡ Outcome.Memory) }
-        ensures over { result ≡ Outcome.Over → IsOver C.Clock Q.Tickets L.Link self.new }
+        ensures whole { result ≢ VisitOutcome.Memory → IsConsistent C.Clock Q.Tickets L.Link self.new }
+        ensures goes_on { result ≢ VisitOutcome.Memory → HasAdvanced C.Clock Q.Tickets L.Link self.old self.new }
+        ensures same { HasSameIdentity C.Clock Q.Tickets L.Link self.old self.new }
+        ensures memory { (self.new.memory ≡ true) ↔ (result ≡ VisitOutcome.Memory) }
+        ensures over { result ≡ VisitOutcome.Over → IsFinished C.Clock Q.Tickets L.Link self.new }
         ensures share { self.new.share ≡ self.old.share }
-        ensures one { result ≢ Outcome.Memory → self.new.submissions.accepted ≤ self.old.submissions.accepted + 1 }
+        ensures one { result ≢ VisitOutcome.Memory → self.new.submissions.accepted ≤ self.old.submissions.accepted + 1 }
     {
         match self.round(rt, alloc) {
-            Activity::Memory => Outcome::Memory,
-            Activity::Busy => self.over_or(Outcome::Busy),
-            Activity::Idle => self.over_or(Outcome::Idle),
+            RoundOutcome::Memory => VisitOutcome::Memory,
+            RoundOutcome::Busy => self.finished_or(VisitOutcome::Busy),
+            RoundOutcome::Idle => self.finished_or(VisitOutcome::Idle),
         }
     }
 
     // `Over` if the connection is finished, else the outcome of its round.
-    fn over_or(&self, outcome: Outcome) -> Outcome
-        ensures { (result ≡ outcome) ⊎ ((result ≡ Outcome.Over) × IsOver C.Clock Q.Tickets L.Link self.now) }
+    fn finished_or(&self, outcome: VisitOutcome) -> VisitOutcome
+        ensures { (result ≡ outcome) ⊎ ((result ≡ VisitOutcome.Over) × IsFinished C.Clock Q.Tickets L.Link self.now) }
     {
-        if self.is_over() {
-            return Outcome::Over;
+        if self.is_finished() {
+            return VisitOutcome::Over;
         }
         outcome
     }
 }
 
 // Whether a round was busy; `Memory` if it ran out of memory.
-fn was_busy(activity: Activity) -> Result<bool, Memory>
-    ensures { OnOk result (activity ≢ Activity.Memory) }
+fn was_busy(activity: RoundOutcome) -> Result<bool, Memory>
+    ensures { OnOk result (activity ≢ RoundOutcome.Memory) }
 {
     match activity {
-        Activity::Busy => Ok(true),
-        Activity::Idle => Ok(false),
-        Activity::Memory => Err(Memory),
+        RoundOutcome::Busy => Ok(true),
+        RoundOutcome::Idle => Ok(false),
+        RoundOutcome::Memory => Err(Memory),
     }
 }
 
 // The outcome of a visit whose rounds so far were all busy.
-fn so_far(given: u64) -> Outcome
-    ensures { (result ≡ Outcome.Busy) ⊎ (result ≡ Outcome.Idle) }
+fn so_far(given: u64) -> VisitOutcome
+    ensures { (result ≡ VisitOutcome.Busy) ⊎ (result ≡ VisitOutcome.Idle) }
 {
     if given == 0 {
-        return Outcome::Idle;
+        return VisitOutcome::Idle;
     }
-    Outcome::Busy
+    VisitOutcome::Busy
 }
 
 // The ending of a visit after a round that had nothing to do or that finished the connection.
@@ -361,9 +361,9 @@ fn ending_after(given: u64, grant: u64) -> Ending
 }
 
 // The rounds of its grant that a visit leaves for later ones.
-fn left_of(visit: Visited, grant: u64) -> u64
+fn unused_of(visit: VisitSummary, grant: u64) -> u64
     requires { visit.given ≤ grant }
-    ensures { result ≡ kept_of visit.ending (grant - visit.given) }
+    ensures { result ≡ kept_rounds visit.ending (grant - visit.given) }
 {
     match visit.ending {
         Ending::Shut => grant - visit.given,
@@ -372,10 +372,14 @@ fn left_of(visit: Visited, grant: u64) -> u64
 }
 
 // Counts a visit in the visit account, if there is one. Returns the account and the rounds kept then.
-fn count(share: Option<Share>, visit: Visited, grant: u64) -> (Option<Share>, u64)
+fn count(
+    share: Option<VisitAccount>,
+    visit: VisitSummary,
+    grant: u64,
+) -> (Option<VisitAccount>, u64)
     requires within { visit.given ≤ grant }
     requires share { IfSome share (CanCount (record { given = visit.given; ending = visit.ending })) }
-    ensures { Counts (record { given = visit.given; ending = visit.ending }) (grant - visit.given) share
+    ensures { IsVisitCounted (record { given = visit.given; ending = visit.ending }) (grant - visit.given) share
         result.0 result.1 }
 {
     match share {
@@ -383,6 +387,6 @@ fn count(share: Option<Share>, visit: Visited, grant: u64) -> (Option<Share>, u6
             let counted = own.counted(visit);
             (Some(counted), counted.account.kept)
         }
-        None => (None, left_of(visit, grant)),
+        None => (None, unused_of(visit, grant)),
     }
 }

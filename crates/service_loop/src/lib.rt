@@ -4,7 +4,7 @@
 //! An [`Endpoint`] holds all that belongs to one connection. Its round consists of a round of its [`Submissions`],
 //! which take calls from the application's ring, and a round of its [`Deliveries`], which handle frames and reclaim
 //! blocks. A visit makes as many rounds as the order of connections grants, and counts them in the connection's
-//! [`Share`], if it has one. It shares nothing with other threads but heaps and rings, has no lock, and any loop may
+//! [`VisitAccount`], if it has one. It shares nothing with other threads but heaps and rings, has no lock, and any loop may
 //! drive it. The crate depends on `conn_core`, `message_delivery`, `shared_heap` and `descriptor_ring`.
 //!
 //! The layers above use one contract: the invariant of `specs/Rounds.antt` holds between rounds, and each later state
@@ -15,18 +15,18 @@
 //! - The link was handed the frames of the history. Each arrival line is the fate of a frame that the link gave.
 #![tactic(auto)]
 
-mod activity;
 mod delivering;
-mod due_step;
 mod endpoint;
-mod share;
+mod round_outcome;
+mod scheduled_op;
 mod submissions;
-mod visited;
+mod visit_account;
+mod visit_summary;
 
-pub use activity::Activity;
-pub use delivering::{Deliveries, Rings};
-pub use due_step::DueStep;
+pub use delivering::{Deliveries, NoticeRings};
 pub use endpoint::Endpoint;
-pub use share::Share;
+pub use round_outcome::RoundOutcome;
+pub use scheduled_op::ScheduledOp;
 pub use submissions::Submissions;
-pub use visited::{Outcome, Visited};
+pub use visit_account::VisitAccount;
+pub use visit_summary::{VisitOutcome, VisitSummary};

@@ -2,26 +2,26 @@
 
 ghost use Rattle.std.specs.Prelude.{◌≡◌, ◌≢◌, ◌↔◌, ◌≤◌, ◌<◌, ◌+◌, ℕ, [], true, false, All, IfOk, OnOk, length, map};
 ghost use Rattle.std.specs.Bool.{OnFalse, OnTrue};
-ghost use Rattle.mrpc_base.specs.Faults.{HasCause};
+ghost use Rattle.mrpc_base.specs.Failures.{HasCause};
 ghost use Rattle.mrpc_table.specs.declared.limits.TheConstants.{MAX_HEAP, MIN_HEAP};
-ghost use Rattle.call_history.specs.Places.{IsSettled};
-ghost use Rattle.call_history.specs.Tickets.{tickets_behind};
-ghost use Rattle.conn_core.specs.Connections.{behind, frames, under};
-ghost use Rattle.conn_core.specs.Steps.{DrawsTickets, Hands};
-ghost use Rattle.service_loop.specs.Calls.{moments_at_calls, moments_in};
+ghost use Rattle.call_history.specs.Positions.{IsSettled};
+ghost use Rattle.call_history.specs.Tickets.{tickets_of_trace};
+ghost use Rattle.conn_core.specs.Connections.{conn_trace, conn_frames, judge_context};
+ghost use Rattle.conn_core.specs.ConnectionSteps.{HasDrawnTickets, HasHandedOver};
+ghost use Rattle.service_loop.specs.Calls.{timestamps_at_calls, timestamps_in};
 ghost use Rattle.service_loop.specs.Serving.{AreSameSubmissions, IsServed, IsServing};
-ghost use Rattle.service_loop.specs.Steps.{AreSteps, KnowTenants};
-ghost use Rattle.service_loop.specs.Within.{HasDrained, HasTaken, IsDue, NoneIsDue, OnlySteps, Shows, StaysBeside, TakesNow};
+ghost use Rattle.service_loop.specs.ScheduledOps.{AreScheduledOps, KnowTenants};
+ghost use Rattle.service_loop.specs.Within.{IsDrainAdvance, HasTakenLast, IsDue, HasNoneDue, HasOnlyAppliedOps, HasTimestamp, IsSilentAdvance, HasTakenNow};
 
-use crate::activity::Activity;
-use crate::due_step::DueStep;
+use crate::round_outcome::RoundOutcome;
+use crate::scheduled_op::ScheduledOp;
 use chain_upgrade::ChainFault;
 use conn_core::{AcceptFault, Ask, Conn, Drained};
 use descriptor_ring::{Descriptor, Receiver, Taken};
 use engine_core::MAX_CALLS;
 use mrpc_base::{Clock, Link, Tickets};
 use mrpc_table::Memory;
-use shared_heap::{Reader, calls_are_fresh, loads_change_no_more};
+use shared_heap::{Reader, calls_are_fresh, loads_preserve_reader};
 use std::alloc::Global;
 use std::sync::Wait;
 
@@ -34,7 +34,7 @@ pub struct Submissions<'t> {
     /// The ring that carries its calls.
     pub calls: Receiver,
     /// The operators' operations for its chain, in order.
-    pub steps: &'t [DueStep],
+    pub steps: &'t [ScheduledOp],
     /// How many of them were applied.
     pub applied: usize,
     /// The number of accepted calls.
@@ -60,7 +60,7 @@ impl<'t> Drop for Submissions<'t> {
 
 // What was taken from the ring of calls.
 #[derive(Clone, Copy, PartialEq, Eq)]
-enum Next {
+enum TakenItem {
     // Nothing, or there was no room for a call.
     Nothing,
     // A call, which was accepted, or rejected because the link has failed.
@@ -70,8 +70,8 @@ enum Next {
 }
 
 // Whether anything was done: something was taken from the ring, operations were applied, or calls advanced.
-fn was_busy(next: Next, stepped: bool, went: bool) -> bool {
-    next != Next::Nothing || stepped || went
+fn was_busy(next: TakenItem, stepped: bool, went: bool) -> bool {
+    next != TakenItem::Nothing || stepped || went
 }
 
 impl<'t> Submissions<'t> {
@@ -81,7 +81,7 @@ impl<'t> Submissions<'t> {
         conn: Conn<'t>,
         reader: Reader,
         calls: Receiver,
-        steps: &'t [DueStep],
+        steps: &'t [ScheduledOp],
     ) -> Submissions<'t>
         requires new_conn { (conn.happenings ≡ []) × (conn.chain.row ≡ []) }
         requires least_heap { MIN_HEAP ≤ reader.heap.words }
@@ -89,7 +89,7 @@ impl<'t> Submissions<'t> {
         requires new_heap { reader.loads ≡ [] }
         requires one_heap { calls.heap ≡ reader.heap }
         requires new_ring { (calls.taken ≡ []) × (calls.closed ≡ false) }
-        requires steps { AreSteps steps.now }
+        requires steps { AreScheduledOps steps.now }
         ensures served { IsServed result }
         ensures conn { result.conn ≡ conn.entry }
         ensures reader { result.reader ≡ reader }
@@ -121,32 +121,33 @@ impl<'t> Submissions<'t> {
         clock: &C,
         tickets: &mut Q,
         link: &mut L,
-    ) -> Activity
+    ) -> RoundOutcome
         requires served { IsServed self.old }
         requires known { KnowTenants (Q.knows tickets.old) self.old.steps.now }
 
         // The invariant between rounds holds again.
-        ensures served { result ≢ Activity.Memory → IsServed self.new }
+        ensures served { result ≢ RoundOutcome.Memory → IsServed self.new }
         ensures same { AreSameSubmissions self.old self.new }
 
         // Its timestamps are the clock's, and no call is taken before the clock's least one.
-        ensures moments { result ≢ Activity.Memory → All (C.gives clock.now) (moments_in (behind self.old.conn))
-            → All (C.gives clock.now) (moments_in (behind self.new.conn)) }
-        ensures least { result ≢ Activity.Memory
-            → All (λ ms. C.least clock.now ≤ ms) (moments_at_calls (behind self.old.conn))
-            → All (λ ms. C.least clock.now ≤ ms) (moments_at_calls (behind self.new.conn)) }
+        ensures moments { result ≢ RoundOutcome.Memory
+            → All (C.gives clock.now) (timestamps_in (conn_trace self.old.conn))
+            → All (C.gives clock.now) (timestamps_in (conn_trace self.new.conn)) }
+        ensures least { result ≢ RoundOutcome.Memory
+            → All (λ ms. C.least clock.now ≤ ms) (timestamps_at_calls (conn_trace self.old.conn))
+            → All (λ ms. C.least clock.now ≤ ms) (timestamps_at_calls (conn_trace self.new.conn)) }
 
         // The link was handed the frames of the history, and the tickets of the history were drawn.
-        ensures handed { result ≢ Activity.Memory
-            → Hands self.old.conn self.new.conn (L.handed link.old) (L.handed link.new) }
-        ensures draws { result ≢ Activity.Memory
-            → DrawsTickets Q.knows Q.drawn Q.since self.old.conn self.new.conn tickets.old tickets.new }
+        ensures handed { result ≢ RoundOutcome.Memory
+            → HasHandedOver self.old.conn self.new.conn (L.handed link.old) (L.handed link.new) }
+        ensures draws { result ≢ RoundOutcome.Memory
+            → HasDrawnTickets Q.knows Q.drawn Q.since self.old.conn self.new.conn tickets.old tickets.new }
 
         // The connection ends exactly if the link's count of failures rises.
-        ensures cause { result ≢ Activity.Memory
-            → HasCause ((self.old.conn.ended ≡ false) × (self.new.conn.ended ≡ true)) (L.faults link.old)
-            (L.faults link.new) }
-        ensures stays_ended { result ≢ Activity.Memory → self.old.conn.ended ≡ true → self.new.conn.ended ≡ true }
+        ensures cause { result ≢ RoundOutcome.Memory
+            → HasCause ((self.old.conn.ended ≡ false) × (self.new.conn.ended ≡ true)) (L.failures link.old)
+            (L.failures link.new) }
+        ensures stays_ended { result ≢ RoundOutcome.Memory → self.old.conn.ended ≡ true → self.new.conn.ended ≡ true }
 
         ensures given { L.given link.new ≡ L.given link.old }
         ensures link_ended { L.ended link.new ≡ L.ended link.old }
@@ -155,19 +156,19 @@ impl<'t> Submissions<'t> {
         ensures knows { (tenant : ℕ) → Q.knows tickets.old tenant → Q.knows tickets.new tenant }
 
         // A round accepts at most one call.
-        ensures one { result ≢ Activity.Memory → self.new.accepted ≤ self.old.accepted + 1 }
+        ensures one { result ≢ RoundOutcome.Memory → self.new.accepted ≤ self.old.accepted + 1 }
 
         // After the last drain nothing changes.
-        ensures idle { self.old.finished ≡ true → (result ≡ Activity.Idle) × (self.new ≡ self.old)
+        ensures idle { self.old.finished ≡ true → (result ≡ RoundOutcome.Idle) × (self.new ≡ self.old)
             × (link.new ≡ link.old) × (tickets.new ≡ tickets.old) }
     {
         if self.finished || !self.has_room(link) {
-            return Activity::Idle;
+            return RoundOutcome::Idle;
         }
         match self.take_and_send(rt, alloc, clock, tickets, link) {
-            Ok(true) => Activity::Busy,
-            Ok(false) => Activity::Idle,
-            Err(Memory) => Activity::Memory,
+            Ok(true) => RoundOutcome::Busy,
+            Ok(false) => RoundOutcome::Idle,
+            Err(Memory) => RoundOutcome::Memory,
         }
     }
 
@@ -193,15 +194,15 @@ impl<'t> Submissions<'t> {
         requires unfinished { self.old.finished ≡ false }
         ensures served { OnOk result (IsServed self.new) }
         ensures same { AreSameSubmissions self.old self.new }
-        ensures moments { OnOk result (All (C.gives clock.now) (moments_in (behind self.old.conn))
-            → All (C.gives clock.now) (moments_in (behind self.new.conn))) }
-        ensures least { OnOk result (All (λ ms. C.least clock.now ≤ ms) (moments_at_calls (behind self.old.conn))
-            → All (λ ms. C.least clock.now ≤ ms) (moments_at_calls (behind self.new.conn))) }
-        ensures handed { OnOk result (Hands self.old.conn self.new.conn (L.handed link.old) (L.handed link.new)) }
+        ensures moments { OnOk result (All (C.gives clock.now) (timestamps_in (conn_trace self.old.conn))
+            → All (C.gives clock.now) (timestamps_in (conn_trace self.new.conn))) }
+        ensures least { OnOk result (All (λ ms. C.least clock.now ≤ ms) (timestamps_at_calls (conn_trace self.old.conn))
+            → All (λ ms. C.least clock.now ≤ ms) (timestamps_at_calls (conn_trace self.new.conn))) }
+        ensures handed { OnOk result (HasHandedOver self.old.conn self.new.conn (L.handed link.old) (L.handed link.new)) }
         ensures draws { OnOk result
-            (DrawsTickets Q.knows Q.drawn Q.since self.old.conn self.new.conn tickets.old tickets.new) }
+            (HasDrawnTickets Q.knows Q.drawn Q.since self.old.conn self.new.conn tickets.old tickets.new) }
         ensures cause { OnOk result (HasCause ((self.old.conn.ended ≡ false) × (self.new.conn.ended ≡ true))
-            (L.faults link.old) (L.faults link.new)) }
+            (L.failures link.old) (L.failures link.new)) }
         ensures stays_ended { OnOk result (self.old.conn.ended ≡ true → self.new.conn.ended ≡ true) }
         ensures given { L.given link.new ≡ L.given link.old }
         ensures link_ended { L.ended link.new ≡ L.ended link.old }
@@ -212,10 +213,10 @@ impl<'t> Submissions<'t> {
     {
         let applied = self.applied;
         self.apply_due(alloc, false)?;
-        self.show(clock.now())?;
+        self.set_timestamp(clock.now())?;
         let next = self.take_call(rt, alloc)?;
         let stood = self.conn.chain().calls().len();
-        self.go_on(alloc, next == Next::Closing, tickets, link)?;
+        self.advance(alloc, next == TakenItem::Closing, tickets, link)?;
         let stands = self.conn.chain().calls().len();
         Ok(was_busy(next, self.applied != applied, stood != stands))
     }
@@ -225,8 +226,8 @@ impl<'t> Submissions<'t> {
         requires serving { IsServing self.old }
         requires closing { closing ≡ self.old.calls.closed }
         ensures serving { OnOk result (IsServing self.new) }
-        ensures none_due { OnOk result (NoneIsDue closing self.new) }
-        ensures only { OnOk result (OnlySteps self.old self.new) }
+        ensures none_due { OnOk result (HasNoneDue closing self.new) }
+        ensures only { OnOk result (HasOnlyAppliedOps self.old self.new) }
         ensures same { AreSameSubmissions self.old self.new }
     {
         'steps: while self.is_due(closing) {
@@ -240,7 +241,7 @@ impl<'t> Submissions<'t> {
         requires serving { IsServing self.now }
         requires closing { closing ≡ self.now.calls.closed }
         ensures due { OnTrue result (IsDue self.now) }
-        ensures none { OnFalse result (NoneIsDue closing self.now) }
+        ensures none { OnFalse result (HasNoneDue closing self.now) }
     {
         self.applied < self.steps.len()
             && (closing || self.steps[self.applied].count <= u64::from(self.accepted))
@@ -252,7 +253,7 @@ impl<'t> Submissions<'t> {
         requires due { IsDue self.old }
         ensures serving { OnOk result (IsServing self.new) }
         ensures applied { OnOk result (self.new.applied ≡ self.old.applied + 1) }
-        ensures only { OnOk result (OnlySteps self.old self.new) }
+        ensures only { OnOk result (HasOnlyAppliedOps self.old self.new) }
         ensures same { AreSameSubmissions self.old self.new }
     {
         self.conn.is_connection();
@@ -269,11 +270,11 @@ impl<'t> Submissions<'t> {
     }
 
     // Passes a timestamp to the connection.
-    fn show(&mut self, now: u64) -> Result<(), Memory>
+    fn set_timestamp(&mut self, now: u64) -> Result<(), Memory>
         requires serving { IsServing self.old }
         ensures serving { OnOk result (IsServing self.new) }
-        ensures none_due { OnOk result (NoneIsDue false self.old → NoneIsDue false self.new) }
-        ensures shown { OnOk result (Shows now self.old.conn self.new.conn) }
+        ensures none_due { OnOk result (HasNoneDue false self.old → HasNoneDue false self.new) }
+        ensures shown { OnOk result (HasTimestamp now self.old.conn self.new.conn) }
         ensures same { AreSameSubmissions self.old self.new }
         ensures calls { self.new.calls ≡ self.old.calls }
         ensures finished { self.new.finished ≡ self.old.finished }
@@ -283,40 +284,40 @@ impl<'t> Submissions<'t> {
     }
 
     // Takes the next call from the ring, unless the maximum number of calls is pending.
-    fn take_call<R: Wait>(&mut self, rt: &R, alloc: Global) -> Result<Next, Memory>
+    fn take_call<R: Wait>(&mut self, rt: &R, alloc: Global) -> Result<TakenItem, Memory>
         requires serving { IsServing self.old }
         requires open { self.old.calls.closed ≡ false }
-        requires none_due { NoneIsDue false self.old }
+        requires none_due { HasNoneDue false self.old }
         ensures serving { OnOk result (IsServing self.new) }
-        ensures closing { IfOk result (λ next. (next ≡ Next.Closing) ↔ (self.new.calls.closed ≡ true)) }
-        ensures beside { OnOk result (StaysBeside self.old.conn self.new.conn) }
-        ensures now { OnOk result (TakesNow self.old.conn self.new.conn) }
+        ensures closing { IfOk result (λ next. (next ≡ TakenItem.Closing) ↔ (self.new.calls.closed ≡ true)) }
+        ensures beside { OnOk result (IsSilentAdvance self.old.conn self.new.conn) }
+        ensures now { OnOk result (HasTakenNow self.old.conn self.new.conn) }
         ensures same { AreSameSubmissions self.old self.new }
         ensures finished { self.new.finished ≡ self.old.finished }
         ensures one { OnOk result (self.new.accepted ≤ self.old.accepted + 1) }
     {
         if self.conn.chain().calls().len() == MAX_CALLS {
-            return Ok(Next::Nothing);
+            return Ok(TakenItem::Nothing);
         }
         match self.calls.take(rt) {
             Taken::Item(call) => {
                 self.accept(alloc, call)?;
-                Ok(Next::Call)
+                Ok(TakenItem::Call)
             }
-            Taken::Closed => Ok(Next::Closing),
-            Taken::Empty(_) => Ok(Next::Nothing),
+            Taken::Closed => Ok(TakenItem::Closing),
+            Taken::Empty(_) => Ok(TakenItem::Nothing),
         }
     }
 
     // Accepts a call that was taken, or rejects it if the link has failed.
     fn accept(&mut self, alloc: Global, call: Descriptor) -> Result<(), Memory>
-        requires taken { HasTaken call self.old }
+        requires taken { HasTakenLast call self.old }
         requires open { self.old.calls.closed ≡ false }
-        requires none_due { NoneIsDue false self.old }
+        requires none_due { HasNoneDue false self.old }
         requires few { length self.old.conn.chain.calls < MAX_CALLS }
         ensures serving { OnOk result (IsServing self.new) }
-        ensures beside { OnOk result (StaysBeside self.old.conn self.new.conn) }
-        ensures now { OnOk result (TakesNow self.old.conn self.new.conn) }
+        ensures beside { OnOk result (IsSilentAdvance self.old.conn self.new.conn) }
+        ensures now { OnOk result (HasTakenNow self.old.conn self.new.conn) }
         ensures same { AreSameSubmissions self.old self.new }
         ensures calls { self.new.calls ≡ self.old.calls }
         ensures finished { self.new.finished ≡ self.old.finished }
@@ -341,7 +342,7 @@ impl<'t> Submissions<'t> {
             after: stores,
         };
         calls_are_fresh();
-        loads_change_no_more();
+        loads_preserve_reader();
         match self.conn.accept(alloc, &mut self.reader, ask) {
             Ok(seq) => {
                 self.accepted = seq;
@@ -353,7 +354,7 @@ impl<'t> Submissions<'t> {
     }
 
     // Advances the pending calls as far as possible; for the last time after the closing of the ring.
-    fn go_on<Q: Tickets, L: Link>(
+    fn advance<Q: Tickets, L: Link>(
         &mut self,
         alloc: Global,
         closing: bool,
@@ -365,12 +366,12 @@ impl<'t> Submissions<'t> {
         requires unfinished { self.old.finished ≡ false }
         requires closing { (closing ≡ true) ↔ (self.old.calls.closed ≡ true) }
         ensures served { OnOk result (IsServed self.new) }
-        ensures drained { OnOk result (HasDrained self.old.conn self.new.conn) }
-        ensures handed { OnOk result (Hands self.old.conn self.new.conn (L.handed link.old) (L.handed link.new)) }
+        ensures drained { OnOk result (IsDrainAdvance self.old.conn self.new.conn) }
+        ensures handed { OnOk result (HasHandedOver self.old.conn self.new.conn (L.handed link.old) (L.handed link.new)) }
         ensures draws { OnOk result
-            (DrawsTickets Q.knows Q.drawn Q.since self.old.conn self.new.conn tickets.old tickets.new) }
+            (HasDrawnTickets Q.knows Q.drawn Q.since self.old.conn self.new.conn tickets.old tickets.new) }
         ensures cause { OnOk result (HasCause ((self.old.conn.ended ≡ false) × (self.new.conn.ended ≡ true))
-            (L.faults link.old) (L.faults link.new)) }
+            (L.failures link.old) (L.failures link.new)) }
         ensures same { AreSameSubmissions self.old self.new }
         ensures given { L.given link.new ≡ L.given link.old }
         ensures link_ended { L.ended link.new ≡ L.ended link.old }
@@ -398,12 +399,12 @@ impl<'t> Submissions<'t> {
         requires known { KnowTenants (Q.knows tickets.old) self.old.steps.now }
         requires closed { self.old.calls.closed ≡ true }
         ensures served { OnOk result (IsServed self.new) }
-        ensures drained { OnOk result (HasDrained self.old.conn self.new.conn) }
-        ensures handed { OnOk result (Hands self.old.conn self.new.conn (L.handed link.old) (L.handed link.new)) }
+        ensures drained { OnOk result (IsDrainAdvance self.old.conn self.new.conn) }
+        ensures handed { OnOk result (HasHandedOver self.old.conn self.new.conn (L.handed link.old) (L.handed link.new)) }
         ensures draws { OnOk result
-            (DrawsTickets Q.knows Q.drawn Q.since self.old.conn self.new.conn tickets.old tickets.new) }
+            (HasDrawnTickets Q.knows Q.drawn Q.since self.old.conn self.new.conn tickets.old tickets.new) }
         ensures cause { OnOk result (HasCause ((self.old.conn.ended ≡ false) × (self.new.conn.ended ≡ true))
-            (L.faults link.old) (L.faults link.new)) }
+            (L.failures link.old) (L.failures link.new)) }
         ensures same { AreSameSubmissions self.old self.new }
         ensures given { L.given link.new ≡ L.given link.old }
         ensures link_ended { L.ended link.new ≡ L.ended link.old }
@@ -424,14 +425,14 @@ impl<'t> Submissions<'t> {
         requires serving { IsServing self.old }
         requires known { KnowTenants (Q.knows tickets.old) self.old.steps.now }
         ensures serving { OnOk result (IsServing self.new) }
-        ensures settled { OnOk result (IsSettled (under self.new.conn) (behind self.new.conn)
+        ensures settled { OnOk result (IsSettled (judge_context self.new.conn) (conn_trace self.new.conn)
             (map (λ call. call.1) self.new.conn.chain.row)) }
-        ensures drained { OnOk result (HasDrained self.old.conn self.new.conn) }
-        ensures handed { OnOk result (Hands self.old.conn self.new.conn (L.handed link.old) (L.handed link.new)) }
+        ensures drained { OnOk result (IsDrainAdvance self.old.conn self.new.conn) }
+        ensures handed { OnOk result (HasHandedOver self.old.conn self.new.conn (L.handed link.old) (L.handed link.new)) }
         ensures draws { OnOk result
-            (DrawsTickets Q.knows Q.drawn Q.since self.old.conn self.new.conn tickets.old tickets.new) }
+            (HasDrawnTickets Q.knows Q.drawn Q.since self.old.conn self.new.conn tickets.old tickets.new) }
         ensures cause { OnOk result (HasCause ((self.old.conn.ended ≡ false) × (self.new.conn.ended ≡ true))
-            (L.faults link.old) (L.faults link.new)) }
+            (L.failures link.old) (L.failures link.new)) }
         ensures same { AreSameSubmissions self.old self.new }
         ensures calls { self.new.calls ≡ self.old.calls }
         ensures applied { self.new.applied ≡ self.old.applied }
@@ -463,11 +464,12 @@ impl<'t> Submissions<'t> {
         ensures ended { self.new.conn.ended ≡ true }
         ensures same { AreSameSubmissions self.old self.new }
         ensures calls { self.new.calls ≡ self.old.calls }
-        ensures frames { frames self.new.conn ≡ frames self.old.conn }
-        ensures tickets { (tenant window : ℕ) → tickets_behind tenant window (behind self.new.conn)
-            ≡ tickets_behind tenant window (behind self.old.conn) }
-        ensures moments { moments_in (behind self.new.conn) ≡ moments_in (behind self.old.conn) }
-        ensures at_calls { moments_at_calls (behind self.new.conn) ≡ moments_at_calls (behind self.old.conn) }
+        ensures frames { conn_frames self.new.conn ≡ conn_frames self.old.conn }
+        ensures tickets { (tenant window : ℕ) → tickets_of_trace tenant window (conn_trace self.new.conn)
+            ≡ tickets_of_trace tenant window (conn_trace self.old.conn) }
+        ensures moments { timestamps_in (conn_trace self.new.conn) ≡ timestamps_in (conn_trace self.old.conn) }
+        ensures at_calls { timestamps_at_calls (conn_trace self.new.conn)
+            ≡ timestamps_at_calls (conn_trace self.old.conn) }
         ensures finished { self.new.finished ≡ self.old.finished }
         ensures accepted { self.new.accepted ≡ self.old.accepted }
     {

@@ -7,17 +7,17 @@ use Rattle.mrpc_base.specs.declared.clock.Clock.{Ghosts as ClockMembers}
 use Rattle.mrpc_base.specs.declared.link.Link.{Ghosts as LinkMembers}
 use Rattle.mrpc_base.specs.declared.tickets.Tickets.{Ghosts as TicketMembers}
 use Rattle.tenant_quota.specs.Drawing.{Drawing}
-use Rattle.link_queue.specs.Queueing.{Queueing}
-use Rattle.service_wiring.specs.Turning.{HasTurned, IsDone}
-use Rattle.service_wiring.specs.declared.closed.Closed.{Closed}
-use Rattle.service_threads.specs.Closings.{IsClosedOf, Item}
+use Rattle.link_queue.specs.Queueing.{QueueLinkState}
+use Rattle.service_wiring.specs.Pooling.{IsLaterEndpoint, IsRetired}
+use Rattle.service_wiring.specs.declared.closed_connection.ClosedConnection.{ClosedConnection}
+use Rattle.service_threads.specs.Closings.{IsClosedOf, ServedEndpoint}
 use Rattle.service_threads.specs.Parts.{WasClosed}
 
 module _ {C : Type 0} (of_clock : ClockMembers C) (of_quotas : TicketMembers (List Drawing))
-    (of_link : LinkMembers Queueing) where
+    (of_link : LinkMembers QueueLinkState) where
   -- each is a later state of its initial one, and finished unless it ran out of memory
-  pub all-closed : (firsts lasts : List (Item C)) (all : List Closed)
-      → AllZip (HasTurned of_clock of_quotas of_link) firsts lasts → All (IsDone of_clock of_quotas of_link) lasts
+  pub all-closed : (firsts lasts : List (ServedEndpoint C)) (all : List ClosedConnection)
+      → AllZip (IsLaterEndpoint of_clock of_quotas of_link) firsts lasts → All (IsRetired of_clock of_quotas of_link) lasts
       → AllZip (WasClosed of_clock of_quotas of_link) lasts all
       → AllZip (IsClosedOf of_clock of_quotas of_link) firsts all
   all-closed [] [] [] turned done closed = tt
@@ -30,8 +30,8 @@ module _ {C : Type 0} (of_clock : ClockMembers C) (of_quotas : TicketMembers (Li
       last = last;
       turned = turned.0;
       whole = closed.0.whole;
-      done = All-head (IsDone of_clock of_quotas of_link) last lasts done;
+      done = All-head (IsRetired of_clock of_quotas of_link) last lasts done;
       parts = closed.0.parts;
     },
-    all-closed firsts lasts all turned.1 (All-tail (IsDone of_clock of_quotas of_link) last lasts done) closed.1,
+    all-closed firsts lasts all turned.1 (All-tail (IsRetired of_clock of_quotas of_link) last lasts done) closed.1,
   )

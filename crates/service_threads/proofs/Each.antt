@@ -7,9 +7,9 @@ use Rattle.mrpc_base.specs.declared.link.Link.{Ghosts as LinkMembers}
 use Rattle.mrpc_base.specs.declared.tickets.Tickets.{Ghosts as TicketMembers}
 use Rattle.tenant_quota.specs.Drawing.{Drawing}
 use Rattle.app_stub.specs.declared.port.AppEnd.{AppEnd}
-use Rattle.link_queue.specs.Queueing.{Queueing}
+use Rattle.link_queue.specs.Queueing.{QueueLinkState}
 use Rattle.link_queue.specs.declared.writer_end.WriterEnd.{WriterEnd}
-use Rattle.service_wiring.specs.declared.closed.Closed.{Closed}
+use Rattle.service_wiring.specs.declared.closed_connection.ClosedConnection.{ClosedConnection}
 use Rattle.service_threads.specs.Closings.{AreLeft, IsLeft, Opening}
 
 -- the first of some openings were reconciled, and what is left of the others remains
@@ -39,18 +39,18 @@ zip-push Served (p ∷ os) [] o x zip here = absurd zip
 zip-push Served (p ∷ os) (y ∷ xs) o x zip here = (zip.0, zip-push Served os xs o x zip.1 here)
 
 module _ {C L : Type 0} (of_clock : ClockMembers C) (of_quotas : TicketMembers (List Drawing))
-    (of_link : LinkMembers Queueing) {g : LinkMembers L} where
+    (of_link : LinkMembers QueueLinkState) {g : LinkMembers L} where
   -- what is left of the next connection, and of the later ones
-  pub record Next (openings : List (Opening C L)) (closed : Closed) (end : AppEnd) (writer : WriterEnd L g)
-      (more : List Closed) (ends : List AppEnd) (writers : List (WriterEnd L g)) : Type 0 where
+  pub record Next (openings : List (Opening C L)) (closed : ClosedConnection) (end : AppEnd) (writer : WriterEnd L g)
+      (more : List ClosedConnection) (ends : List AppEnd) (writers : List (WriterEnd L g)) : Type 0 where
     pub o : Opening C L
     pub later : List (Opening C L)
     pub are : openings ≡ o ∷ later
     pub is_left : IsLeft of_clock of_quotas of_link o closed end writer
     pub are_left : AreLeft of_clock of_quotas of_link later more ends writers
 
-  pub next-left : (openings : List (Opening C L)) (closed : Closed) (end : AppEnd) (writer : WriterEnd L g)
-      (more : List Closed) (ends : List AppEnd) (writers : List (WriterEnd L g))
+  pub next-left : (openings : List (Opening C L)) (closed : ClosedConnection) (end : AppEnd) (writer : WriterEnd L g)
+      (more : List ClosedConnection) (ends : List AppEnd) (writers : List (WriterEnd L g))
       → AreLeft of_clock of_quotas of_link openings (closed ∷ more) (end ∷ ends) (writer ∷ writers)
       → Next openings closed end writer more ends writers
   next-left [] closed end writer more ends writers left = absurd left
@@ -58,12 +58,12 @@ module _ {C L : Type 0} (of_clock : ClockMembers C) (of_quotas : TicketMembers (
       record { o = o; later = openings; are = refl; is_left = left.0; are_left = left.1 }
 
   -- if a connection is left, an end and a writer are left with it
-  no-end : (openings : List (Opening C L)) (closed : Closed) (more : List Closed) (writers : List (WriterEnd L g))
+  no-end : (openings : List (Opening C L)) (closed : ClosedConnection) (more : List ClosedConnection) (writers : List (WriterEnd L g))
       → AreLeft of_clock of_quotas of_link openings (closed ∷ more) [] writers → ⊥
   no-end [] closed more writers left = left
   no-end (o ∷ openings) closed more writers left = left
 
-  no-writer : (openings : List (Opening C L)) (closed : Closed) (more : List Closed) (ends : List AppEnd)
+  no-writer : (openings : List (Opening C L)) (closed : ClosedConnection) (more : List ClosedConnection) (ends : List AppEnd)
       (writers : List (WriterEnd L g)) → writers ≡ []
       → AreLeft of_clock of_quotas of_link openings (closed ∷ more) ends writers → ⊥
   no-writer [] closed more ends writers none left = left
@@ -78,11 +78,11 @@ module _ {C L : Type 0} (of_clock : ClockMembers C) (of_quotas : TicketMembers (
 
   -- the next connection is reconciled after the earlier ones
   module _ {X : Type 0} (Served : Opening C L → X → Type 0) where
-    abbrev pub SoFar : List (Opening C L) → List X → List Closed → List AppEnd → List (WriterEnd L g) → Type 0
+    abbrev pub SoFar : List (Opening C L) → List X → List ClosedConnection → List AppEnd → List (WriterEnd L g) → Type 0
     SoFar openings met closed ends writers =
         MeetSome (λ rest. AreLeft of_clock of_quotas of_link rest closed ends writers) Served openings met
 
-    pub none-met : (openings : List (Opening C L)) (met : List X) (closed closed' : List Closed)
+    pub none-met : (openings : List (Opening C L)) (met : List X) (closed closed' : List ClosedConnection)
         (ends ends' : List AppEnd) (writers writers' : List (WriterEnd L g)) → met ≡ [] → closed' ≡ closed
         → ends' ≡ ends → writers' ≡ writers → AreLeft of_clock of_quotas of_link openings closed ends writers
         → SoFar openings met closed' ends' writers'
@@ -96,21 +96,21 @@ module _ {C L : Type 0} (of_clock : ClockMembers C) (of_quotas : TicketMembers (
           (subst (λ ws. AreLeft of_clock of_quotas of_link openings closed ends ws) (sym same-writers) left));
     }
 
-    pub some-end : (openings : List (Opening C L)) (met : List X) (one : Closed) (closed closed' : List Closed)
+    pub some-end : (openings : List (Opening C L)) (met : List X) (one : ClosedConnection) (closed closed' : List ClosedConnection)
         (ends : List AppEnd) (writers : List (WriterEnd L g)) → closed ≡ one ∷ closed' → ends ≡ []
         → SoFar openings met closed ends writers → ⊥
     some-end openings met one closed closed' ends writers same none h = no-end h.rest one closed' writers
         (subst (λ cs. AreLeft of_clock of_quotas of_link h.rest cs [] writers) same
         (subst (λ es. AreLeft of_clock of_quotas of_link h.rest closed es writers) none h.left))
 
-    pub some-writer : (openings : List (Opening C L)) (met : List X) (one : Closed) (closed closed' : List Closed)
+    pub some-writer : (openings : List (Opening C L)) (met : List X) (one : ClosedConnection) (closed closed' : List ClosedConnection)
         (ends : List AppEnd) (writers : List (WriterEnd L g)) → closed ≡ one ∷ closed' → writers ≡ []
         → SoFar openings met closed ends writers → ⊥
     some-writer openings met one closed closed' ends writers same none h = no-writer h.rest one closed' ends writers none
         (subst (λ cs. AreLeft of_clock of_quotas of_link h.rest cs ends writers) same h.left)
 
-    pub next-of : (openings : List (Opening C L)) (met : List X) (one : Closed) (end : AppEnd)
-        (writer : WriterEnd L g) (closed closed' : List Closed) (ends ends' : List AppEnd)
+    pub next-of : (openings : List (Opening C L)) (met : List X) (one : ClosedConnection) (end : AppEnd)
+        (writer : WriterEnd L g) (closed closed' : List ClosedConnection) (ends ends' : List AppEnd)
         (writers writers' : List (WriterEnd L g)) → closed ≡ one ∷ closed' → ends ≡ end ∷ ends'
         → writers ≡ writer ∷ writers' → (h : SoFar openings met closed ends writers)
         → Next h.rest one end writer closed' ends' writers'
@@ -120,8 +120,8 @@ module _ {C L : Type 0} (of_clock : ClockMembers C) (of_quotas : TicketMembers (
         (subst (λ es. AreLeft of_clock of_quotas of_link h.rest closed es (writer ∷ writers')) same-ends
         (subst (λ ws. AreLeft of_clock of_quotas of_link h.rest closed ends ws) same-writers h.left)))
 
-    pub one-more : (openings : List (Opening C L)) (met met' : List X) (one : Closed) (end : AppEnd)
-        (writer : WriterEnd L g) (x : X) (closed closed' : List Closed) (ends ends' : List AppEnd)
+    pub one-more : (openings : List (Opening C L)) (met met' : List X) (one : ClosedConnection) (end : AppEnd)
+        (writer : WriterEnd L g) (x : X) (closed closed' : List ClosedConnection) (ends ends' : List AppEnd)
         (writers writers' : List (WriterEnd L g)) → closed ≡ one ∷ closed' → ends ≡ end ∷ ends'
         → writers ≡ writer ∷ writers' → met' ≡ met ++ x ∷ []
         → ((o : Opening C L) → IsLeft of_clock of_quotas of_link o one end writer → Served o x)
@@ -139,7 +139,7 @@ module _ {C L : Type 0} (of_clock : ClockMembers C) (of_quotas : TicketMembers (
           left = next.are_left;
         }
 
-    pub all-met : (openings : List (Opening C L)) (met : List X) (closed : List Closed) (ends : List AppEnd)
+    pub all-met : (openings : List (Opening C L)) (met : List X) (closed : List ClosedConnection) (ends : List AppEnd)
         (writers : List (WriterEnd L g)) → closed ≡ [] → SoFar openings met closed ends writers
         → AllZip Served openings met
     all-met openings met closed ends writers none h =

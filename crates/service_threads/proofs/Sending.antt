@@ -32,13 +32,13 @@ use Rattle.chain_upgrade.proofs.cuts.Cuts.TheSendSync as cuts
 use Rattle.chain_upgrade.specs.contracts.chain.Chain as Chain
 use Rattle.chain_upgrade.specs.contracts.chain.Chain.TheInside as ChainInside
 use Rattle.graph_form.proofs.reason.Reason.TheSendSync as reason
-use Rattle.call_history.proofs.record.Refusal.TheSendSync as refusal
+use Rattle.call_history.proofs.record.RecordedCause.TheSendSync as refusal
 use Rattle.call_history.specs.contracts.happening.TookCopy as TookCopy
-use Rattle.call_history.specs.contracts.happening.Taken as Taken
-use Rattle.call_history.specs.contracts.record.Record as Record
+use Rattle.call_history.specs.contracts.happening.AcceptedCall as Taken
+use Rattle.call_history.specs.contracts.record.HistoryRecord as Record
 use Rattle.call_history.specs.contracts.history.History as History
 use Rattle.call_history.specs.contracts.history.History.TheInside as HistoryInside
-use Rattle.wire_encode.proofs.output.Output.TheSendSync as output
+use Rattle.wire_encode.proofs.backward_buffer.BackwardBuffer.TheSendSync as output
 use Rattle.conn_core.specs.contracts.conn.Conn as Conn
 use Rattle.conn_core.specs.contracts.conn.Conn.TheInside as ConnInside
 use Rattle.shared_heap.proofs.reader.Reader.TheSendSync as reader
@@ -50,19 +50,19 @@ use Rattle.receive_heap.proofs.extents.Extents.TheSendSync as extents
 use Rattle.receive_core.proofs.arrival.DropCause.TheSendSync as cause
 use Rattle.receive_core.specs.contracts.inbound.Inbound as Inbound
 use Rattle.receive_core.specs.contracts.inbound.Inbound.TheInside as InboundInside
-use Rattle.receive_core.specs.contracts.opened.Opened as Opened
-use Rattle.message_delivery.proofs.arrivals.Stream.TheSendSync as stream
+use Rattle.receive_core.specs.contracts.decoded.DecodedCall as Opened
+use Rattle.message_delivery.proofs.arrivals.StreamState.TheSendSync as stream
 use Rattle.message_delivery.proofs.notices.Notices.TheSendSync as notices
 use Rattle.message_delivery.proofs.reclaims.Reclaims.TheSendSync as reclaims
 use Rattle.message_delivery.specs.contracts.arrivals.ArrivalLine as ArrivalLine
 use Rattle.message_delivery.specs.contracts.arrivals.Arrivals as Arrivals
-use Rattle.service_loop.proofs.due_step.DueStep.TheSendSync as due
-use Rattle.service_loop.proofs.share.Share.TheSendSync as share
+use Rattle.service_loop.proofs.scheduled_op.ScheduledOp.TheSendSync as due
+use Rattle.service_loop.proofs.visit_account.VisitAccount.TheSendSync as share
 use Rattle.service_loop.specs.contracts.submissions.Submissions as Submissions
 use Rattle.service_loop.specs.contracts.delivering.Deliveries as Deliveries
 use Rattle.service_loop.specs.contracts.endpoint.Endpoint as Endpoint
-use Rattle.service_wiring.specs.contracts.turned.Turned as Turned
-use Rattle.service_wiring.specs.contracts.turned.Turned.TheInside as TurnedInside
+use Rattle.service_wiring.specs.contracts.pooled_connection.PooledConnection as Turned
+use Rattle.service_wiring.specs.contracts.pooled_connection.PooledConnection.TheInside as TurnedInside
 
 word : (w : Width) → IsSend (as_row (uint_field w))
 word w = as_row_send (uint_field w) (plain_send _ _ _ _ _)

@@ -3,8 +3,8 @@ use Rattle.std.proofs.Common.{◌≡◌, ℕ, List, [], ◌∷◌, ◌++◌, Som
 use Rattle.std.specs.Prelude.{All}
 use Rattle.std.proofs.lemmas.List.{get_or_append_left}
 use Rattle.std.specs.List.{AllZip}
-use Rattle.tenant_quota.specs.Drawing.{AreLater, Drawing, all_together, drawn_by, kept_half, new_half, shares_of}
-use Rattle.service_threads.specs.Joining.{SplitInto, all_joined, all_told}
+use Rattle.tenant_quota.specs.Drawing.{AreLater, Drawing, all_after_join, tickets_of_tenant, kept_half, new_half, shares_of}
+use Rattle.service_threads.specs.Joining.{IsSeatSplit, all_joined, joined_tickets}
 
 -- what holds of each of some seats holds of those before the last
 pub all-front : (P : List Drawing → Type 0) (front : List (List Drawing)) (last : List Drawing)
@@ -15,15 +15,15 @@ all-front P front last whole same all = λ k d less.
 
 -- the last one is joined first
 pub joined-last : (seats : List Drawing) (others : List (List Drawing)) (last : List Drawing)
-    → all_joined seats (others ++ last ∷ []) ≡ all_joined (all_together seats last) others
+    → all_joined seats (others ++ last ∷ []) ≡ all_joined (all_after_join seats last) others
 joined-last seats [] last = refl
-joined-last seats (own ∷ others) last = ap (λ s. all_together s own) (joined-last seats others last)
+joined-last seats (own ∷ others) last = ap (λ s. all_after_join s own) (joined-last seats others last)
 
-module _ (halves : (seats : List Drawing) → all_together (map kept_half seats) (map new_half seats) ≡ seats)
+module _ (halves : (seats : List Drawing) → all_after_join (map kept_half seats) (map new_half seats) ≡ seats)
     (shares : (old new others later : List Drawing) → shares_of new ≡ shares_of old → shares_of later ≡ shares_of others
-    → shares_of (all_together new later) ≡ shares_of (all_together old others))
+    → shares_of (all_after_join new later) ≡ shares_of (all_after_join old others))
     (later_shares : (old new : List Drawing) → AreLater old new → shares_of new ≡ shares_of old) where
-  pub joined-shares : (whole rest : List Drawing) (owns laters : List (List Drawing)) → SplitInto whole owns rest
+  pub joined-shares : (whole rest : List Drawing) (owns laters : List (List Drawing)) → IsSeatSplit whole owns rest
       → AllZip AreLater owns laters → shares_of (all_joined rest laters) ≡ shares_of whole
   joined-shares whole rest [] [] split zip = ap shares_of split
   joined-shares whole rest [] (later ∷ laters) split zip = absurd zip
@@ -35,15 +35,15 @@ module _ (halves : (seats : List Drawing) → all_together (map kept_half seats)
       ∙ ap shares_of (halves whole)
 
 module _ (drawn : (seats others : List Drawing) (tenant window : ℕ) (mine theirs : List ℕ)
-    → drawn_by seats tenant window ≡ Some mine → drawn_by others tenant window ≡ Some theirs
-    → drawn_by (all_together seats others) tenant window ≡ Some (mine ++ theirs)) where
+    → tickets_of_tenant seats tenant window ≡ Some mine → tickets_of_tenant others tenant window ≡ Some theirs
+    → tickets_of_tenant (all_after_join seats others) tenant window ≡ Some (mine ++ theirs)) where
   pub joined-drawn : (tenant window : ℕ) (seats : List Drawing) (before : List ℕ) (others : List (List Drawing))
-      (told : List (List ℕ)) → drawn_by seats tenant window ≡ Some before
-      → AllZip (λ own tickets. drawn_by own tenant window ≡ Some tickets) others told
-      → drawn_by (all_joined seats others) tenant window ≡ Some (all_told before told)
+      (told : List (List ℕ)) → tickets_of_tenant seats tenant window ≡ Some before
+      → AllZip (λ own tickets. tickets_of_tenant own tenant window ≡ Some tickets) others told
+      → tickets_of_tenant (all_joined seats others) tenant window ≡ Some (joined_tickets before told)
   joined-drawn tenant window seats before [] [] is zip = is
   joined-drawn tenant window seats before [] (tickets ∷ told) is zip = absurd zip
   joined-drawn tenant window seats before (own ∷ others) [] is zip = absurd zip
   joined-drawn tenant window seats before (own ∷ others) (tickets ∷ told) is zip =
-      drawn (all_joined seats others) own tenant window (all_told before told) tickets
+      drawn (all_joined seats others) own tenant window (joined_tickets before told) tickets
       (joined-drawn tenant window seats before others told is zip.1) zip.0

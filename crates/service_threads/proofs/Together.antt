@@ -6,22 +6,22 @@ use Rattle.std.specs.Prelude.{All, IfSome, IsSomeAnd, IsPermutation, option_to_l
 use Rattle.std.specs.List.{AllZip}
 use Rattle.std.proofs.lemmas.List.{append_cancel_left}
 use mathlib.Core.List.{IsPrefix}
-use Rattle.mrpc_base.specs.Faults.{Rose}
+use Rattle.mrpc_base.specs.Failures.{HasRisen}
 use Rattle.mrpc_base.specs.declared.clock.Clock.{Ghosts as ClockMembers}
 use Rattle.mrpc_base.specs.declared.link.Link.{Ghosts as LinkMembers}
 use Rattle.mrpc_base.specs.declared.tickets.Tickets.{Ghosts as TicketMembers}
 use Rattle.mrpc_base.specs.declared.tickets.TheConstants.{WINDOWS}
 use Rattle.mrpc_table.specs.declared.table.Table.{Table}
-use Rattle.call_history.specs.Frames.{frames_behind}
-use Rattle.call_history.specs.Tickets.{tickets_behind}
-use Rattle.conn_core.specs.Connections.{Connection, behind, frames}
-use Rattle.conn_core.specs.Steps.{Draws}
-use Rattle.tenant_quota.specs.Drawing.{AreLater, Drawing, drawn_by}
-use Rattle.message_delivery.specs.Arriving.{AreSame, HasAll, HaveLived}
-use Rattle.message_delivery.specs.Telling.{IsReclaiming, IsTelling, TellsOf, notices_of, numbers_of}
-use Rattle.message_delivery.specs.declared.arrivals.Stream.TheVariants.{Ended}
+use Rattle.call_history.specs.Frames.{frames_of_trace}
+use Rattle.call_history.specs.Tickets.{tickets_of_trace}
+use Rattle.conn_core.specs.Connections.{Connection, conn_trace, conn_frames}
+use Rattle.conn_core.specs.ConnectionSteps.{HasDrawnInWindow}
+use Rattle.tenant_quota.specs.Drawing.{AreLater, Drawing, tickets_of_tenant}
+use Rattle.message_delivery.specs.Arriving.{HaveSameIdentity, IsComplete, IsArrivalTrace}
+use Rattle.message_delivery.specs.Noticing.{IsReclaiming, AreNoticesOf, IsNoticeOf, notices_of, sent_numbers}
+use Rattle.message_delivery.specs.declared.arrivals.StreamState.TheVariants.{Ended}
 use Rattle.shared_heap.specs.Fresh.{HeapId}
-use Rattle.message_delivery.specs.declared.arrivals.Delivered.{Delivered}
+use Rattle.message_delivery.specs.declared.arrivals.PlacedMessage.{PlacedMessage}
 use Rattle.message_delivery.specs.declared.notices.Notices.{Notices}
 use Rattle.run_plan.specs.declared.application.Role.{Role}
 use Rattle.run_plan.specs.declared.application.Role.TheVariants as role
@@ -30,18 +30,18 @@ use Rattle.app_stub.specs.Serving.{submission_of}
 use Rattle.app_stub.specs.declared.port.AppEnd.{AppEnd}
 use Rattle.app_stub.specs.declared.port.AppPort.{AppPort}
 use Rattle.app_stub.specs.declared.port.AppSent.{AppSent}
-use Rattle.link_queue.specs.Known.{TellsMore}
-use Rattle.link_queue.specs.Queueing.{Queueing}
-use Rattle.link_queue.specs.Writers.{start_of}
+use Rattle.link_queue.specs.Known.{HasGrownBy}
+use Rattle.link_queue.specs.Queueing.{QueueLinkState}
+use Rattle.link_queue.specs.Writers.{inner_start_of}
 use Rattle.link_queue.specs.declared.writer_end.WriterEnd.{WriterEnd}
-use Rattle.service_loop.specs.Calls.{moments_at_calls, moments_in}
-use Rattle.service_loop.specs.Delivering.{HaveGoneOn, held_numbers, message_blocks, messages_of}
-use Rattle.service_loop.specs.Rounds.{GoesOn, IsOver, IsWhole, weight_of_share}
-use Rattle.service_wiring.specs.Applications.{Did, HasDone}
-use Rattle.service_wiring.specs.declared.closed.Closed.{Closed}
+use Rattle.service_loop.specs.Calls.{timestamps_at_calls, timestamps_in}
+use Rattle.service_loop.specs.Delivering.{HaveAdvanced, held_numbers, message_blocks, placed_messages_of}
+use Rattle.service_loop.specs.Rounds.{HasAdvanced, IsFinished, IsConsistent, weight_of_visits}
+use Rattle.service_wiring.specs.Applications.{HasRunRole, HasCompleted}
+use Rattle.service_wiring.specs.declared.closed_connection.ClosedConnection.{ClosedConnection}
 use Rattle.service_threads.specs.Closings.{IsLeft, Opening}
-use Rattle.service_threads.specs.Parts.{HasMet, HasPassed}
-use Rattle.service_threads.specs.Served.{Arrived, DidAs, HasServed, WasDelivered, WasHanded, echo_on}
+use Rattle.service_threads.specs.Parts.{AreReconciled, HasPassed}
+use Rattle.service_threads.specs.Served.{HasArrivedFrom, HasRunAs, HasServed, WasDelivered, WasHanded, echo_on}
 use Rattle.service_threads.specs.declared.served.BoundConn.{BoundConn}
 use Rattle.service_threads.proofs.Accounts.{account-of}
 use Rattle.service_threads.proofs.BeforeMeeting.{goes-on, on-some, over-is, share-is, whole-is}
@@ -59,11 +59,11 @@ nothing-more front rest same = sym (append_cancel_left front [] rest (append-nil
 -- ---- the application
 
 did-as : {F : Type 0} (r : Role) (T : Table) (port : AppPort F) (end : AppEnd) (sent : AppSent) (e : Echo)
-    (b : BoundConn) → Did r T port end sent → b.note ≡ end.note → b.reader ≡ end.reader
+    (b : BoundConn) → HasRunRole r T port end sent → b.note ≡ end.note → b.reader ≡ end.reader
     → b.notices.taken ≡ end.notices.taken → b.blocks.taken ≡ end.blocks.taken
     → b.submissions.calls.taken ≡ sent.calls.items → b.reclaims.numbers.taken ≡ sent.reclaims.items
     → e ≡ record { table = T; heap = port.writer.heap.words; receive = port.reader.heap.words; ring = port.capacity }
-    → DidAs r e b
+    → HasRunAs r e b
 did-as (role.Client program) T port end sent e b did note reader notices blocks calls returned echo = record {
   stored = ap (λ n. n.stores) note ∙ did.stores;
   submitted = ap (λ xs. map submission_of xs) calls ∙ did.sent.calls;
@@ -80,42 +80,42 @@ did-as role.Echo T port end sent e b did note reader notices blocks calls return
 -- ---- notices
 
 -- if nothing is pending and no number is owed, each message was sent, with its number
-all-told : (heap : HeapId) (placed : List Delivered) (n : Notices) → IsTelling heap placed n → n.waiting.items ≡ []
-    → n.owed ≡ None → AllZip TellsOf placed (notices_of n) × (numbers_of n ≡ message_blocks placed)
+all-told : (heap : HeapId) (placed : List PlacedMessage) (n : Notices) → AreNoticesOf heap placed n → n.waiting.items ≡ []
+    → n.owed ≡ None → AllZip IsNoticeOf placed (notices_of n) × (sent_numbers n ≡ message_blocks placed)
 all-told heap placed n h waiting owed =
     let same : placed ≡ h.past = h.all ∙ ap (λ xs. h.past ++ xs) waiting ∙ append-nil h.past in (
-      subst (λ xs. AllZip TellsOf xs (notices_of n)) (sym same) h.told,
-      sym (append-nil (numbers_of n)) ∙ sym (ap (λ o. numbers_of n ++ option_to_list o) owed) ∙ sym h.numbers
+      subst (λ xs. AllZip IsNoticeOf xs (notices_of n)) (sym same) h.told,
+      sym (append-nil (sent_numbers n)) ∙ sym (ap (λ o. sent_numbers n ++ option_to_list o) owed) ∙ sym h.numbers
           ∙ sym (ap (λ xs. message_blocks xs) same),
     )
 
 -- ---- tickets
 
 drawn-so : (tenant window : ℕ) (before after : Connection) (told told' : Option (List ℕ)) (earlier now : List ℕ)
-    → told ≡ Some earlier → told' ≡ Some now → tickets_behind tenant window (behind before) ≡ []
-    → Draws tenant window before after told told'
-    → told' ≡ Some (earlier ++ tickets_behind tenant window (behind after))
+    → told ≡ Some earlier → told' ≡ Some now → tickets_of_trace tenant window (conn_trace before) ≡ []
+    → HasDrawnInWindow tenant window before after told told'
+    → told' ≡ Some (earlier ++ tickets_of_trace tenant window (conn_trace after))
 drawn-so tenant window before after told told' earlier now is is' none draws =
     let d = subst (λ o. IsSomeAnd o (λ earlier. (more : List ℕ)
-    × (tickets_behind tenant window (behind after) ≡ tickets_behind tenant window (behind before) ++ more)
+    × (tickets_of_trace tenant window (conn_trace after) ≡ tickets_of_trace tenant window (conn_trace before) ++ more)
     × (now ≡ earlier ++ more))) is
     (subst (λ o'. IfSome o' (λ now. IsSomeAnd told (λ earlier. (more : List ℕ)
-    × (tickets_behind tenant window (behind after) ≡ tickets_behind tenant window (behind before) ++ more)
+    × (tickets_of_trace tenant window (conn_trace after) ≡ tickets_of_trace tenant window (conn_trace before) ++ more)
     × (now ≡ earlier ++ more)))) is' draws) in
     is' ∙ ap Some (d.2 ∙ ap (λ xs. earlier ++ xs) (sym (d.1 ∙ ap (λ xs. xs ++ d.0) none)))
 
 -- ---- frames
 
-frames-none : (c : Connection) → c.happenings ≡ [] → frames c ≡ []
-frames-none c none = ap (λ h. frames_behind c.table c.conn (reverse h)) none
+frames-none : (c : Connection) → c.happenings ≡ [] → conn_frames c ≡ []
+frames-none c none = ap (λ h. frames_of_trace c.table c.conn (reverse h)) none
 
 tickets-none : (tenant window : ℕ) (c : Connection) → c.happenings ≡ []
-    → tickets_behind tenant window (behind c) ≡ []
-tickets-none tenant window c none = ap (λ h. tickets_behind tenant window (reverse h)) none
+    → tickets_of_trace tenant window (conn_trace c) ≡ []
+tickets-none tenant window c none = ap (λ h. tickets_of_trace tenant window (reverse h)) none
 
 -- ---- failures
 
-rose-counts : (x y : ℕ) → x ≡ 0 → Rose x y → 0 < y
+rose-counts : (x y : ℕ) → x ≡ 0 → HasRisen x y → 0 < y
 rose-counts x y none (inl less) = omega arith
 rose-counts x y none (inr most) = omega arith
 
@@ -134,39 +134,39 @@ works-if false ended ends is = refl
 -- ---- everything together
 
 module _ {C L : Type 0} {of_clock : ClockMembers C} {of_quotas : TicketMembers (List Drawing)}
-    {of_link : LinkMembers Queueing} {g : LinkMembers L} (o : Opening C L) (closed : Closed) (end : AppEnd)
+    {of_link : LinkMembers QueueLinkState} {g : LinkMembers L} (o : Opening C L) (closed : ClosedConnection) (end : AppEnd)
     (w : WriterEnd L g) (left : IsLeft of_clock of_quotas of_link o closed end w) (queue : IsQueue of_link)
     (quotas : AreSeats of_quotas) (memory : closed.memory ≡ false) (sent : AppSent) (is : end.sent ≡ Some sent)
-    (failed : Bool) (now : L) (passed : HasPassed g (start_of w) closed.passed failed now) (b : BoundConn)
-    (met : HasMet closed.submissions closed.deliveries closed.share end sent failed b) where
-  on : GoesOn of_clock of_quotas of_link left.first left.closed_of.last
+    (failed : Bool) (now : L) (passed : HasPassed g (inner_start_of w) closed.passed failed now) (b : BoundConn)
+    (met : AreReconciled closed.submissions closed.deliveries closed.share end sent failed b) where
+  on : HasAdvanced of_clock of_quotas of_link left.first left.closed_of.last
   on = goes-on o closed end w left queue memory
 
-  whole : IsWhole of_clock of_quotas of_link left.closed_of.last
+  whole : IsConsistent of_clock of_quotas of_link left.closed_of.last
   whole = whole-is o closed end w left queue memory
 
-  over : IsOver of_clock of_quotas of_link left.closed_of.last
+  over : IsFinished of_clock of_quotas of_link left.closed_of.last
   over = over-is o closed end w left queue memory
 
   -- ---- the connection
 
-  frames-same : frames b.submissions.conn ≡ frames left.closed_of.last.submissions.conn
-  frames-same = ap frames met.knows.conn ∙ met.fails.frames ∙ ap (λ s. frames s.conn) left.closed_of.parts.submissions
+  frames-same : conn_frames b.submissions.conn ≡ conn_frames left.closed_of.last.submissions.conn
+  frames-same = ap conn_frames met.knows.conn ∙ met.fails.frames ∙ ap (λ s. conn_frames s.conn) left.closed_of.parts.submissions
 
-  tickets-same : (tenant window : ℕ) → tickets_behind tenant window (behind b.submissions.conn)
-      ≡ tickets_behind tenant window (behind left.closed_of.last.submissions.conn)
-  tickets-same tenant window = ap (λ c. tickets_behind tenant window (behind c)) met.knows.conn
+  tickets-same : (tenant window : ℕ) → tickets_of_trace tenant window (conn_trace b.submissions.conn)
+      ≡ tickets_of_trace tenant window (conn_trace left.closed_of.last.submissions.conn)
+  tickets-same tenant window = ap (λ c. tickets_of_trace tenant window (conn_trace c)) met.knows.conn
       ∙ met.fails.tickets tenant window
-      ∙ ap (λ s. tickets_behind tenant window (behind s.conn)) left.closed_of.parts.submissions
+      ∙ ap (λ s. tickets_of_trace tenant window (conn_trace s.conn)) left.closed_of.parts.submissions
 
-  moments-same : moments_in (behind b.submissions.conn) ≡ moments_in (behind left.closed_of.last.submissions.conn)
-  moments-same = ap (λ c. moments_in (behind c)) met.knows.conn ∙ met.fails.moments
-      ∙ ap (λ s. moments_in (behind s.conn)) left.closed_of.parts.submissions
+  moments-same : timestamps_in (conn_trace b.submissions.conn) ≡ timestamps_in (conn_trace left.closed_of.last.submissions.conn)
+  moments-same = ap (λ c. timestamps_in (conn_trace c)) met.knows.conn ∙ met.fails.moments
+      ∙ ap (λ s. timestamps_in (conn_trace s.conn)) left.closed_of.parts.submissions
 
-  at-calls-same : moments_at_calls (behind b.submissions.conn)
-      ≡ moments_at_calls (behind left.closed_of.last.submissions.conn)
-  at-calls-same = ap (λ c. moments_at_calls (behind c)) met.knows.conn ∙ met.fails.at_calls
-      ∙ ap (λ s. moments_at_calls (behind s.conn)) left.closed_of.parts.submissions
+  at-calls-same : timestamps_at_calls (conn_trace b.submissions.conn)
+      ≡ timestamps_at_calls (conn_trace left.closed_of.last.submissions.conn)
+  at-calls-same = ap (λ c. timestamps_at_calls (conn_trace c)) met.knows.conn ∙ met.fails.at_calls
+      ∙ ap (λ s. timestamps_at_calls (conn_trace s.conn)) left.closed_of.parts.submissions
 
   clock-same : left.closed_of.last.clock.now ≡ o.begun.clock
   clock-same = left.closed_of.turned.same.clock ∙ left.conn.its_clock
@@ -176,9 +176,9 @@ module _ {C L : Type 0} {of_clock : ClockMembers C} {of_quotas : TicketMembers (
   learnt : left.closed_of.last.submissions.conn.ended ≡ true → failed ≡ true
   learnt ended =
       let rose = on.cause.rose (left.conn.working, ended) in
-      let counts = rose-counts (of_link.faults left.first.link) (of_link.faults left.closed_of.last.link)
-      (queue.faults left.first.link ∙ left.faults) rose in
-      passed.learnt (left.closed_of.parts.counted (subst (λ n. 0 < n) (queue.faults left.closed_of.last.link) counts))
+      let counts = rose-counts (of_link.failures left.first.link) (of_link.failures left.closed_of.last.link)
+      (queue.failures left.first.link ∙ left.failures) rose in
+      passed.learnt (left.closed_of.parts.counted (subst (λ n. 0 < n) (queue.failures left.closed_of.last.link) counts))
 
   ended-when : failed ≡ true → b.submissions.conn.ended ≡ true
   ended-when fails = ap (λ c. c.ended) met.knows.conn ∙ met.fails.ends fails
@@ -197,7 +197,7 @@ module _ {C L : Type 0} {of_clock : ClockMembers C} {of_quotas : TicketMembers (
 
   -- ---- what was sent
 
-  all-handed : closed.passed.handed ≡ frames b.submissions.conn
+  all-handed : closed.passed.handed ≡ conn_frames b.submissions.conn
   all-handed =
       let first = left.first in
       let last = left.closed_of.last in
@@ -215,7 +215,7 @@ module _ {C L : Type 0} {of_clock : ClockMembers C} {of_quotas : TicketMembers (
 
   -- ---- arrivals
 
-  gone : HaveGoneOn o.begun.life [] [] (of_link.given left.first.link) (of_link.given left.closed_of.last.link)
+  gone : HaveAdvanced o.begun.life [] [] (of_link.given left.first.link) (of_link.given left.closed_of.last.link)
       left.closed_of.last.deliveries
   gone = on.delivers o.begun.life [] [] left.conn.delivered
 
@@ -233,11 +233,11 @@ module _ {C L : Type 0} {of_clock : ClockMembers C} {of_quotas : TicketMembers (
   arrivals-same : b.arrivals ≡ left.closed_of.last.deliveries.arrivals
   arrivals-same = met.arrivals ∙ ap (λ d. d.arrivals) left.closed_of.parts.deliveries
 
-  same-arrivals : AreSame o.begun.arrivals b.arrivals
+  same-arrivals : HaveSameIdentity o.begun.arrivals b.arrivals
   same-arrivals =
       let first = left.conn.same in
       let last = left.closed_of.turned.same.deliveries.arrivals in
-      subst (λ a. AreSame o.begun.arrivals a) (sym arrivals-same) (record {
+      subst (λ a. HaveSameIdentity o.begun.arrivals a) (sym arrivals-same) (record {
         table = last.table ∙ first.table;
         policy = last.policy ∙ first.policy;
         conn = last.conn ∙ first.conn;
@@ -250,21 +250,21 @@ module _ {C L : Type 0} {of_clock : ClockMembers C} {of_quotas : TicketMembers (
       let last = left.closed_of.last in
       let there = gone.delivered in
       let ended = there.closed (inl over.notices) in
-      let told = all-told last.deliveries.arrivals.writer.heap (messages_of gone.later.fates) last.deliveries.notices
+      let told = all-told last.deliveries.arrivals.writer.heap (placed_messages_of gone.later.fates) last.deliveries.notices
       there.told ended.waiting ended.owed in
       record {
         later = gone.later;
         lives = gone.lives;
         numbers = gone.more;
         back = gone.gained;
-        lived = subst (λ a. HaveLived gone.later a) (sym arrivals-same) there.lived;
-        all = subst (λ a. HasAll a) (sym arrivals-same) ended.all;
-        told = subst (λ xs. AllZip TellsOf (messages_of gone.later.fates) xs)
+        lived = subst (λ a. IsArrivalTrace gone.later a) (sym arrivals-same) there.lived;
+        all = subst (λ a. IsComplete a) (sym arrivals-same) ended.all;
+        told = subst (λ xs. AllZip IsNoticeOf (placed_messages_of gone.later.fates) xs)
             (sym (met.notices ∙ met.told ∙ ap (λ d. notices_of d.notices) left.closed_of.parts.deliveries)) told.0;
-        blocks = met.blocks ∙ met.numbers ∙ ap (λ d. numbers_of d.notices) left.closed_of.parts.deliveries ∙ told.1;
+        blocks = met.blocks ∙ met.numbers ∙ ap (λ d. sent_numbers d.notices) left.closed_of.parts.deliveries ∙ told.1;
         returned = met.reclaiming gone.more gone.gained
             (subst (λ d. IsReclaiming gone.more gone.gained d.reclaims) (sym left.closed_of.parts.deliveries) there.returned);
-        held = subst (λ a. IsPermutation (message_blocks (messages_of gone.later.fates))
+        held = subst (λ a. IsPermutation (message_blocks (placed_messages_of gone.later.fates))
             (held_numbers a.inbound.heap.held ++ gone.gained)) (sym arrivals-same) there.held;
       }
 
@@ -274,12 +274,12 @@ module _ {C L : Type 0} {of_clock : ClockMembers C} {of_quotas : TicketMembers (
       left.closed_of.parts.ended ∙ sym (queue.ended last.link)
       ∙ whole.finished (sym (ap (λ a. a.stream) arrivals-same) ∙ ended)
 
-  arrived : Arrived g o now b
+  arrived : HasArrivedFrom g o now b
   arrived = record {
     piece = gone.piece;
     rest = rest-is.0;
-    came = subst (λ l. TellsMore (g.given l) (g.given now) (gone.piece ++ rest-is.0)) left.start
-        (subst (λ bytes. TellsMore (g.given (start_of w)) (g.given now) bytes) rest-is.1 passed.given);
+    came = subst (λ l. HasGrownBy (g.given l) (g.given now) (gone.piece ++ rest-is.0)) left.start
+        (subst (λ bytes. HasGrownBy (g.given (inner_start_of w)) (g.given now) bytes) rest-is.1 passed.given);
     delivered = was-delivered;
     whole = λ ended. nothing-more gone.piece rest-is.0
         (sym given-is ∙ passed.all_came (queue-ended ended) ∙ rest-is.1);
@@ -298,8 +298,8 @@ module _ {C L : Type 0} {of_clock : ClockMembers C} {of_quotas : TicketMembers (
       (left.closed_of.turned.same.tickets first.tickets (quotas.itself first.tickets))))
 
   were-drawn : (tenant window : ℕ) (earlier : List ℕ) → tenant < length o.begun.seats → window < WINDOWS
-      → drawn_by o.begun.seats tenant window ≡ Some earlier → drawn_by closed.seats tenant window
-      ≡ Some (earlier ++ tickets_behind tenant window (behind b.submissions.conn))
+      → tickets_of_tenant o.begun.seats tenant window ≡ Some earlier → tickets_of_tenant closed.seats tenant window
+      ≡ Some (earlier ++ tickets_of_trace tenant window (conn_trace b.submissions.conn))
   were-drawn tenant window earlier known within told =
       let first = left.first in
       let last = left.closed_of.last in
@@ -308,11 +308,11 @@ module _ {C L : Type 0} {of_clock : ClockMembers C} {of_quotas : TicketMembers (
       let too = told-later o.begun.seats closed.seats tenant window earlier seats-later told in
       let shown = drawn-so tenant window first.submissions.conn last.submissions.conn
       (of_quotas.drawn first.tickets tenant window) (of_quotas.drawn last.tickets tenant window) earlier too.0
-      (quotas.drawn first.tickets tenant window ∙ ap (λ seats. drawn_by seats tenant window) left.conn.its_seats ∙ told)
+      (quotas.drawn first.tickets tenant window ∙ ap (λ seats. tickets_of_tenant seats tenant window) left.conn.its_seats ∙ told)
       (quotas.drawn last.tickets tenant window
-      ∙ sym (ap (λ seats. drawn_by seats tenant window) left.closed_of.parts.seats) ∙ too.1)
+      ∙ sym (ap (λ seats. tickets_of_tenant seats tenant window) left.closed_of.parts.seats) ∙ too.1)
       (tickets-none tenant window first.submissions.conn left.conn.nothing) drew in
-      ap (λ seats. drawn_by seats tenant window) left.closed_of.parts.seats
+      ap (λ seats. tickets_of_tenant seats tenant window) left.closed_of.parts.seats
       ∙ sym (quotas.drawn last.tickets tenant window) ∙ shown
       ∙ ap (λ xs. Some (earlier ++ xs)) (sym (tickets-same tenant window))
 
@@ -322,7 +322,7 @@ module _ {C L : Type 0} {of_clock : ClockMembers C} {of_quotas : TicketMembers (
       let conn = left.conn in
       let job = left.app_job in
       let same = c.turned.same.submissions.conn in
-      let done = on-some (HasDone left.job end) end.sent sent is left.end_of.done in
+      let done = on-some (HasCompleted left.job end) end.sent sent is left.end_of.done in
       record {
         number = ap (λ c. c.conn) met.knows.conn ∙ met.fails.same.conn.conn ∙ ap (λ s. s.conn.conn) c.parts.submissions
             ∙ same.conn ∙ conn.number;
@@ -331,28 +331,28 @@ module _ {C L : Type 0} {of_clock : ClockMembers C} {of_quotas : TicketMembers (
         limit = ap (λ c. c.limit) met.knows.conn ∙ met.fails.same.conn.limit ∙ ap (λ s. s.conn.limit) c.parts.submissions
             ∙ same.limit ∙ conn.limit;
         steps = met.knows.steps ∙ met.fails.same.steps ∙ ap (λ s. s.steps.now) c.parts.submissions
-            ∙ c.turned.same.submissions.steps ∙ conn.its_steps;
+            ∙ c.turned.same.submissions.steps ∙ conn.its_scheduled;
         served = met.knows.served;
         finished = met.knows.finished ∙ met.fails.finished ∙ ap (λ s. s.finished) c.parts.submissions ∙ over.finished;
         known = met.knows.known ∙ sym (ap (λ n. n.stores) met.note);
-        did = subst (λ r. DidAs r (echo_on o) b) job.its_role
+        did = subst (λ r. HasRunAs r (echo_on o) b) job.its_role
             (did-as left.job.role.now left.job.table.now left.job.port end sent (echo_on o) b done.did met.note
             met.reader met.notices met.blocks met.knows.taken met.returned
             (sym (rw (job.its_table, job.heap, job.reader, job.ring) refl)));
         account = account-of o.plan o.app c.last b (met.share ∙ c.parts.share)
-            (c.turned.same.weight ∙ ap weight_of_share conn.share) (share-is o closed end w left queue memory)
+            (c.turned.same.weight ∙ ap weight_of_visits conn.share) (share-is o closed end w left queue memory)
             (sym met.knows.served.serving.count ∙ met.knows.accepted ∙ met.fails.accepted
             ∙ ap (λ s. s.accepted) c.parts.submissions);
         moments = subst (λ xs. All (of_clock.gives o.begun.clock) xs) (sym moments-same)
-            (subst (λ x. All (of_clock.gives x) (moments_in (behind c.last.submissions.conn))) clock-same whole.moments);
+            (subst (λ x. All (of_clock.gives x) (timestamps_in (conn_trace c.last.submissions.conn))) clock-same whole.moments);
         least = subst (λ xs. All (λ ms. of_clock.least o.begun.clock ≤ ms) xs) (sym at-calls-same)
-            (subst (λ x. All (λ ms. of_clock.least x ≤ ms) (moments_at_calls (behind c.last.submissions.conn)))
+            (subst (λ x. All (λ ms. of_clock.least x ≤ ms) (timestamps_at_calls (conn_trace c.last.submissions.conn)))
             clock-same whole.least);
         arrived = arrived;
         same_arrivals = same-arrivals;
         handed = was-handed;
-        rose = λ ended. subst (λ l. Rose (g.faults l) (g.faults now)) left.start (passed.rose (failed-when ended));
-        stays = λ works. passed.stays (working-when works) ∙ ap g.faults left.start;
+        rose = λ ended. subst (λ l. HasRisen (g.failures l) (g.failures now)) left.start (passed.rose (failed-when ended));
+        stays = λ works. passed.stays (working-when works) ∙ ap g.failures left.start;
         same_link = λ first since. passed.since first (subst (λ l. g.since first l) (sym left.start) since);
         same_seats = seats-later;
         drawn = were-drawn;

@@ -8,20 +8,20 @@ use Rattle.mrpc_base.specs.declared.link.Link.{Ghosts as LinkMembers}
 use Rattle.mrpc_base.specs.declared.tickets.Tickets.{Ghosts as TicketMembers}
 use Rattle.tenant_quota.specs.Drawing.{Drawing}
 use Rattle.app_stub.specs.declared.port.AppEnd.{AppEnd}
-use Rattle.link_queue.specs.Queueing.{Queueing}
+use Rattle.link_queue.specs.Queueing.{QueueLinkState}
 use Rattle.link_queue.specs.declared.writer.QueueWriter.{QueueWriter}
 use Rattle.link_queue.specs.declared.writer_end.WriterEnd.{WriterEnd}
-use Rattle.service_wiring.specs.Applications.{IsEndOf, IsJob}
+use Rattle.service_wiring.specs.Applications.{IsEndOf, IsAppTask}
 use Rattle.service_wiring.specs.Wired.{IsWired}
-use Rattle.service_wiring.specs.declared.applications.Job.{Job}
-use Rattle.service_wiring.specs.declared.closed.Closed.{Closed}
-use Rattle.service_threads.specs.Closings.{AreLeft, AreWired, IsClosedOf, IsLeft, IsWrittenBy, Item, Opening}
+use Rattle.service_wiring.specs.declared.applications.AppTask.{AppTask}
+use Rattle.service_wiring.specs.declared.closed_connection.ClosedConnection.{ClosedConnection}
+use Rattle.service_threads.specs.Closings.{AreLeft, AreWired, IsClosedOf, IsLeft, IsWrittenBy, ServedEndpoint, Opening}
 
 module _ {C R L : Type 0} {g : LinkMembers L} where
   -- the tasks of wired applications may run
-  pub jobs-of : (openings : List (Opening C L)) (items : List (Item C)) (jobs : List Job)
-      (writers : List (QueueWriter R L g)) → AreWired openings items jobs writers → All IsJob jobs
-  jobs-of [] [] [] [] wired = All-nil IsJob
+  pub jobs-of : (openings : List (Opening C L)) (items : List (ServedEndpoint C)) (jobs : List AppTask)
+      (writers : List (QueueWriter R L g)) → AreWired openings items jobs writers → All IsAppTask jobs
+  jobs-of [] [] [] [] wired = All-nil IsAppTask
   jobs-of [] [] [] (x ∷ writers) wired = absurd wired
   jobs-of [] [] (x ∷ jobs) writers wired = absurd wired
   jobs-of [] (x ∷ items) jobs writers wired = absurd wired
@@ -29,11 +29,11 @@ module _ {C R L : Type 0} {g : LinkMembers L} where
   jobs-of (o ∷ openings) (item ∷ items) [] writers wired = absurd wired
   jobs-of (o ∷ openings) (item ∷ items) (job ∷ jobs) [] wired = absurd wired
   jobs-of (o ∷ openings) (item ∷ items) (job ∷ jobs) (writer ∷ writers) wired =
-      All-cons IsJob job jobs wired.0.app_job.is_job (jobs-of openings items jobs writers wired.1)
+      All-cons IsAppTask job jobs wired.0.app_job.is_task (jobs-of openings items jobs writers wired.1)
 
 module _ {C R L : Type 0} (of_clock : ClockMembers C) (of_quotas : TicketMembers (List Drawing))
-    (of_link : LinkMembers Queueing) {g : LinkMembers L} where
-  one-left : (o : Opening C L) (item : Item C) (job : Job) (writer : QueueWriter R L g) (closed : Closed)
+    (of_link : LinkMembers QueueLinkState) {g : LinkMembers L} where
+  one-left : (o : Opening C L) (item : ServedEndpoint C) (job : AppTask) (writer : QueueWriter R L g) (closed : ClosedConnection)
       (end : AppEnd) (last : WriterEnd L g) → IsWired o.plan o.app o.begun item job writer
       → IsClosedOf of_clock of_quotas of_link item closed → IsEndOf job end → IsWrittenBy writer last
       → IsLeft of_clock of_quotas of_link o closed end last
@@ -44,7 +44,7 @@ module _ {C R L : Type 0} (of_clock : ClockMembers C) (of_quotas : TicketMembers
     app_job = wired.app_job;
     handed = wired.link.handed;
     given = wired.link.given;
-    faults = wired.link.faults;
+    failures = wired.link.failures;
     closed_of = closed_of;
     end_of = end_of;
     start = by.start ∙ wired.link.start;
@@ -53,8 +53,8 @@ module _ {C R L : Type 0} (of_clock : ClockMembers C) (of_quotas : TicketMembers
   }
 
   -- what is left of each is that of the connection that was wired
-  pub all-left : (openings : List (Opening C L)) (items : List (Item C)) (jobs : List Job)
-      (writers : List (QueueWriter R L g)) (all : List Closed) (ends : List AppEnd) (lasts : List (WriterEnd L g))
+  pub all-left : (openings : List (Opening C L)) (items : List (ServedEndpoint C)) (jobs : List AppTask)
+      (writers : List (QueueWriter R L g)) (all : List ClosedConnection) (ends : List AppEnd) (lasts : List (WriterEnd L g))
       → AreWired openings items jobs writers → AllZip (IsClosedOf of_clock of_quotas of_link) items all
       → AllZip IsEndOf jobs ends → AllZip IsWrittenBy writers lasts
       → AreLeft of_clock of_quotas of_link openings all ends lasts

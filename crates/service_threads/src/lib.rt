@@ -3,7 +3,7 @@
 //! Three threads serve a bound connection: one runs its application, one writes its link, and workers visit the
 //! connection itself. [`run_wired`] runs them for wired connections, to the end of each. What each thread leaves is
 //! the end of a ring, of a heap or of a queue whose other end another thread had. After all threads were joined,
-//! [`meet`] reconciles these ends. The crate depends on `service_wiring`, which defines what the threads get and
+//! [`reconcile`] reconciles these ends. The crate depends on `service_wiring`, which defines what the threads get and
 //! leave, on `service_loop` for connections, on `app_stub` for applications, and on `worker_pool` and `link_queue`.
 //!
 //! The layer above uses one contract, `HasServed`. The calls of the connection are those that its application
@@ -13,15 +13,15 @@
 #![tactic(auto)]
 
 mod joining;
-mod meeting;
+mod reconciling;
 mod running;
 mod served;
 mod threads;
 mod workers;
 
 pub use joining::{join_all, seats_join_again};
-pub use meeting::{Met, meet, meet_each};
+pub use reconciling::{ReconciledConnection, reconcile, reconcile_each};
 pub use running::run_wired;
 pub use served::BoundConn;
-pub use threads::{Left, run_applications, run_threads, run_writers};
+pub use threads::{ThreadResults, run_applications, run_threads, run_writers};
 pub use workers::close_all;

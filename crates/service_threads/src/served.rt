@@ -2,7 +2,7 @@
 
 use descriptor_ring::{NumberReceiver, Receiver};
 use message_delivery::{Arrivals, Reclaims};
-use service_loop::{Share, Submissions};
+use service_loop::{Submissions, VisitAccount};
 use shared_heap::{Note, Reader};
 
 /// A connection that was bound, and served its application to the end.
@@ -15,7 +15,7 @@ pub struct BoundConn<'t> {
     /// The block numbers that came back, including those that named no held block.
     pub reclaims: Reclaims,
     /// Its weight and account, if rounds go by weight.
-    pub share: Option<Share>,
+    pub share: Option<VisitAccount>,
     /// The last note of the application's heap, which has all its stores.
     pub note: Note,
     /// The application's reader of the heap of its messages.

@@ -3,16 +3,16 @@
 ghost use Rattle.std.specs.Prelude.{◌≤◌, All, IfOk, length};
 ghost use Rattle.std.specs.List.{AllZip};
 ghost use Rattle.service_threads.specs.Closings.{IsClosedOf, IsWrittenBy};
-ghost use Rattle.service_wiring.specs.Applications.{IsEndOf, IsJob};
-ghost use Rattle.worker_pool.specs.declared.limits.TheConstants.{MOST_ITEMS, MOST_WORKERS};
+ghost use Rattle.service_wiring.specs.Applications.{IsEndOf, IsAppTask};
+ghost use Rattle.worker_pool.specs.declared.limits.TheConstants.{MAX_POOL_ITEMS, MAX_POOL_WORKERS};
 
-use crate::workers::{Connections, run_workers};
+use crate::workers::{VisitedConnections, run_workers};
 use app_stub::AppEnd;
 use link_queue::{QueueLink, QueueWriter, WriterEnd};
 use mrpc_base::{Clock, Gate, Link, ReadyOrder, Tickets};
 use mrpc_table::Memory;
 use polling::StopFlag;
-use service_wiring::{Closed, Common, Job, Turned, run_application};
+use service_wiring::{AppTask, ClosedConnection, PooledConnection, RunContext, run_application};
 use std::alloc::Global;
 use std::sync::Wait;
 use std::thread;
@@ -25,16 +25,16 @@ pub fn run_applications<R: Threads + Wait + Sync, S: StopFlag>(
     rt: &R,
     alloc: Global,
     stop: &S,
-    jobs: Vec<Job>,
+    jobs: Vec<AppTask>,
 ) -> Result<Vec<AppEnd>, Memory>
-    requires { All IsJob jobs.items }
+    requires { All IsAppTask jobs.items }
     ensures each { IfOk result (λ ends. AllZip IsEndOf jobs.entry.items ends.items) }
 {
     let ends = thread::map_vec(
         rt,
         jobs,
-        &|job: Job| -> AppEnd
-            requires { IsJob job }
+        &|job: AppTask| -> AppEnd
+            requires { IsAppTask job }
             ensures { IsEndOf job.entry result }
         { run_application(rt, alloc, job) },
     );
@@ -74,9 +74,9 @@ pub fn run_writers<'t, R: Threads + Wait + Sync, L: Link + Send + Drop, S: StopF
 
 /// What the threads of a run left, each in the order of its inputs.
 #[derive(Drop)]
-pub struct Left<'t, L: Link> {
+pub struct ThreadResults<'t, L: Link> {
     pub ends: Vec<AppEnd>,
-    pub closed: Vec<Closed<'t>>,
+    pub closed: Vec<ClosedConnection<'t>>,
     pub writers: Vec<WriterEnd<L>>,
 }
 
@@ -92,16 +92,16 @@ pub fn run_threads<
     G: Gate,
     O: ReadyOrder,
 >(
-    common: &Common<'t, R, C, G, O>,
+    common: &RunContext<'t, R, C, G, O>,
     workers: usize,
-    items: Vec<Turned<'t, R, C, Seats, QueueLink<'t, R>, G, O>>,
-    jobs: Vec<Job<'t>>,
+    items: Vec<PooledConnection<'t, R, C, Seats, QueueLink<'t, R>, G, O>>,
+    jobs: Vec<AppTask<'t>>,
     writers: Vec<QueueWriter<'t, R, L>>,
-) -> Result<Left<'t, L>, Memory>
-    requires jobs { All IsJob jobs.items }
-    requires few_items { length items.items ≤ MOST_ITEMS }
+) -> Result<ThreadResults<'t, L>, Memory>
+    requires jobs { All IsAppTask jobs.items }
+    requires few_items { length items.items ≤ MAX_POOL_ITEMS }
     requires some_worker { 1 ≤ workers }
-    requires few_workers { workers ≤ MOST_WORKERS }
+    requires few_workers { workers ≤ MAX_POOL_WORKERS }
     ensures ends { IfOk result (λ left. AllZip IsEndOf jobs.entry.items left.ends.items) }
     ensures closed { IfOk result (λ left. AllZip
         (IsClosedOf C.Clock ⟦<Seats as Tickets>⟧ ⟦<QueueLink<'t, R> as Link>⟧) items.entry.items left.closed.items) }
@@ -110,20 +110,20 @@ pub fn run_threads<
     let rt = common.rt;
     let alloc = common.alloc;
     let stop = common.stop;
-    let connections = Connections { items };
-    let (ends, (writers, closed)) = beside(
+    let connections = VisitedConnections { items };
+    let (ends, (writers, closed)) = run_in_parallel(
         rt,
         move ||
-            requires { All IsJob jobs.items }
+            requires { All IsAppTask jobs.items }
         { run_applications(rt, alloc, stop, jobs) },
         move || run_writers(rt, stop, writers),
         move ||
-            requires few_items { length connections.items.items ≤ MOST_ITEMS }
+            requires few_items { length connections.items.items ≤ MAX_POOL_ITEMS }
             requires some_worker { 1 ≤ workers }
-            requires few_workers { workers ≤ MOST_WORKERS }
+            requires few_workers { workers ≤ MAX_POOL_WORKERS }
         { run_workers(rt, alloc, stop, workers, connections) },
     );
-    Ok(Left {
+    Ok(ThreadResults {
         ends: ends?,
         closed: closed?,
         writers: writers?,
@@ -131,7 +131,7 @@ pub fn run_threads<
 }
 
 // Runs three functions in parallel.
-fn beside<
+fn run_in_parallel<
     R: Threads,
     F: FnOnce() -> A + Send,
     G: FnOnce() -> B + Send,

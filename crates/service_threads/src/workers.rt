@@ -2,40 +2,40 @@
 
 ghost use Rattle.std.specs.Prelude.{◌≡◌, ◌≤◌, All, IfOk, List, length};
 ghost use Rattle.std.specs.List.{AllZip};
-ghost use Rattle.service_threads.specs.Closings.{IsClosedOf, Item};
-ghost use Rattle.service_wiring.specs.Turning.{HasTurned, IsDone};
-ghost use Rattle.worker_pool.specs.Visits.{Leaves};
-ghost use Rattle.worker_pool.specs.declared.limits.TheConstants.{MOST_ITEMS, MOST_WORKERS};
+ghost use Rattle.service_threads.specs.Closings.{IsClosedOf, ServedEndpoint};
+ghost use Rattle.service_wiring.specs.Pooling.{IsLaterEndpoint, IsRetired};
+ghost use Rattle.worker_pool.specs.Visits.{IsItemAfterVisit};
+ghost use Rattle.worker_pool.specs.declared.limits.TheConstants.{MAX_POOL_ITEMS, MAX_POOL_WORKERS};
 
 use link_queue::QueueLink;
 use mrpc_base::{Clock, Gate, Link, ReadyOrder, Tickets};
 use mrpc_table::Memory;
 use polling::StopFlag;
-use service_wiring::{Closed, Turned, connections_go_on};
+use service_wiring::{ClosedConnection, PooledConnection, since_is_transitive};
 use std::alloc::Global;
 use std::sync::Wait;
 use std::thread::Threads;
 use tenant_quota::Seats;
-use worker_pool::Visit;
+use worker_pool::VisitResult;
 
 // The connections that workers visit, as one value: a closure that captures it keeps what it borrows for one
 // lifetime.
-pub(crate) struct Connections<'t, R: Wait, C: Clock, G, O: ReadyOrder> {
-    pub items: Vec<Turned<'t, R, C, Seats, QueueLink<'t, R>, G, O>>,
+pub(crate) struct VisitedConnections<'t, R: Wait, C: Clock, G, O: ReadyOrder> {
+    pub items: Vec<PooledConnection<'t, R, C, Seats, QueueLink<'t, R>, G, O>>,
 }
 
 // Written by hand, since shared references needn't be dropped.
-impl<'t, R: Wait, C: Clock, G, O: ReadyOrder> Drop for Connections<'t, R, C, G, O> {
+impl<'t, R: Wait, C: Clock, G, O: ReadyOrder> Drop for VisitedConnections<'t, R, C, G, O> {
     fn drop(self) {
-        let Connections { items: _items } = self;
+        let VisitedConnections { items: _items } = self;
     }
 }
 
-impl<'t, R: Wait, C: Clock, G, O: ReadyOrder> Connections<'t, R, C, G, O> {
-    fn into_items(self) -> Vec<Turned<'t, R, C, Seats, QueueLink<'t, R>, G, O>>
+impl<'t, R: Wait, C: Clock, G, O: ReadyOrder> VisitedConnections<'t, R, C, G, O> {
+    fn into_items(self) -> Vec<PooledConnection<'t, R, C, Seats, QueueLink<'t, R>, G, O>>
         ensures { result ≡ self.entry.items }
     {
-        let Connections { items } = self;
+        let VisitedConnections { items } = self;
         items
     }
 }
@@ -55,11 +55,11 @@ pub(crate) fn run_workers<
     alloc: Global,
     stop: &S,
     workers: usize,
-    connections: Connections<'t, R, C, G, O>,
-) -> Result<Vec<Closed<'t>>, Memory>
-    requires few_items { length connections.items.items ≤ MOST_ITEMS }
+    connections: VisitedConnections<'t, R, C, G, O>,
+) -> Result<Vec<ClosedConnection<'t>>, Memory>
+    requires few_items { length connections.items.items ≤ MAX_POOL_ITEMS }
     requires some_worker { 1 ≤ workers }
-    requires few_workers { workers ≤ MOST_WORKERS }
+    requires few_workers { workers ≤ MAX_POOL_WORKERS }
     ensures { IfOk result (λ all. AllZip
         (IsClosedOf C.Clock ⟦<Seats as Tickets>⟧ ⟦<QueueLink<'t, R> as Link>⟧) connections.entry.items.items
         all.items) }
@@ -79,11 +79,11 @@ fn visit_and_close<'t, R: Threads + Wait + Sync, C: Clock, G: Gate, O: ReadyOrde
     alloc: Global,
     stop: &S,
     workers: usize,
-    items: Vec<Turned<'t, R, C, Seats, QueueLink<'t, R>, G, O>>,
-) -> Result<Vec<Closed<'t>>, Memory>
-    requires few_items { length items.items ≤ MOST_ITEMS }
+    items: Vec<PooledConnection<'t, R, C, Seats, QueueLink<'t, R>, G, O>>,
+) -> Result<Vec<ClosedConnection<'t>>, Memory>
+    requires few_items { length items.items ≤ MAX_POOL_ITEMS }
     requires some_worker { 1 ≤ workers }
-    requires few_workers { workers ≤ MOST_WORKERS }
+    requires few_workers { workers ≤ MAX_POOL_WORKERS }
     ensures { IfOk result (λ all. AllZip
         (IsClosedOf C.Clock ⟦<Seats as Tickets>⟧ ⟦<QueueLink<'t, R> as Link>⟧) items.entry.items all.items) }
 {
@@ -106,23 +106,24 @@ fn visit_all<
     alloc: Global,
     stop: &S,
     workers: usize,
-    items: Vec<Turned<'t, R, C, Q, L, G, O>>,
-) -> Result<Vec<Turned<'t, R, C, Q, L, G, O>>, Memory>
-    requires few_items { length items.items ≤ MOST_ITEMS }
+    items: Vec<PooledConnection<'t, R, C, Q, L, G, O>>,
+) -> Result<Vec<PooledConnection<'t, R, C, Q, L, G, O>>, Memory>
+    requires few_items { length items.items ≤ MAX_POOL_ITEMS }
     requires some_worker { 1 ≤ workers }
-    requires few_workers { workers ≤ MOST_WORKERS }
-    ensures turned { IfOk result (λ over. AllZip (HasTurned C.Clock Q.Tickets L.Link) items.entry.items over.items) }
-    ensures done { IfOk result (λ over. All (IsDone C.Clock Q.Tickets L.Link) over.items) }
+    requires few_workers { workers ≤ MAX_POOL_WORKERS }
+    ensures turned { IfOk result (λ over. AllZip (IsLaterEndpoint C.Clock Q.Tickets L.Link) items.entry.items
+        over.items) }
+    ensures done { IfOk result (λ over. All (IsRetired C.Clock Q.Tickets L.Link) over.items) }
 {
-    connections_go_on::<C, Q, L>();
+    since_is_transitive::<C, Q, L>();
     let ran = worker_pool::run(
         rt,
         alloc,
         items,
         workers,
         stop,
-        &|item: &mut Turned<R, C, Q, L, G, O>| -> Visit
-            ensures { Leaves (HasTurned C.Clock Q.Tickets L.Link) (IsDone C.Clock Q.Tickets L.Link)
+        &|item: &mut PooledConnection<R, C, Q, L, G, O>| -> VisitResult
+            ensures { IsItemAfterVisit (IsLaterEndpoint C.Clock Q.Tickets L.Link) (IsRetired C.Clock Q.Tickets L.Link)
                 item.old result item.new }
         { item.visit() },
     )?;
@@ -136,11 +137,11 @@ fn visit_all<
 /// a later state of the connection at its index.
 pub fn close_all<'t, R: Wait, C: Clock, G, O: ReadyOrder>(
     alloc: Global,
-    over: Vec<Turned<'t, R, C, Seats, QueueLink<'t, R>, G, O>>,
-) -> Result<Vec<Closed<'t>>, Memory>
-    requires { All (IsDone C.Clock ⟦<Seats as Tickets>⟧ ⟦<QueueLink<'t, R> as Link>⟧) over.items }
-    ensures { (firsts : List (Item C))
-        → AllZip (HasTurned C.Clock ⟦<Seats as Tickets>⟧ ⟦<QueueLink<'t, R> as Link>⟧) firsts over.entry.items
+    over: Vec<PooledConnection<'t, R, C, Seats, QueueLink<'t, R>, G, O>>,
+) -> Result<Vec<ClosedConnection<'t>>, Memory>
+    requires { All (IsRetired C.Clock ⟦<Seats as Tickets>⟧ ⟦<QueueLink<'t, R> as Link>⟧) over.items }
+    ensures { (firsts : List (ServedEndpoint C))
+        → AllZip (IsLaterEndpoint C.Clock ⟦<Seats as Tickets>⟧ ⟦<QueueLink<'t, R> as Link>⟧) firsts over.entry.items
         → IfOk result (λ all. AllZip
         (IsClosedOf C.Clock ⟦<Seats as Tickets>⟧ ⟦<QueueLink<'t, R> as Link>⟧) firsts all.items) }
 {

@@ -2,21 +2,21 @@
 use Rattle.std.proofs.Common.{◌≡◌, ℕ, ◌≤◌, inl, inr, Bool, true, false, List, [], ◌++◌, Option, Some, None, refl, sym}
 use Rattle.std.proofs.Common.{ap, subst, ◌∙◌, arith, append_assoc, append-nil}
 use Rattle.std.specs.Io.KnownBytes.{Appends}
-use Rattle.mrpc_base.specs.Faults.{HasCause, Rose}
+use Rattle.mrpc_base.specs.Failures.{HasCause, HasRisen}
 use Rattle.mrpc_base.specs.declared.clock.Clock.{Ghosts as ClockMembers}
 use Rattle.mrpc_base.specs.declared.link.Link.{Ghosts as LinkMembers}
 use Rattle.mrpc_base.specs.declared.tickets.Tickets.{Ghosts as TicketMembers}
-use Rattle.call_history.specs.Tickets.{tickets_behind}
-use Rattle.receive_core.specs.Life.{Life}
-use Rattle.conn_core.specs.Connections.{Connection, IsSame as IsSameConn, behind}
-use Rattle.conn_core.specs.Steps.{Draws, DrawsTickets, Hands}
-use Rattle.service_loop.specs.Delivering.{AreSameDeliveries, DeliversOn, HaveDelivered, HaveGoneOn}
-use Rattle.service_loop.specs.Rounds.{GoesOn, IsSame}
+use Rattle.call_history.specs.Tickets.{tickets_of_trace}
+use Rattle.receive_core.specs.ReceiverTraces.{ReceiverTrace}
+use Rattle.conn_core.specs.Connections.{Connection, IsSameConnection as IsSameConn, conn_trace}
+use Rattle.conn_core.specs.ConnectionSteps.{HasDrawnInWindow, HasDrawnTickets, HasHandedOver}
+use Rattle.service_loop.specs.Delivering.{AreSameDeliveries, HasDeliveredMore, HaveDelivered, HaveAdvanced}
+use Rattle.service_loop.specs.Rounds.{HasAdvanced, HasSameIdentity}
 use Rattle.service_loop.specs.Serving.{AreSameSubmissions}
 use Rattle.service_loop.specs.declared.delivering.Deliveries.{Deliveries}
 use Rattle.service_loop.specs.declared.endpoint.Endpoint.{Endpoint}
 use Rattle.service_loop.specs.declared.submissions.Submissions.{Submissions}
-use Rattle.service_wiring.specs.Turning.{HasTurned}
+use Rattle.service_wiring.specs.Pooling.{IsLaterEndpoint}
 
 -- ---- bytes that arrive piece by piece
 
@@ -29,33 +29,33 @@ appends-then (Some xs) (Some ys) (Some zs) p q first second =
 
 -- ---- frames, tickets and failures, step by step
 
-pub hands-then : (a b c : Connection) (x y z : List (List ℕ)) → Hands a b x y → Hands b c y z → Hands a c x z
+pub hands-then : (a b c : Connection) (x y z : List (List ℕ)) → HasHandedOver a b x y → HasHandedOver b c y z → HasHandedOver a c x z
 hands-then a b c x y z first second = (
   first.0 ++ second.0,
   second.1 ∙ ap (λ fs. fs ++ second.0) first.1 ∙ append_assoc _ first.0 second.0,
   second.2 ∙ ap (λ fs. fs ++ second.0) first.2 ∙ append_assoc x first.0 second.0,
 )
 
-draws-one : (t w : ℕ) (a b c : Connection) (x y z : Option (List ℕ)) → Draws t w a b x y → Draws t w b c y z
-    → Draws t w a c x z
+draws-one : (t w : ℕ) (a b c : Connection) (x y z : Option (List ℕ)) → HasDrawnInWindow t w a b x y → HasDrawnInWindow t w b c y z
+    → HasDrawnInWindow t w a c x z
 draws-one t w a b c x y None first second = tt
 draws-one t w a b c x None (Some n) first second = absurd second
 draws-one t w a b c None (Some m) (Some n) first second = absurd first
 draws-one t w a b c (Some e) (Some m) (Some n) first second = (
   first.0 ++ second.0,
-  second.1 ∙ ap (λ ts. ts ++ second.0) first.1 ∙ append_assoc (tickets_behind t w (behind a)) first.0 second.0,
+  second.1 ∙ ap (λ ts. ts ++ second.0) first.1 ∙ append_assoc (tickets_of_trace t w (conn_trace a)) first.0 second.0,
   second.2 ∙ ap (λ ts. ts ++ second.0) first.2 ∙ append_assoc e first.0 second.0,
 )
 
 draws-none : (t w : ℕ) (a b : Connection) (x : Option (List ℕ))
-    → tickets_behind t w (behind b) ≡ tickets_behind t w (behind a) → Draws t w a b x x
+    → tickets_of_trace t w (conn_trace b) ≡ tickets_of_trace t w (conn_trace a) → HasDrawnInWindow t w a b x x
 draws-none t w a b None same = tt
 draws-none t w a b (Some e) same =
-    ([], same ∙ sym (append-nil (tickets_behind t w (behind a))), sym (append-nil e))
+    ([], same ∙ sym (append-nil (tickets_of_trace t w (conn_trace a))), sym (append-nil e))
 
 module _ {Q : Type 0} (Knows : Q → ℕ → Type 0) (drawn_of : Q → ℕ → ℕ → Option (List ℕ)) (Since : Q → Q → Type 0) where
-  pub draw-then : (a b c : Connection) (x y z : Q) → DrawsTickets Knows drawn_of Since a b x y
-      → DrawsTickets Knows drawn_of Since b c y z → DrawsTickets Knows drawn_of Since a c x z
+  pub draw-then : (a b c : Connection) (x y z : Q) → HasDrawnTickets Knows drawn_of Since a b x y
+      → HasDrawnTickets Knows drawn_of Since b c y z → HasDrawnTickets Knows drawn_of Since a c x z
   draw-then a b c x y z first second = record {
     drawn = λ t w known within. draws-one t w a b c (drawn_of x t w) (drawn_of y t w) (drawn_of z t w)
         (first.drawn t w known within) (second.drawn t w (first.knows t known) within);
@@ -65,8 +65,8 @@ module _ {Q : Type 0} (Knows : Q → ℕ → Type 0) (drawn_of : Q → ℕ → �
 
   -- nothing was drawn
   pub draw-none : (a b : Connection) (x : Q)
-      → ((t w : ℕ) → tickets_behind t w (behind b) ≡ tickets_behind t w (behind a))
-      → DrawsTickets Knows drawn_of Since a b x x
+      → ((t w : ℕ) → tickets_of_trace t w (conn_trace b) ≡ tickets_of_trace t w (conn_trace a))
+      → HasDrawnTickets Knows drawn_of Since a b x x
   draw-none a b x same = record {
     drawn = λ t w known within. draws-none t w a b (drawn_of x t w) (same t w);
     knows = λ t known. known;
@@ -77,11 +77,11 @@ module _ {Q : Type 0} (Knows : Q → ℕ → Type 0) (drawn_of : Q → ℕ → �
 abbrev pub EndsIn : Bool → Bool → Type 0
 EndsIn a b = (a ≡ false) × (b ≡ true)
 
-rose-then : (x y z : ℕ) → Rose x y → y ≤ z → Rose x z
+rose-then : (x y z : ℕ) → HasRisen x y → y ≤ z → HasRisen x z
 rose-then x y z (inl less) most = inl (omega (arith, less, most))
 rose-then x y z (inr last) most = inr (omega (arith, last, most))
 
-rose-before : (x y z : ℕ) → x ≤ y → Rose y z → Rose x z
+rose-before : (x y z : ℕ) → x ≤ y → HasRisen y z → HasRisen x z
 rose-before x y z most (inl less) = inl (omega (arith, less, most))
 rose-before x y z most (inr last) = inr last
 
@@ -128,7 +128,7 @@ calls-then a b c ab bc = record {
 -- ---- deliveries
 
 -- nothing arrived, and no number came back
-pub same-numbers : (life : Life) (numbers back : List ℕ) (d : Deliveries) → HaveDelivered life numbers back d
+pub same-numbers : (life : ReceiverTrace) (numbers back : List ℕ) (d : Deliveries) → HaveDelivered life numbers back d
     → HaveDelivered life (numbers ++ []) (back ++ []) d
 same-numbers life numbers back d h = subst (λ xs. HaveDelivered life xs (back ++ []) d) (sym (append-nil numbers))
     (subst (λ xs. HaveDelivered life numbers xs d) (sym (append-nil back)) h)
@@ -137,8 +137,8 @@ appends-none : (known : Option (List ℕ)) → Appends known known []
 appends-none None = tt
 appends-none (Some xs) = sym (append-nil xs)
 
-pub gone-nowhere : (life : Life) (numbers back : List ℕ) (known : Option (List ℕ)) (d : Deliveries)
-    → HaveDelivered life numbers back d → HaveGoneOn life numbers back known known d
+pub gone-nowhere : (life : ReceiverTrace) (numbers back : List ℕ) (known : Option (List ℕ)) (d : Deliveries)
+    → HaveDelivered life numbers back d → HaveAdvanced life numbers back known known d
 gone-nowhere life numbers back known d h = record {
   piece = [];
   later = life;
@@ -181,14 +181,14 @@ deliveries-then a b c ab bc = record {
 
 -- the deliveries stay, and the link gave nothing
 pub delivers-same : (given given' : Option (List ℕ)) (old new : Deliveries) → given' ≡ given
-    → ((life : Life) (numbers back : List ℕ) → HaveDelivered life numbers back old → HaveDelivered life numbers back new)
-    → DeliversOn given given' old new
+    → ((life : ReceiverTrace) (numbers back : List ℕ) → HaveDelivered life numbers back old → HaveDelivered life numbers back new)
+    → HasDeliveredMore given given' old new
 delivers-same given given' old new same stays life numbers back h =
-    subst (λ x. HaveGoneOn life numbers back given x new) (sym same)
+    subst (λ x. HaveAdvanced life numbers back given x new) (sym same)
     (gone-nowhere life numbers back given new (stays life numbers back h))
 
-pub delivers-then : (x y z : Option (List ℕ)) (a b c : Deliveries) → DeliversOn x y a b → DeliversOn y z b c
-    → DeliversOn x z a c
+pub delivers-then : (x y z : Option (List ℕ)) (a b c : Deliveries) → HasDeliveredMore x y a b → HasDeliveredMore y z b c
+    → HasDeliveredMore x z a c
 delivers-then x y z a b c first second life numbers back h =
     let one = first life numbers back h in
     let two = second one.later (numbers ++ one.more) (back ++ one.gained) one.delivered in
@@ -215,7 +215,7 @@ delivers-then x y z a b c first second life numbers back h =
 -- ---- connections
 
 module _ {C Q L : Type 0} (clock : ClockMembers C) (quotas : TicketMembers Q) (link : LinkMembers L) where
-  pub same-none : (e : Endpoint C Q L) → IsSame clock quotas link e e
+  pub same-none : (e : Endpoint C Q L) → HasSameIdentity clock quotas link e e
   same-none e = record {
     submissions = same-calls e.submissions;
     deliveries = same-deliveries e.deliveries;
@@ -225,8 +225,8 @@ module _ {C Q L : Type 0} (clock : ClockMembers C) (quotas : TicketMembers Q) (l
     weight = refl;
   }
 
-  pub same-then : (a b c : Endpoint C Q L) → IsSame clock quotas link a b → IsSame clock quotas link b c
-      → IsSame clock quotas link a c
+  pub same-then : (a b c : Endpoint C Q L) → HasSameIdentity clock quotas link a b → HasSameIdentity clock quotas link b c
+      → HasSameIdentity clock quotas link a c
   same-then a b c ab bc = record {
     submissions = calls-then a.submissions b.submissions c.submissions ab.submissions bc.submissions;
     deliveries = deliveries-then a.deliveries b.deliveries c.deliveries ab.deliveries bc.deliveries;
@@ -236,7 +236,7 @@ module _ {C Q L : Type 0} (clock : ClockMembers C) (quotas : TicketMembers Q) (l
     weight = bc.weight ∙ ab.weight;
   }
 
-  pub goes-nowhere : (e : Endpoint C Q L) → GoesOn clock quotas link e e
+  pub goes-nowhere : (e : Endpoint C Q L) → HasAdvanced clock quotas link e e
   goes-nowhere e = record {
     handed = ([], sym (append-nil _), sym (append-nil (link.handed e.link)));
     draws = draw-none quotas.knows quotas.drawn quotas.since e.submissions.conn e.submissions.conn e.tickets
@@ -251,15 +251,15 @@ module _ {C Q L : Type 0} (clock : ClockMembers C) (quotas : TicketMembers Q) (l
         (λ life numbers back h. h);
   }
 
-  pub goes-then : (a b c : Endpoint C Q L) → GoesOn clock quotas link a b → GoesOn clock quotas link b c
-      → GoesOn clock quotas link a c
+  pub goes-then : (a b c : Endpoint C Q L) → HasAdvanced clock quotas link a b → HasAdvanced clock quotas link b c
+      → HasAdvanced clock quotas link a c
   goes-then a b c ab bc = record {
     handed = hands-then a.submissions.conn b.submissions.conn c.submissions.conn (link.handed a.link)
         (link.handed b.link) (link.handed c.link) ab.handed bc.handed;
     draws = draw-then quotas.knows quotas.drawn quotas.since a.submissions.conn b.submissions.conn c.submissions.conn
         a.tickets b.tickets c.tickets ab.draws bc.draws;
-    cause = cause-then a.submissions.conn.ended b.submissions.conn.ended c.submissions.conn.ended (link.faults a.link)
-        (link.faults b.link) (link.faults c.link) ab.stays_ended bc.stays_ended ab.cause bc.cause;
+    cause = cause-then a.submissions.conn.ended b.submissions.conn.ended c.submissions.conn.ended (link.failures a.link)
+        (link.failures b.link) (link.failures c.link) ab.stays_ended bc.stays_ended ab.cause bc.cause;
     stays_ended = λ is. bc.stays_ended (ab.stays_ended is);
     delivers = delivers-then (link.given a.link) (link.given b.link) (link.given c.link) a.deliveries b.deliveries
         c.deliveries ab.delivers bc.delivers;
@@ -267,11 +267,11 @@ module _ {C Q L : Type 0} (clock : ClockMembers C) (quotas : TicketMembers Q) (l
 
   -- ---- turns
 
-  pub turned-none : (e : Endpoint C Q L) → HasTurned clock quotas link e e
+  pub turned-none : (e : Endpoint C Q L) → IsLaterEndpoint clock quotas link e e
   turned-none e = record { same = same-none e; memory = λ is. is; goes_on = λ is. goes-nowhere e }
 
-  pub turned-then : (a b c : Endpoint C Q L) → HasTurned clock quotas link a b → HasTurned clock quotas link b c
-      → HasTurned clock quotas link a c
+  pub turned-then : (a b c : Endpoint C Q L) → IsLaterEndpoint clock quotas link a b → IsLaterEndpoint clock quotas link b c
+      → IsLaterEndpoint clock quotas link a c
   turned-then a b c ab bc = record {
     same = same-then a b c ab.same bc.same;
     memory = λ is. ab.memory (bc.memory is);

@@ -3,7 +3,7 @@ use Rattle.std.proofs.Common.{Option, Some, None}
 use Rattle.std.specs.Prelude.{Contains, IfSome}
 use Rattle.std.proofs.lemmas.List.Elements.{All-contains}
 use Rattle.mrpc_table.specs.Valid.{IsValid}
-use Rattle.run_plan.specs.Chains.{table_by, table_of}
+use Rattle.run_plan.specs.Chains.{table_by, app_table}
 use Rattle.run_plan.specs.Plans.{IsApplication, IsOwnSchema, IsPlan}
 use Rattle.run_plan.specs.declared.application.Application.{Application}
 use Rattle.run_plan.specs.declared.application.OwnSchema.{OwnSchema}
@@ -21,5 +21,5 @@ valid-by plan None shared h = shared
 valid-by plan (Some own) shared h = h.table
 
 pub valid_table : (plan : Plan) (app : Application) → IsPlan plan → Contains plan.applications app
-    → IsValid (table_of plan app)
+    → IsValid (app_table plan app)
 valid_table plan app h there = valid-by plan app.own h.table (is_application plan app h there).own

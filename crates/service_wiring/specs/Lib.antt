@@ -1,8 +1,8 @@
 pub mod Applications
 pub mod Closing
-pub mod Ends
+pub mod RingEnds
 pub mod Listing
-pub mod Stepping
-pub mod Turning
+pub mod Scheduling
+pub mod Pooling
 pub mod Weighing
 pub mod Wired

@@ -1,6 +1,6 @@
 //! The applications of a run.
 
-ghost use Rattle.service_wiring.specs.Applications.{IsEndOf, IsJob};
+ghost use Rattle.service_wiring.specs.Applications.{IsEndOf, IsAppTask};
 
 use app_stub::{AppEnd, AppPort, client, echo, server};
 use mrpc_table::Table;
@@ -11,7 +11,7 @@ use std::sync::Wait;
 
 /// An application that is ready to run.
 #[derive(Drop)]
-pub struct Job<'t> {
+pub struct AppTask<'t> {
     pub role: &'t Role,
     /// The table by which it binds.
     pub table: &'t Table,
@@ -19,11 +19,11 @@ pub struct Job<'t> {
 }
 
 /// Runs an application to its end, or until the run is stopped.
-pub fn run_application<R: Wait>(rt: &R, alloc: Global, job: Job) -> AppEnd
-    requires { IsJob job }
+pub fn run_application<R: Wait>(rt: &R, alloc: Global, job: AppTask) -> AppEnd
+    requires { IsAppTask job }
     ensures { IsEndOf job.entry result }
 {
-    let Job { role, table, port } = job;
+    let AppTask { role, table, port } = job;
     match role {
         Role::Client(program) => client(rt, program, port),
         Role::Server(program) => server(rt, program, port),

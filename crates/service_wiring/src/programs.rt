@@ -1,9 +1,9 @@
 //! The number of blocks that an application's program gives back.
 
 ghost use Rattle.std.specs.Prelude.{◌≡◌, ◌<◌, ◌≤◌, ◌^◌, ℕ, length};
-ghost use Rattle.app_program.specs.Programs.{line_reclaims, reclaims_of};
+ghost use Rattle.app_program.specs.Programs.{line_reclaims, program_reclaims};
 ghost use Rattle.run_plan.specs.Plans.{HasProgram};
-ghost use Rattle.service_wiring.specs.Wired.{programmed_by};
+ghost use Rattle.service_wiring.specs.Wired.{programmed_reclaims};
 
 use app_program::{Program, ProgramLine};
 use run_plan::Role;
@@ -12,7 +12,7 @@ use run_plan::Role;
 // not.
 pub(crate) fn programmed(role: &Role) -> u64
     requires { (words : ℕ) × HasProgram words role.now }
-    ensures count { result ≡ programmed_by role.now }
+    ensures count { result ≡ programmed_reclaims role.now }
     ensures few { result < 2 ^ 63 }
 {
     match role {
@@ -24,19 +24,19 @@ pub(crate) fn programmed(role: &Role) -> u64
 // The number of lines of a program that give a block back.
 fn reclaims_in(program: &Program) -> u64
     requires { length program.now < 2 ^ 63 }
-    ensures count { result ≡ length (reclaims_of program.now) }
+    ensures count { result ≡ length (program_reclaims program.now) }
     ensures few { result ≤ length program.now }
 {
     let lines = program.as_slice();
     let mut count = 0;
     for line in lines {
-        count += given_back_by(line);
+        count += reclaim_count(line);
     }
     count
 }
 
 // 1 if the line gives a block back, else 0.
-fn given_back_by(line: &ProgramLine) -> u64
+fn reclaim_count(line: &ProgramLine) -> u64
     ensures count { result ≡ length (line_reclaims line.now) }
     ensures few { result ≤ 1 }
 {

@@ -16,7 +16,7 @@ mod reader;
 mod view;
 mod writer;
 
-pub use laws::{calls_are_fresh, loads_change_no_more, writers_go_on};
+pub use laws::{calls_are_fresh, loads_preserve_reader, since_is_transitive};
 pub use note::Note;
 pub use opening::open;
 pub use reader::Reader;

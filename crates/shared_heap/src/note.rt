@@ -2,7 +2,7 @@
 
 ghost use Rattle.std.specs.Prelude.{◌≡◌, length};
 
-use crate::view::View;
+use crate::view::HeapView;
 use atomic_table::Seat;
 use std::marker::Model;
 
@@ -10,7 +10,7 @@ use std::marker::Model;
 /// any thread. Contracts see it as a `Noting`: its heap, the stores that it knows, and whether no more stores will
 /// follow.
 pub struct Note {
-    pub(crate) seat: Seat<(), View>,
+    pub(crate) seat: Seat<(), HeapView>,
     pub(crate) stores: u64,
 }
 

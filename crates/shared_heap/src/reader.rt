@@ -2,10 +2,10 @@
 
 ghost use Rattle.std.specs.Prelude.{◌≡◌, ◌<◌, ◌≤◌, ℕ, List, [], ◌∷◌, ◌++◌, length, take, drop, ◌||◌, IsTrue};
 ghost use Rattle.mrpc_base.specs.Heap.{word_after};
-ghost use Rattle.shared_heap.specs.Fresh.{BeginsWith, CallLoads, AreMade, Fresh, NoneTo, load_of, AfterLoad};
+ghost use Rattle.shared_heap.specs.Fresh.{IsPrefix, CallLoads, AreLoadsMade, AreFresh, HasNoStoreTo, load_of, AfterLoad};
 
 use crate::note::Note;
-use crate::view::{Knowing, LoadOne, Settle, Table, View};
+use crate::view::{HeapView, Knowing, LoadOne, Settle, Table};
 use atomic_table::Seat;
 use mrpc_base::{Room, Words};
 use std::alloc::Global;
@@ -16,7 +16,7 @@ use std::sync::Arc;
 /// stores that it knows, whether no more stores will follow, and all loads so far.
 pub struct Reader {
     pub(crate) words: Arc<Table, Global>,
-    pub(crate) seat: Seat<(), View>,
+    pub(crate) seat: Seat<(), HeapView>,
 }
 
 // Written by hand, so that a drop is one call instead of one for each field.
@@ -50,11 +50,11 @@ impl Model for Reader {
 
 impl Words for Reader {
     ghost use Rattle.std.specs.Prelude.{◌-◌, ◌^◌, Some, map};
-    ghost use Rattle.shared_heap.specs.Fresh.{word_of};
+    ghost use Rattle.shared_heap.specs.Fresh.{word_of_load};
 
     ghost size = { λ r. r.heap.words };
 
-    ghost loads = { λ r. map word_of r.loads };
+    ghost loads = { λ r. map word_of_load r.loads };
 
     ghost stores = { λ r. Some r.known };
 
@@ -90,13 +90,13 @@ impl Words for Reader {
 
         ensures loaded { self.new.loads ≡ self.old.loads ++ load_of place result (length self.old.known) ∷ [] }
         // The reader then knows all stores made before the load, and the value is that of the word after them.
-        ensures grows { BeginsWith self.new.known self.old.known }
+        ensures grows { IsPrefix self.new.known self.old.known }
         ensures last { result ≡ word_after self.new.known place }
         // `after` is a number of first stores, all of which the reader knew before the load. If no later store goes
         // to the word, the result is the word after these first ones. `all` is any list of stores that extends what
         // the reader knows after the load.
-        ensures untouched { (all : List (ℕ × ℕ)) (after : ℕ) → BeginsWith all self.new.known
-            → after ≤ length self.old.known → NoneTo place (drop after all)
+        ensures untouched { (all : List (ℕ × ℕ)) (after : ℕ) → IsPrefix all self.new.known
+            → after ≤ length self.old.known → HasNoStoreTo place (drop after all)
             → result ≡ word_after (take after all) place }
 
         ensures heap { self.new.heap ≡ self.old.heap }
@@ -114,23 +114,23 @@ impl Reader {
     pub fn meet(&mut self, mut note: Note)
         requires { note.heap ≡ self.old.heap }
 
-        ensures told { BeginsWith self.new.known note.stores }
-        ensures grows { BeginsWith self.new.known self.old.known }
+        ensures told { IsPrefix self.new.known note.stores }
+        ensures grows { IsPrefix self.new.known self.old.known }
         ensures last { IsTrue note.last → self.new.known ≡ note.stores }
         ensures none_left { IsTrue self.old.whole → self.new.known ≡ self.old.known }
         ensures whole { self.new.whole ≡ (self.old.whole || note.last) }
         ensures loads { self.new.loads ≡ self.old.loads }
         ensures heap { self.new.heap ≡ self.old.heap }
     {
-        self.hear(&mut note);
+        self.observe(&mut note);
     }
 
     /// Like `meet`, but keeps the note. Never blocks or allocates.
-    pub fn hear(&mut self, note: &mut Note)
+    pub fn observe(&mut self, note: &mut Note)
         requires { note.old.heap ≡ self.old.heap }
 
-        ensures told { BeginsWith self.new.known note.old.stores }
-        ensures grows { BeginsWith self.new.known self.old.known }
+        ensures told { IsPrefix self.new.known note.old.stores }
+        ensures grows { IsPrefix self.new.known self.old.known }
         ensures last { IsTrue note.old.last → self.new.known ≡ note.old.stores }
         ensures none_left { IsTrue self.old.whole → self.new.known ≡ self.old.known }
         ensures whole { self.new.whole ≡ (self.old.whole || note.old.last) }
@@ -149,7 +149,7 @@ impl Reader {
     /// after no more stores than the reader knew. Once the writer's last note was met, these are all stores that will
     /// ever be made.
     pub fn loads_are_fresh(&self)
-        ensures { (calls : List CallLoads) → AreMade calls self.now.loads → Fresh calls self.now.known }
+        ensures { (calls : List CallLoads) → AreLoadsMade calls self.now.loads → AreFresh calls self.now.known }
     {
         let _ = &self.seat;
     }

@@ -13,7 +13,7 @@ pub struct Load {
 }
 
 // The knowledge of one seat.
-pub(crate) struct View {
+pub(crate) struct HeapView {
     // The first stores: those that the seat has seen, and those that a note brought.
     pub known: LinkedList<(u64, u64)>,
     pub told: LinkedList<(u64, u64)>,
@@ -21,64 +21,64 @@ pub(crate) struct View {
     pub writes: bool,
     // Whether no more stores will follow those that it has seen, and those that a note brought.
     pub last: bool,
-    pub told_last: bool,
+    pub note_is_last: bool,
     pub loads: LinkedList<Load>,
 }
 
 pub(crate) struct Rule;
 
 // Its key is the number of words.
-impl TableRule<(), View, u64> for Rule {
+impl TableRule<(), HeapView, u64> for Rule {
     ghost use Rattle.std.specs.Prelude.{[]};
-    ghost use Rattle.shared_heap.specs.Rule.{IsHeap, keeper};
+    ghost use Rattle.shared_heap.specs.Rule.{IsHeap, writer_view};
 
     ghost holds = { IsHeap };
 
-    ghost first = { λ _. keeper [] };
+    ghost first = { λ _. writer_view [] };
 }
 
 // The writer's store.
 pub(crate) struct Store;
 
-impl Play<(), View> for Store {
-    ghost use Rattle.shared_heap.specs.Rule.{Stored};
+impl Play<(), HeapView> for Store {
+    ghost use Rattle.shared_heap.specs.Rule.{IsStoreStep};
 
-    ghost then = { Stored };
+    ghost then = { IsStoreStep };
 }
 
 // The reader's load.
 pub(crate) struct LoadOne;
 
-impl Play<(), View> for LoadOne {
-    ghost use Rattle.shared_heap.specs.Rule.{Loaded};
+impl Play<(), HeapView> for LoadOne {
+    ghost use Rattle.shared_heap.specs.Rule.{IsLoadStep};
 
-    ghost then = { Loaded };
+    ghost then = { IsLoadStep };
 }
 
 // A load that merges the stores that a note brought.
 pub(crate) struct Settle;
 
-impl Play<(), View> for Settle {
-    ghost use Rattle.shared_heap.specs.Rule.{Settled};
+impl Play<(), HeapView> for Settle {
+    ghost use Rattle.shared_heap.specs.Rule.{IsSettleStep};
 
-    ghost then = { Settled };
+    ghost then = { IsSettleStep };
 }
 
 // A new seat with the knowledge of this one.
 pub(crate) struct Knowing;
 
-impl Split<View> for Knowing {
-    ghost use Rattle.shared_heap.specs.Rule.{knowing};
+impl Split<HeapView> for Knowing {
+    ghost use Rattle.shared_heap.specs.Rule.{knowing_view};
 
     ghost left = { λ v. v };
 
-    ghost right = { knowing };
+    ghost right = { knowing_view };
 }
 
 // A new seat with the knowledge of this one; afterwards nobody stores any more.
 pub(crate) struct Ending;
 
-impl Split<View> for Ending {
+impl Split<HeapView> for Ending {
     ghost use Rattle.shared_heap.specs.Rule.{ended};
 
     ghost left = { ended };
@@ -86,12 +86,12 @@ impl Split<View> for Ending {
     ghost right = { ended };
 }
 
-impl Join<View> for Knowing {
-    ghost use Rattle.shared_heap.specs.Rule.{informed, nobody};
+impl Join<HeapView> for Knowing {
+    ghost use Rattle.shared_heap.specs.Rule.{informed, empty_view};
 
     ghost both = { informed };
 
-    ghost spent = { nobody };
+    ghost spent = { empty_view };
 }
 
-pub(crate) type Table = atomic_table::Table<(), View, u64, Rule, Global>;
+pub(crate) type Table = atomic_table::Table<(), HeapView, u64, Rule, Global>;

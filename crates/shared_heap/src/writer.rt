@@ -3,7 +3,7 @@
 ghost use Rattle.std.specs.Prelude.{◌≡◌, ◌<◌, ◌≤◌, ◌+◌, ◌^◌, true, false, [], ◌∷◌, ◌++◌, length};
 
 use crate::note::Note;
-use crate::view::{Ending, Knowing, Store, Table, View};
+use crate::view::{Ending, HeapView, Knowing, Store, Table};
 use atomic_table::Seat;
 use mrpc_base::{Room, Stores};
 use std::alloc::Global;
@@ -14,7 +14,7 @@ use std::sync::Arc;
 /// stores so far.
 pub struct Writer {
     pub(crate) words: Arc<Table, Global>,
-    pub(crate) seat: Seat<(), View>,
+    pub(crate) seat: Seat<(), HeapView>,
     pub(crate) made: u64,
 }
 
@@ -45,7 +45,7 @@ impl Model for Writer {
 
 impl Stores for Writer {
     ghost use Rattle.std.specs.Prelude.{◌-◌, ◌^◌};
-    ghost use Rattle.shared_heap.specs.Fresh.{GoesOn};
+    ghost use Rattle.shared_heap.specs.Fresh.{IsLaterWriter};
 
     ghost words = { λ w. w.heap.words };
 
@@ -53,7 +53,7 @@ impl Stores for Writer {
 
     ghost room = { λ _. 2 ^ 64 - 1 };
 
-    ghost since = { GoesOn };
+    ghost since = { IsLaterWriter };
 
     fn size(&self) -> u64
         ensures { result ≡ self.now.heap.words }

@@ -6,11 +6,11 @@ use Rattle.atomic_table.specs.Seated.{TableId}
 use Rattle.crossbeam_queue.specs.Fifo.{Pushes, Pops, PopsFrom, PushesAfter, Forks, Learns}
 use Rattle.crossbeam_queue.proofs.Lists.{at_set, at_snoc}
 use Rattle.spsc_queue.specs.declared.credit.Credit.{Credit}
-use Rattle.spsc_queue.specs.declared.credit.Desk.{Desk}
+use Rattle.spsc_queue.specs.declared.credit.CreditDesk.{CreditDesk}
 use Rattle.spsc_queue.specs.Names.{no_queue}
-use Rattle.spsc_queue.specs.Credits.{desk_of, unnamed, AreAllOf, DeskFits, AreOfOne}
+use Rattle.spsc_queue.specs.Credits.{desk_of, unnamed, AreAllOf, IsDeskOf, AreOfOne}
 
-first_only : (port : ℕ) (v : Desk) → get_elem? (unnamed ∷ []) port ≡ some v → (port ≡ 0) × (v ≡ unnamed)
+first_only : (port : ℕ) (v : CreditDesk) → get_elem? (unnamed ∷ []) port ≡ some v → (port ≡ 0) × (v ≡ unnamed)
 first_only zero v e = (refl, sym (some-injective _ _ e))
 first_only (suc port) v e = absurd (some-ne-none v (sym e))
 
@@ -19,7 +19,7 @@ module _ {T : Type 0} where
   Of queue credit = credit.pass.table_id ≡ queue
 
   -- what a call of a named pass guarantees
-  abbrev Same : Desk → Credit T → Desk → Type 0
+  abbrev Same : CreditDesk → Credit T → CreditDesk → Type 0
   Same v x w = (w ≡ v) × Of v.queue x
 
   pub begins : AreOfOne {T = T} [] (unnamed ∷ [])
@@ -28,21 +28,21 @@ module _ {T : Type 0} where
     all = tt;
     fits = λ port v e.
         let is = first_only port v e in record {
-          named = λ n. absurd (true≢false (sym n ∙ ap (λ (d : Desk). d.named) is.1));
+          named = λ n. absurd (true≢false (sym n ∙ ap (λ (d : CreditDesk). d.named) is.1));
           empty = λ _. refl;
           alone = λ _ other u there. (first_only other u there).0 ∙ sym is.0;
         };
   }
 
   -- the one pass is split into two, which know the queue
-  pub names : (queue : TableId) (port : ℕ) (v : Desk) → v.named ≡ false → Forks (AreOfOne {T = T}) port v (desk_of queue) (desk_of queue)
+  pub names : (queue : TableId) (port : ℕ) (v : CreditDesk) → v.named ≡ false → Forks (AreOfOne {T = T}) port v (desk_of queue) (desk_of queue)
   names queue port v not items views h at =
       let fits = h.fits port v at in
-      let is_named : (j : ℕ) (u : Desk) → desk_of queue ≡ u → DeskFits queue items (set views port (desk_of queue) ++ desk_of queue ∷ []) j u = λ j u is.
+      let is_named : (j : ℕ) (u : CreditDesk) → desk_of queue ≡ u → IsDeskOf queue items (set views port (desk_of queue) ++ desk_of queue ∷ []) j u = λ j u is.
       record {
-        named = λ _. ap (λ (d : Desk). d.queue) (sym is);
-        empty = λ n. absurd (true≢false (ap (λ (d : Desk). d.named) is ∙ n));
-        alone = λ n. absurd (true≢false (ap (λ (d : Desk). d.named) is ∙ n));
+        named = λ _. ap (λ (d : CreditDesk). d.queue) (sym is);
+        empty = λ n. absurd (true≢false (ap (λ (d : CreditDesk). d.named) is ∙ n));
+        alone = λ n. absurd (true≢false (ap (λ (d : CreditDesk). d.named) is ∙ n));
       } in record {
         queue = queue;
         all = subst (AreAllOf queue) (sym (fits.empty not)) tt;
@@ -54,17 +54,17 @@ module _ {T : Type 0} where
       }
 
   -- if one pass is named, each is, and the queued credits may change
-  stays : (queue : TableId) (items items' : List (Credit T)) (views : List Desk) (port : ℕ) (v : Desk) → v.named ≡ true → get_elem? views port ≡ some v
-      → ((j : ℕ) (u : Desk) → get_elem? views j ≡ some u → DeskFits queue items views j u)
-      → (j : ℕ) (u : Desk) → get_elem? (set views port v) j ≡ some u → DeskFits queue items' (set views port v) j u
+  stays : (queue : TableId) (items items' : List (Credit T)) (views : List CreditDesk) (port : ℕ) (v : CreditDesk) → v.named ≡ true → get_elem? views port ≡ some v
+      → ((j : ℕ) (u : CreditDesk) → get_elem? views j ≡ some u → IsDeskOf queue items views j u)
+      → (j : ℕ) (u : CreditDesk) → get_elem? (set views port v) j ≡ some u → IsDeskOf queue items' (set views port v) j u
   stays queue items items' views port v is_named at h j u e =
-      let there : get_elem? views j ≡ some u = ⊎_elim (λ (x : (j ≡ port) × (v ≡ u)). subst (λ (y : ℕ × Desk). get_elem? views y.0 ≡ some y.1) (λ i. (sym x.0 i, x.1 i)) at)
+      let there : get_elem? views j ≡ some u = ⊎_elim (λ (x : (j ≡ port) × (v ≡ u)). subst (λ (y : ℕ × CreditDesk). get_elem? views y.0 ≡ some y.1) (λ i. (sym x.0 i, x.1 i)) at)
       (λ (x : (j ≢ port) × (get_elem? views j ≡ some u)). x.1) (at_set views port j v u e) in
       let f = h j u there in
       let never : u.named ≡ false → ⊥ = λ not.
       let same : port ≡ j = f.alone not port v at in
       let one : v ≡ u = some-injective _ _ (sym at ∙ ap (get_elem? views) same ∙ there) in
-      true≢false (sym is_named ∙ ap (λ (d : Desk). d.named) one ∙ not) in
+      true≢false (sym is_named ∙ ap (λ (d : CreditDesk). d.named) one ∙ not) in
       record {
         named = f.named;
         empty = λ not. absurd (never not);
@@ -75,7 +75,7 @@ module _ {T : Type 0} where
   all_snoc queue [] x a of = (of, tt)
   all_snoc queue (y ∷ ys) x a of = (a.0, all_snoc queue ys x a.1 of)
 
-  pub sends : (n port : ℕ) (v : Desk) (x : Credit T) → v.named ≡ true → Of v.queue x → Pushes AreOfOne n port v x (Same v x)
+  pub sends : (n port : ℕ) (v : CreditDesk) (x : Credit T) → v.named ≡ true → Of v.queue x → Pushes AreOfOne n port v x (Same v x)
   sends n port v x is_named of items views _ h at = (
     v,
     record {
@@ -86,20 +86,20 @@ module _ {T : Type 0} where
     (refl, of),
   )
 
-  pub hears : (port : ℕ) (v : Desk) → v.named ≡ true → Pops AreOfOne port v (Same v)
+  pub hears : (port : ℕ) (v : CreditDesk) → v.named ≡ true → Pops AreOfOne port v (Same v)
   hears port v is_named x items views h at = (
     v,
     record { queue = h.queue; all = h.all.1; fits = stays h.queue (x ∷ items) items views port v is_named at h.fits },
     (refl, h.all.0 ∙ sym ((h.fits port v at).named is_named)),
   )
 
-  pub hears_from : (n port : ℕ) (v : Desk) → v.named ≡ true → PopsFrom AreOfOne n port v (Same v)
+  pub hears_from : (n port : ℕ) (v : CreditDesk) → v.named ≡ true → PopsFrom AreOfOne n port v (Same v)
   hears_from n port v is_named x items views _ h at = hears port v is_named x items views h at
 
-  pub sends_after : (n port : ℕ) (v : Desk) (x : Credit T) → v.named ≡ true → Of v.queue x → PushesAfter AreOfOne n port (Same v) x Same
+  pub sends_after : (n port : ℕ) (v : CreditDesk) (x : Credit T) → v.named ≡ true → Of v.queue x → PushesAfter AreOfOne n port (Same v) x Same
   sends_after n port v x is_named of old w was =
       let same : w ≡ v = was.0 in
-      sends n port w x (ap (λ (d : Desk). d.named) same ∙ is_named) (of ∙ ap (λ (d : Desk). d.queue) (sym same))
+      sends n port w x (ap (λ (d : CreditDesk). d.named) same ∙ is_named) (of ∙ ap (λ (d : CreditDesk). d.queue) (sym same))
 
-  pub no_lesson : (port : ℕ) (v : Desk) → Learns (AreOfOne {T = T}) port v (λ items. Unit {0})
+  pub no_lesson : (port : ℕ) (v : CreditDesk) → Learns (AreOfOne {T = T}) port v (λ items. Unit {0})
   no_lesson port v items views h at = tt

@@ -9,7 +9,7 @@ use lib.ListN.{get_elem?}
 use Rattle.crossbeam_queue.specs.Fifo.{Pushes, Pops, Forks, Merges, Learns}
 use Rattle.crossbeam_queue.proofs.Lists.{at_set, at_snoc}
 use Rattle.spsc_queue.specs.declared.side.Side.{Side}
-use Rattle.spsc_queue.specs.Sides.{putting, taking, both, knowing, neither, Agree, longer, Waits, Fits, IsOneWay}
+use Rattle.spsc_queue.specs.Sides.{putting, taking, both, knowing, neither, ArePrefixComparable, longer, IsQueued, IsConsistentSide, IsFifo}
 
 module _ {T : Type 0} where
   at_end : (l : List (Side T)) (a b : Side T) (j : ℕ) → get_elem? l j ≢ some b → get_elem? (l ++ a ∷ []) j ≡ some b → j ≡ length l
@@ -26,7 +26,7 @@ module _ {T : Type 0} where
   each_set F views port w mine others j u e = ⊎_elim (λ (x : (j ≡ port) × (w ≡ u)). subst (λ (y : ℕ × Side T). F y.0 y.1) (λ i. (sym x.0 i, x.1 i)) mine)
       (λ (x : (j ≢ port) × (get_elem? views j ≡ some u)). others j u x.0 x.1) (at_set views port j w u e)
 
-  fits_knowing : (writer reader port : ℕ) (put taken known : List T) → IsPrefix known taken → Fits writer reader put taken port (knowing known)
+  fits_knowing : (writer reader port : ℕ) (put taken known : List T) → IsPrefix known taken → IsConsistentSide writer reader put taken port (knowing known)
   fits_knowing writer reader port put taken known begins = record {
     puts = λ p. absurd (true≢false (sym p));
     takes = λ p. absurd (true≢false (sym p));
@@ -34,7 +34,7 @@ module _ {T : Type 0} where
     known = begins;
   }
 
-  fits_neither : (writer reader port : ℕ) (put taken : List T) → Fits writer reader put taken port neither
+  fits_neither : (writer reader port : ℕ) (put taken : List T) → IsConsistentSide writer reader put taken port neither
   fits_neither writer reader port put taken = fits_knowing writer reader port put taken [] (taken, refl)
 
   whole : (xs : List T) → IsPrefix xs xs
@@ -69,7 +69,7 @@ module _ {T : Type 0} where
   prefix_longer xs ys x p = (p.0 ++ x ∷ [], sym (append_assoc xs p.0 (x ∷ [])) ∙ ap (λ l. l ++ x ∷ []) p.1)
 
   -- of two prefixes of one list, one is a prefix of the other
-  agree : (xs ys all : List T) → IsPrefix xs all → IsPrefix ys all → Agree xs ys
+  agree : (xs ys all : List T) → IsPrefix xs all → IsPrefix ys all → ArePrefixComparable xs ys
   agree [] ys all p q = inl (ys, refl)
   agree (x ∷ xs) [] all p q = inr (x ∷ xs, refl)
   agree (x ∷ xs) (y ∷ ys) [] p q = absurd (cc (p.1))
@@ -77,18 +77,18 @@ module _ {T : Type 0} where
       let heads : x ≡ y = cc (p.1, q.1) in
       ⊎_elim (λ (r : IsPrefix xs ys). inl (r.0, cc (heads, r.1))) (λ (r : IsPrefix ys xs). inr (r.0, cc (heads, r.1))) (agree xs ys zs (p.0, cc (p.1)) (q.0, cc (q.1)))
 
-  pub begins : IsOneWay {T = T} [] (both [] [] [] [] ∷ [])
+  pub begins : IsFifo {T = T} [] (both [] [] [] [] ∷ [])
   begins = (
     0,
     0,
     [],
     [],
     refl,
-    each_set (Fits 0 0 [] []) (both [] [] [] [] ∷ []) 0 (both [] [] [] []) (record { puts = λ _. (refl, refl); takes = λ _. (refl, refl); told = ([], refl); known = ([], refl) })
+    each_set (IsConsistentSide 0 0 [] []) (both [] [] [] [] ∷ []) 0 (both [] [] [] []) (record { puts = λ _. (refl, refl); takes = λ _. (refl, refl); told = ([], refl); known = ([], refl) })
         (λ j u other e. absurd (other (at_end [] _ u j (λ x. some-ne-none u (sym x)) e))),
   )
 
-  pub puts : (n port : ℕ) (v : Side T) (x : T) → v.puts ≡ true → Pushes IsOneWay n port v x (λ w. w ≡ putting (v.put ++ x ∷ []) v.known)
+  pub puts : (n port : ℕ) (v : Side T) (x : T) → v.puts ≡ true → Pushes IsFifo n port v x (λ w. w ≡ putting (v.put ++ x ∷ []) v.known)
   puts n port v x may items views _ h at =
       let w : Side T = putting (v.put ++ x ∷ []) v.known in
       let mine = h.5 port v at in
@@ -100,7 +100,7 @@ module _ {T : Type 0} where
           put,
           h.3,
           ap (λ l. l ++ x ∷ []) h.4 ∙ append_assoc h.3 items (x ∷ []),
-          each_set (Fits h.0 h.1 put h.3) views port w
+          each_set (IsConsistentSide h.0 h.1 put h.3) views port w
               (record {
                 puts = λ _. ((mine.puts may).0, ap (λ l. l ++ x ∷ []) (mine.puts may).1);
                 takes = λ p. absurd (true≢false (sym p));
@@ -118,7 +118,7 @@ module _ {T : Type 0} where
         refl,
       )
 
-  pub takes : (port : ℕ) (v : Side T) → v.takes ≡ true → Pops IsOneWay port v (λ x w. (w ≡ taking (v.taken ++ x ∷ []) v.told) × Agree w.told w.taken)
+  pub takes : (port : ℕ) (v : Side T) → v.takes ≡ true → Pops IsFifo port v (λ x w. (w ≡ taking (v.taken ++ x ∷ []) v.told) × ArePrefixComparable w.told w.taken)
   takes port v may x items views h at =
       let w : Side T = taking (v.taken ++ x ∷ []) v.told in
       let mine = h.5 port v at in
@@ -131,7 +131,7 @@ module _ {T : Type 0} where
           h.2,
           taken,
           h.4 ∙ sym (append_assoc h.3 (x ∷ []) items),
-          each_set (Fits h.0 h.1 h.2 taken) views port w (record {
+          each_set (IsConsistentSide h.0 h.1 h.2 taken) views port w (record {
             puts = λ p. absurd (true≢false (sym p));
             takes = λ _. ((mine.takes may).0, ap (λ l. l ++ x ∷ []) (mine.takes may).1);
             told = mine.told;
@@ -149,28 +149,28 @@ module _ {T : Type 0} where
       )
 
   -- a pass that knows no more than was popped is compatible with any other
-  knows_beside : (port : ℕ) (v : Side T) (known : List T) → ((writer reader : ℕ) (put taken : List T) → Fits writer reader put taken port v → IsPrefix known taken)
-      → Forks IsOneWay port v v (knowing known)
+  knows_beside : (port : ℕ) (v : Side T) (known : List T) → ((writer reader : ℕ) (put taken : List T) → IsConsistentSide writer reader put taken port v → IsPrefix known taken)
+      → Forks IsFifo port v v (knowing known)
   knows_beside port v known begins items views h at = (
     h.0,
     h.1,
     h.2,
     h.3,
     h.4,
-    λ j u e. ⊎_elim (λ x. each_set (Fits h.0 h.1 h.2 h.3) views port v (h.5 port v at) (λ i y _ there. h.5 i y there) j u x)
-        (λ (is : knowing known ≡ u). subst (Fits h.0 h.1 h.2 h.3 j) is
+    λ j u e. ⊎_elim (λ x. each_set (IsConsistentSide h.0 h.1 h.2 h.3) views port v (h.5 port v at) (λ i y _ there. h.5 i y there) j u x)
+        (λ (is : knowing known ≡ u). subst (IsConsistentSide h.0 h.1 h.2 h.3 j) is
         (fits_knowing h.0 h.1 j h.2 h.3 known (begins h.0 h.1 h.2 h.3 (h.5 port v at))))
         (at_snoc (set views port v) (knowing known) u j e),
   )
 
-  pub admits_neither : (port : ℕ) (v : Side T) → Forks IsOneWay port v v neither
+  pub admits_neither : (port : ℕ) (v : Side T) → Forks IsFifo port v v neither
   admits_neither port v = knows_beside port v [] (λ _ _ _ taken _. (taken, refl))
 
-  pub tells : (port : ℕ) (v : Side T) → v.takes ≡ true → Forks IsOneWay port v v (knowing v.taken)
+  pub tells : (port : ℕ) (v : Side T) → v.takes ≡ true → Forks IsFifo port v v (knowing v.taken)
   tells port v may = knows_beside port v v.taken (λ _ _ _ taken f. same_begins v.taken taken (f.takes may).1)
 
   -- a pass with both roles is split into two
-  pub parts : (port : ℕ) (v : Side T) → v.puts ≡ true → v.takes ≡ true → Forks IsOneWay port v (putting v.put v.known) (taking v.taken v.told)
+  pub parts : (port : ℕ) (v : Side T) → v.puts ≡ true → v.takes ≡ true → Forks IsFifo port v (putting v.put v.known) (taking v.taken v.told)
   parts port v a b items views h at =
       let l : Side T = putting v.put v.known in
       let r : Side T = taking v.taken v.told in
@@ -195,20 +195,20 @@ module _ {T : Type 0} where
 
   -- one pass takes over what another knew; the other then knows nothing
   takes_in : (port : ℕ) (v : Side T) (other : ℕ) (u w : Side T)
-      → ((writer reader : ℕ) (put taken : List T) → Fits writer reader put taken port v → Fits writer reader put taken other u
-      → (reader' : ℕ) × Fits writer reader' put taken port w × ((j : ℕ) (y : Side T) → j ≢ other → j ≢ port
-      → Fits writer reader put taken j y → Fits writer reader' put taken j y))
-      → Merges IsOneWay port v other u w neither
+      → ((writer reader : ℕ) (put taken : List T) → IsConsistentSide writer reader put taken port v → IsConsistentSide writer reader put taken other u
+      → (reader' : ℕ) × IsConsistentSide writer reader' put taken port w × ((j : ℕ) (y : Side T) → j ≢ other → j ≢ port
+      → IsConsistentSide writer reader put taken j y → IsConsistentSide writer reader' put taken j y))
+      → Merges IsFifo port v other u w neither
   takes_in port v other u w step items views h at two at' =
       let vs : List (Side T) = set views port w in
       let was : get_elem? views other ≡ some u = ⊎_elim (λ x. absurd (two x.0)) (λ x. x.1) (at_set views port other w u at') in
       let s = step h.0 h.1 h.2 h.3 (h.5 port v at) (h.5 other u was) in
-      let Now : ℕ → Side T → Type 0 = λ j y. j ≢ other → Fits h.0 s.0 h.2 h.3 j y in
+      let Now : ℕ → Side T → Type 0 = λ j y. j ≢ other → IsConsistentSide h.0 s.0 h.2 h.3 j y in
       let now : Each Now vs = each_set Now views port w (λ _. s.1) (λ j y apart e away. s.2 j y away apart (h.5 j y e)) in
-      (h.0, s.0, h.2, h.3, h.4, each_set (Fits h.0 s.0 h.2 h.3) vs other neither (fits_neither h.0 s.0 other h.2 h.3) (λ j y apart e. now j y e apart))
+      (h.0, s.0, h.2, h.3, h.4, each_set (IsConsistentSide h.0 s.0 h.2 h.3) vs other neither (fits_neither h.0 s.0 other h.2 h.3) (λ j y apart e. now j y e apart))
 
   -- the two roles are joined
-  pub joins : (port : ℕ) (v : Side T) (other : ℕ) (u : Side T) → v.puts ≡ true → u.takes ≡ true → Merges IsOneWay port v other u (both v.put u.taken v.put v.known) neither
+  pub joins : (port : ℕ) (v : Side T) (other : ℕ) (u : Side T) → v.puts ≡ true → u.takes ≡ true → Merges IsFifo port v other u (both v.put u.taken v.put v.known) neither
   joins port v other u a b =
       takes_in port v other u (both v.put u.taken v.put v.known) (λ writer reader put taken mine theirs.
       let t = theirs.takes b in (
@@ -218,7 +218,7 @@ module _ {T : Type 0} where
       ))
 
   -- the producer learns what was popped
-  pub hears : (port : ℕ) (v : Side T) (other : ℕ) (u : Side T) → v.puts ≡ true → Merges IsOneWay port v other u (putting v.put (longer v.known u.known)) neither
+  pub hears : (port : ℕ) (v : Side T) (other : ℕ) (u : Side T) → v.puts ≡ true → Merges IsFifo port v other u (putting v.put (longer v.known u.known)) neither
   hears port v other u a =
       takes_in port v other u (putting v.put (longer v.known u.known)) (λ writer reader put taken mine theirs. (
         reader,
@@ -231,21 +231,21 @@ module _ {T : Type 0} where
         λ j y _ _ f. f,
       ))
 
-  pub counts : (port : ℕ) (v : Side T) → v.puts ≡ true → Learns IsOneWay port v (Waits v.put v.known)
+  pub counts : (port : ℕ) (v : Side T) → v.puts ≡ true → Learns IsFifo port v (IsQueued v.put v.known)
   counts port v may items views h at = let mine = h.5 port v at in (h.3, sym h.4 ∙ sym (mine.puts may).1, mine.known)
 
-  pub behind : (port : ℕ) (v : Side T) → v.puts ≡ true → Learns IsOneWay port v (λ items. length v.known ≤ length v.put)
+  pub behind : (port : ℕ) (v : Side T) → v.puts ≡ true → Learns IsFifo port v (λ items. length v.known ≤ length v.put)
   behind port v may items views h at =
       let mine = h.5 port v at in
       omega (arith, no_longer v.known h.3 mine.known, ap length h.4, length-append h.3 items, ap length (mine.puts may).1)
 
-  pub finds : (port : ℕ) (v : Side T) → v.takes ≡ true → Learns IsOneWay port v (λ items. IsPrefix v.told (v.taken ++ items))
+  pub finds : (port : ℕ) (v : Side T) → v.takes ≡ true → Learns IsFifo port v (λ items. IsPrefix v.told (v.taken ++ items))
   finds port v may items views h at =
       let mine = h.5 port v at in
       let all : h.2 ≡ v.taken ++ items = h.4 ∙ ap (λ l. l ++ items) (sym (mine.takes may).1) in
       (mine.told.0, mine.told.1 ∙ all)
 
-  pub compares : (port : ℕ) (v : Side T) → v.puts ≡ true → v.takes ≡ true → Learns IsOneWay port v (λ items. v.taken ++ items ≡ v.put)
+  pub compares : (port : ℕ) (v : Side T) → v.puts ≡ true → v.takes ≡ true → Learns IsFifo port v (λ items. v.taken ++ items ≡ v.put)
   compares port v a b items views h at = let mine = h.5 port v at in ap (λ l. l ++ items) (mine.takes b).1 ∙ sym h.4 ∙ sym (mine.puts a).1
 
 -- ---- a slot that is known to be free

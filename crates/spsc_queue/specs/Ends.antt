@@ -8,20 +8,20 @@ use Rattle.spsc_queue.specs.declared.consumer.Consumer.{Consumer}
 
 module _ {T : Type 0} where
   -- all items that were pushed, in order
-  abbrev pub put_of : Producer T → List T
-  put_of p = (view p.pass).put
+  abbrev pub pushed_of : Producer T → List T
+  pushed_of p = (view p.pass).put
 
   -- how many slots are known to be free, until the next push
   abbrev pub free_of : Producer T → ℕ
   free_of p = p.free
 
   -- all items that were popped, in order
-  abbrev pub taken_of : Consumer T → List T
-  taken_of c = (view c.pass).taken
+  abbrev pub popped_of : Consumer T → List T
+  popped_of c = (view c.pass).taken
 
   -- the items that the consumer knows to be pushed: all that were when the two ends were last reconciled
-  abbrev pub told_of : Consumer T → List T
-  told_of c = (view c.pass).told
+  abbrev pub known_pushed_of : Consumer T → List T
+  known_pushed_of c = (view c.pass).told
 
   -- the most items that the queue holds
   abbrev pub capacity_of : Producer T → ℕ

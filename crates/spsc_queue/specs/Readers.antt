@@ -3,20 +3,20 @@ use Rattle.std.specs.Prelude.{ℕ, List}
 use Rattle.atomic_table.specs.Seated.{TableId}
 use Rattle.spsc_queue.specs.declared.piece.Piece.{Piece}
 use Rattle.spsc_queue.specs.declared.piece_reader.PieceReader.{PieceReader}
-use Rattle.spsc_queue.specs.Ends.{taken_of, told_of, consumer_queue}
+use Rattle.spsc_queue.specs.Ends.{popped_of, known_pushed_of, consumer_queue}
 
 module _ {M : Type 0} where
   -- the bytes that it delivered, in order
-  abbrev pub given_by : PieceReader M → List ℕ
-  given_by r = r.given.bytes
+  abbrev pub delivered_by : PieceReader M → List ℕ
+  delivered_by r = r.given.bytes
 
   -- the pieces that it popped, in order
-  abbrev pub taken_by : PieceReader M → List (Piece M)
-  taken_by r = taken_of r.consumer
+  abbrev pub popped_by : PieceReader M → List (Piece M)
+  popped_by r = popped_of r.consumer
 
   -- the pieces that it knows to be pushed: all that were when the two ends were last reconciled
-  abbrev pub told_by : PieceReader M → List (Piece M)
-  told_by r = told_of r.consumer
+  abbrev pub known_pushed_by : PieceReader M → List (Piece M)
+  known_pushed_by r = known_pushed_of r.consumer
 
   -- the queue that it reads
   abbrev pub reader_queue : PieceReader M → TableId

@@ -29,8 +29,8 @@ module _ {T : Type 0} where
   neither = knowing []
 
   -- one of the lists is a prefix of the other
-  abbrev pub Agree : List T → List T → Type 0
-  Agree xs ys = IsPrefix xs ys ⊎ IsPrefix ys xs
+  abbrev pub ArePrefixComparable : List T → List T → Type 0
+  ArePrefixComparable xs ys = IsPrefix xs ys ⊎ IsPrefix ys xs
 
   -- the longer of two prefixes of one list
   abbrev pub longer : List T → List T → List T
@@ -39,17 +39,17 @@ module _ {T : Type 0} where
   longer (x ∷ xs) (y ∷ ys) = x ∷ longer xs ys
 
   -- the queued items are a suffix of those pushed, after all that are known to be popped
-  abbrev pub Waits : List T → List T → List T → Type 0
-  Waits put known items = (taken : List T) × (taken ++ items ≡ put) × IsPrefix known taken
+  abbrev pub IsQueued : List T → List T → List T → Type 0
+  IsQueued put known items = (taken : List T) × (taken ++ items ≡ put) × IsPrefix known taken
 
   -- what one side knows agrees with all that was pushed and popped
-  pub record Fits (writer reader : ℕ) (put taken : List T) (port : ℕ) (v : Side T) : Type 0 where
+  pub record IsConsistentSide (writer reader : ℕ) (put taken : List T) (port : ℕ) (v : Side T) : Type 0 where
     pub puts : v.puts ≡ true → (port ≡ writer) × (v.put ≡ put)
     pub takes : v.takes ≡ true → (port ≡ reader) × (v.taken ≡ taken)
     pub told : IsPrefix v.told put
     pub known : IsPrefix v.known taken
 
   -- what was pushed is what was popped followed by what is queued; at most one side pushes, and at most one pops
-  abbrev pub IsOneWay : List T → List (Side T) → Type 0
-  IsOneWay items views = (writer : ℕ) × (reader : ℕ) × (put : List T) × (taken : List T) × (put ≡ taken ++ items)
-      × ((port : ℕ) (v : Side T) → get_elem? views port ≡ some v → Fits writer reader put taken port v)
+  abbrev pub IsFifo : List T → List (Side T) → Type 0
+  IsFifo items views = (writer : ℕ) × (reader : ℕ) × (put : List T) × (taken : List T) × (put ≡ taken ++ items)
+      × ((port : ℕ) (v : Side T) → get_elem? views port ≡ some v → IsConsistentSide writer reader put taken port v)

@@ -3,7 +3,7 @@
 ghost use Rattle.std.specs.Prelude.{◌≡◌, ◌≤◌, [], length};
 ghost use Rattle.crossbeam_queue.specs.Passes.{view};
 
-use crate::side::LinePass;
+use crate::side::SharedQueuePass;
 use crossbeam_queue::protocol::{Lesson, Outcome, Protocol, Split};
 use crossbeam_queue::{Pass, RuledArrayQueue};
 use std::marker::{Brand, Model, PhantomData};
@@ -11,16 +11,16 @@ use std::marker::{Brand, Model, PhantomData};
 // A lower bound on the number of popped items, and a pass that knows them.
 #[derive(Drop)]
 pub(crate) struct Credit<T> {
-    pub(crate) pass: LinePass<T>,
+    pub(crate) pass: SharedQueuePass<T>,
     pub(crate) taken: usize,
     ghost counted: { taken ≤ length (view pass).known },
     ghost at_rest: { pass.me.1 ≡ [] },
 }
 
 // A queue of capacity 1 that carries credits back, and its passes.
-pub(crate) type Back<T> = RuledArrayQueue<Credit<T>, Desk, OfOne>;
+pub(crate) type CreditQueue<T> = RuledArrayQueue<Credit<T>, CreditDesk, OfOne>;
 
-pub(crate) type BackPass<T> = Pass<Credit<T>, Desk>;
+pub(crate) type CreditQueuePass<T> = Pass<Credit<T>, CreditDesk>;
 
 // The queue that the credits belong to. Never constructed.
 pub(crate) struct QueueName {
@@ -38,7 +38,7 @@ impl Model for QueueName {
 
 // What a pass of the queue of credits knows: whether the credits' queue is known, and which it is. Never
 // constructed.
-pub(crate) struct Desk {
+pub(crate) struct CreditDesk {
     pub named: bool,
     pub queue: QueueName,
 }
@@ -46,7 +46,7 @@ pub(crate) struct Desk {
 // All credits belong to one queue.
 pub(crate) struct OfOne;
 
-impl<T> Protocol<Credit<T>, Desk> for OfOne {
+impl<T> Protocol<Credit<T>, CreditDesk> for OfOne {
     ghost use Rattle.spsc_queue.specs.Credits.{AreOfOne, unnamed};
 
     ghost holds = { AreOfOne };
@@ -55,24 +55,24 @@ impl<T> Protocol<Credit<T>, Desk> for OfOne {
 }
 
 // The queue that credits belong to. Each call of `open` picks its own.
-pub(crate) trait Named {
+pub(crate) trait QueueBrand {
     ghost use Rattle.atomic_table.specs.Seated.{TableId};
 
     ghost queue: { TableId };
 }
 
-impl Named for Brand {
+impl QueueBrand for Brand {
     ghost use Rattle.spsc_queue.specs.Names.{no_queue};
 
     ghost queue = { no_queue };
 }
 
 // Splits the first pass into two that know the queue.
-pub(crate) struct Names<N> {
+pub(crate) struct SplitNamed<N> {
     of: PhantomData<N>,
 }
 
-impl<N: Named> Split<Desk> for Names<N> {
+impl<N: QueueBrand> Split<CreditDesk> for SplitNamed<N> {
     ghost use Rattle.spsc_queue.specs.Credits.{desk_of};
 
     ghost left = { λ v. desk_of N.queue };
@@ -83,13 +83,13 @@ impl<N: Named> Split<Desk> for Names<N> {
 // A credit of the queue is pushed or popped.
 pub(crate) struct Credits;
 
-impl<T> Outcome<Credit<T>, Desk> for Credits {
+impl<T> Outcome<Credit<T>, CreditDesk> for Credits {
     ghost use Rattle.std.specs.Prelude.{◌≡◌};
 
     ghost then = { λ v x w. (w ≡ v) × (x.pass.table_id ≡ v.queue) };
 }
 
-impl<T> Lesson<Credit<T>, Desk> for Credits {
+impl<T> Lesson<Credit<T>, CreditDesk> for Credits {
     ghost use Rattle.std.specs.Prelude.{⊤};
 
     ghost fact = { λ v items. ⊤ };

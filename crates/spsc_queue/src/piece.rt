@@ -8,16 +8,16 @@ pub enum Piece<M> {
     /// The next bytes, possibly none.
     Bytes(Bytes),
     /// A sentinel between bytes, or after them.
-    Mark(M),
+    Sentinel(M),
 }
 
 /// The result of a read from a queue of bytes.
 #[derive(Drop)]
-pub enum Found<M> {
+pub enum ReadResult<M> {
     /// This many bytes, from 1 to the buffer's length, were written to the start of the buffer.
     Bytes(usize),
     /// A sentinel. Every byte before it was delivered.
-    Mark(M),
+    Sentinel(M),
     /// The queue was empty.
     Nothing,
 }

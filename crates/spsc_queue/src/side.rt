@@ -5,9 +5,9 @@ use crossbeam_queue::{Pass, RuledArrayQueue};
 use std::collections::LinkedList;
 
 // A queue under the rule, and its passes.
-pub(crate) type Line<T> = RuledArrayQueue<T, Side<T>, OneWay>;
+pub(crate) type SharedQueue<T> = RuledArrayQueue<T, Side<T>, FifoRule>;
 
-pub(crate) type LinePass<T> = Pass<T, Side<T>>;
+pub(crate) type SharedQueuePass<T> = Pass<T, Side<T>>;
 
 // What an end may do, what it pushed and popped, a prefix of what was pushed, and a prefix of what was popped.
 // Never constructed.
@@ -21,21 +21,21 @@ pub(crate) struct Side<T> {
 }
 
 // Items are popped in the order in which they were pushed.
-pub(crate) struct OneWay;
+pub(crate) struct FifoRule;
 
-impl<T> Protocol<T, Side<T>> for OneWay {
-    ghost use Rattle.spsc_queue.specs.Sides.{both, IsOneWay};
+impl<T> Protocol<T, Side<T>> for FifoRule {
+    ghost use Rattle.spsc_queue.specs.Sides.{both, IsFifo};
     ghost use Rattle.std.specs.Prelude.{[]};
 
-    ghost holds = { IsOneWay };
+    ghost holds = { IsFifo };
 
     ghost first = { both [] [] [] [] };
 }
 
 // The two ends, apart and together. Together, the consumer knows of every item that was pushed.
-pub(crate) struct Ends;
+pub(crate) struct SplitQueueEnds;
 
-impl<T> Split<Side<T>> for Ends {
+impl<T> Split<Side<T>> for SplitQueueEnds {
     ghost use Rattle.spsc_queue.specs.Sides.{putting, taking};
 
     ghost left = { λ v. putting v.put v.known };
@@ -43,7 +43,7 @@ impl<T> Split<Side<T>> for Ends {
     ghost right = { λ v. taking v.taken v.told };
 }
 
-impl<T> Join<Side<T>> for Ends {
+impl<T> Join<Side<T>> for SplitQueueEnds {
     ghost use Rattle.spsc_queue.specs.Sides.{both, neither};
 
     ghost both = { λ v w. both v.put w.taken v.put v.known };
@@ -63,9 +63,9 @@ impl<T> Split<Side<T>> for Nobody {
 }
 
 // A pass that knows what the consumer popped; the producer learns it from this pass.
-pub(crate) struct Taken;
+pub(crate) struct SplitPopped;
 
-impl<T> Split<Side<T>> for Taken {
+impl<T> Split<Side<T>> for SplitPopped {
     ghost use Rattle.spsc_queue.specs.Sides.{knowing};
 
     ghost left = { λ v. v };
@@ -73,7 +73,7 @@ impl<T> Split<Side<T>> for Taken {
     ghost right = { λ v. knowing v.taken };
 }
 
-impl<T> Join<Side<T>> for Taken {
+impl<T> Join<Side<T>> for SplitPopped {
     ghost use Rattle.spsc_queue.specs.Sides.{putting, neither, longer};
 
     ghost both = { λ v w. putting v.put (longer v.known w.known) };
@@ -81,9 +81,9 @@ impl<T> Join<Side<T>> for Taken {
     ghost spent = { neither };
 }
 
-pub(crate) struct Puts;
+pub(crate) struct PushOutcome;
 
-impl<T> Outcome<T, Side<T>> for Puts {
+impl<T> Outcome<T, Side<T>> for PushOutcome {
     ghost use Rattle.std.specs.Prelude.{◌≡◌, [], ◌∷◌, ◌++◌};
     ghost use Rattle.spsc_queue.specs.Sides.{putting};
 
@@ -91,32 +91,32 @@ impl<T> Outcome<T, Side<T>> for Puts {
 }
 
 // The queued items are a suffix of those pushed, after all that are known to be popped.
-impl<T> Lesson<T, Side<T>> for Puts {
-    ghost use Rattle.spsc_queue.specs.Sides.{Waits};
+impl<T> Lesson<T, Side<T>> for PushOutcome {
+    ghost use Rattle.spsc_queue.specs.Sides.{IsQueued};
 
-    ghost fact = { λ v items. Waits v.put v.known items };
+    ghost fact = { λ v items. IsQueued v.put v.known items };
 }
 
 // At most as many items are known to be popped as were pushed.
-pub(crate) struct Behind;
+pub(crate) struct KnownWithinPushed;
 
-impl<T> Lesson<T, Side<T>> for Behind {
+impl<T> Lesson<T, Side<T>> for KnownWithinPushed {
     ghost use Rattle.std.specs.Prelude.{◌≤◌, length};
 
     ghost fact = { λ v items. length v.known ≤ length v.put };
 }
 
-pub(crate) struct Takes;
+pub(crate) struct PopOutcome;
 
-impl<T> Outcome<T, Side<T>> for Takes {
+impl<T> Outcome<T, Side<T>> for PopOutcome {
     ghost use Rattle.std.specs.Prelude.{◌≡◌, [], ◌∷◌, ◌++◌};
-    ghost use Rattle.spsc_queue.specs.Sides.{taking, Agree};
+    ghost use Rattle.spsc_queue.specs.Sides.{taking, ArePrefixComparable};
 
-    ghost then = { λ v x w. (w ≡ taking (v.taken ++ x ∷ []) v.told) × Agree w.told w.taken };
+    ghost then = { λ v x w. (w ≡ taking (v.taken ++ x ∷ []) v.told) × ArePrefixComparable w.told w.taken };
 }
 
 // Each item that it knows to be pushed was popped or is queued.
-impl<T> Lesson<T, Side<T>> for Takes {
+impl<T> Lesson<T, Side<T>> for PopOutcome {
     ghost use Rattle.std.specs.Prelude.{◌++◌};
     ghost use mathlib.Core.List.{IsPrefix};
 

@@ -3,9 +3,9 @@ use Rattle.std.proofs.Common.{◌≡◌, ℕ, ◌≤◌, List, length, Result, O
 use Rattle.mrpc_table.specs.declared.memory.Memory.{Memory}
 use Rattle.mrpc_table.specs.declared.table.Table.{Table}
 use Rattle.graph_form.specs.Forgotten.{tree_of}
-use Rattle.graph_form.specs.Malformed.{Outcome, copied, malformed, ComesTo, is_copied, is_malformed, IsMalformed}
+use Rattle.graph_form.specs.Malformed.{GraphOutcome, copied, malformed, HasOutcome, is_copied, is_malformed, IsMalformed}
 use Rattle.graph_form.specs.Placed.{Placed, loads}
-use Rattle.graph_copy.specs.Answers.{IfCopied, IfMalformed, loads_of}
+use Rattle.graph_copy.specs.Answers.{IfCopied, IfMalformed, load_count}
 use Rattle.graph_copy.specs.Copies.{IsCopied}
 use Rattle.graph_copy.specs.declared.copying.CopyResult.{CopyResult}
 use Rattle.graph_copy.specs.declared.copying.CopyResult.TheVariants.{Copied, Malformed}
@@ -14,8 +14,8 @@ pub answered : (T : Table) (H msg address limit : ℕ) (own : List (ℕ × ℕ))
     → length own ≤ limit
     → IfOk r (IfCopied (IsCopied T H msg address own))
     → IfOk r (IfMalformed (IsMalformed T H msg address limit own))
-    → IfOk r (λ answer. loads_of answer ≡ length own)
-    → ((outcome : Outcome) → ComesTo T H msg address limit own outcome
+    → IfOk r (λ answer. load_count answer ≡ length own)
+    → ((outcome : GraphOutcome) → HasOutcome T H msg address limit own outcome
     → (own ≡ loads P) × (outcome ≡ copied (tree_of T msg P)))
     → IfOk r (λ answer. answer ≡ Copied (tree_of T msg P) (length (loads P)))
 answered T H msg address limit own P (Err e) few c m n law = tt

@@ -3,8 +3,8 @@ use Rattle.std.proofs.Common.{◌≡◌, ℕ, List, [], ◌∷◌, ◌++◌, tak
 use Rattle.std.proofs.lemmas.List.Elements.{All-from_recursion, recursion_from_All}
 use Rattle.mrpc_base.specs.Heap.{word_after}
 use Rattle.graph_form.specs.Placed.{Placed, nothing, first, word, loads}
-use Rattle.shared_heap.specs.Fresh.{NoneTo}
-use Rattle.stable_copy.specs.Untouched.{StandsUntouched}
+use Rattle.shared_heap.specs.Fresh.{HasNoStoreTo}
+use Rattle.stable_copy.specs.Unmodified.{IsUnmodifiedSince}
 
 -- a string of seven bytes at place 2: its length, its address and its one word
 abbrev testing : Placed
@@ -19,7 +19,7 @@ abbrev Made : ℕ → List (ℕ × ℕ) → ℕ × ℕ → Type 0
 Made after stores load = load.1 ≡ word_after (take after stores) load.0
 
 abbrev Rests : List (ℕ × ℕ) → ℕ × ℕ → Type 0
-Rests stores load = NoneTo load.0 stores
+Rests stores load = HasNoStoreTo load.0 stores
 
 abbrev Apart : ℕ → ℕ × ℕ → Type 0
 Apart place store = store.0 ≡ place → ⊥
@@ -36,7 +36,7 @@ address_rests = rests 3 4 (λ e. omega (arith, e)) (λ e. omega (arith, e))
 word_rests : Rests (drop 3 stored) (4, 0x676e6974736574)
 word_rests = rests 4 0x676e6974736574 (λ e. omega (arith, e)) (λ e. omega (arith, e))
 
-all_stand : StandsUntouched stored 3 testing
+all_stand : IsUnmodifiedSince stored 3 testing
 unfolding word_after
 all_stand = record {
   stands = All-from_recursion (Made 3 stored) (loads testing) (refl, (refl, (refl, tt)));
@@ -48,14 +48,14 @@ all_stand = record {
 abbrev stored_again : List (ℕ × ℕ)
 stored_again = stored ++ (2, 3) ∷ []
 
-touched : StandsUntouched stored_again 3 testing → ⊥
+touched : IsUnmodifiedSince stored_again 3 testing → ⊥
 touched s =
     let each = recursion_from_All (Rests (drop 3 stored_again)) (loads testing) s.untouched in
     let none = recursion_from_All (Apart 2) (drop 3 stored_again) each.0 in
     none.1.1.0 refl
 
 -- after one store its address isn't stored yet
-early : StandsUntouched stored 1 testing → ⊥
+early : IsUnmodifiedSince stored 1 testing → ⊥
 unfolding word_after
 early s =
     let each = recursion_from_All (Made 1 stored) (loads testing) s.stands in

@@ -1,1 +1,1 @@
-pub mod Untouched
+pub mod Unmodified

@@ -1,21 +1,21 @@
 //! Copies a message that a reader loads.
 
 ghost use Rattle.std.specs.Prelude.{◌≡◌, ◌<◌, ◌≤◌, [], ◌∷◌, ◌++◌, ℕ, List, IfOk, length, map};
-ghost use Rattle.mrpc_base.specs.Heap.{AfterLoads};
+ghost use Rattle.mrpc_base.specs.Heap.{AreLoads};
 ghost use Rattle.mrpc_table.specs.Valid.{IsValid};
 ghost use Rattle.mrpc_table.specs.declared.limits.TheConstants.{MAX_HEAP, MAX_LOADS, MIN_HEAP};
 ghost use Rattle.graph_form.specs.Forgotten.{tree_of};
 ghost use Rattle.graph_form.specs.Malformed.{IsMalformed};
 ghost use Rattle.graph_form.specs.Placed.{Placed, loads, IsSound};
-ghost use Rattle.graph_copy.specs.Answers.{IfCopied, IfMalformed, loads_of};
-ghost use Rattle.graph_copy.specs.Copies.{since, IsCopied};
-ghost use Rattle.shared_heap.specs.Fresh.{AfterLoad, BeginsWith, CallLoads, Fresh, word_of};
-ghost use Rattle.stable_copy.specs.Untouched.{StandsUntouched};
+ghost use Rattle.graph_copy.specs.Answers.{IfCopied, IfMalformed, load_count};
+ghost use Rattle.graph_copy.specs.Copies.{loads_since, IsCopied};
+ghost use Rattle.shared_heap.specs.Fresh.{AfterLoad, IsPrefix, CallLoads, AreFresh, word_of_load};
+ghost use Rattle.stable_copy.specs.Unmodified.{IsUnmodifiedSince};
 
-use crate::laws::untouched_graph_is_copied;
+use crate::laws::unmodified_graph_is_copied;
 use graph_copy::{CopyResult, copy};
 use mrpc_table::{Memory, Table};
-use shared_heap::{Reader, calls_are_fresh, loads_change_no_more};
+use shared_heap::{Reader, calls_are_fresh, loads_preserve_reader};
 use std::alloc::Global;
 
 /// Copies the message of type `msg` (its index in the table) at the address `addr` of a heap, with at most `limit`
@@ -40,36 +40,36 @@ pub fn copy_message(
     // of stores that extends what the reader now knows.
     ensures untouched { (P : Placed) (all : List (ℕ × ℕ)) (after : ℕ)
         → IsSound table.now reader.old.heap.words msg addr P → length (loads P) ≤ limit
-        → BeginsWith all reader.new.known → after ≤ length reader.old.known → StandsUntouched all after P
+        → IsPrefix all reader.new.known → after ≤ length reader.old.known → IsUnmodifiedSince all after P
         → IfOk result (λ answer. answer ≡ CopyResult.Copied (tree_of table.now msg P) (length (loads P))) }
 
     // For each result, the reader made these loads, and nothing else changed.
-    ensures adds { map word_of reader.new.loads
-        ≡ map word_of reader.old.loads ++ since (map word_of reader.old.loads) (map word_of reader.new.loads) }
-    ensures only_loads { AfterLoads AfterLoad reader.old
-        (since (map word_of reader.old.loads) (map word_of reader.new.loads)) reader.new }
-    ensures few { length (since (map word_of reader.old.loads) (map word_of reader.new.loads)) ≤ limit }
+    ensures adds { map word_of_load reader.new.loads
+        ≡ map word_of_load reader.old.loads ++ loads_since (map word_of_load reader.old.loads) (map word_of_load reader.new.loads) }
+    ensures only_loads { AreLoads AfterLoad reader.old
+        (loads_since (map word_of_load reader.old.loads) (map word_of_load reader.new.loads)) reader.new }
+    ensures few { length (loads_since (map word_of_load reader.old.loads) (map word_of_load reader.new.loads)) ≤ limit }
     ensures heap { reader.new.heap ≡ reader.old.heap }
-    ensures grows { BeginsWith reader.new.known reader.old.known }
+    ensures grows { IsPrefix reader.new.known reader.old.known }
 
     // Fresh loads stay fresh: these join those of earlier calls as the loads of one more call, after at most as many
     // stores as the reader knew.
-    ensures fresh { (calls : List CallLoads) (after : ℕ) → Fresh calls reader.old.known
-        → after ≤ length reader.old.known → Fresh (calls ++ (record {
+    ensures fresh { (calls : List CallLoads) (after : ℕ) → AreFresh calls reader.old.known
+        → after ≤ length reader.old.known → AreFresh (calls ++ (record {
           after = after;
-          loads = since (map word_of reader.old.loads) (map word_of reader.new.loads);
+          loads = loads_since (map word_of_load reader.old.loads) (map word_of_load reader.new.loads);
         }) ∷ []) reader.new.known }
 
     // It is the copy that `graph_copy` makes with exactly these loads.
     ensures copied { IfOk result (IfCopied (IsCopied table.now reader.old.heap.words msg addr
-        (since (map word_of reader.old.loads) (map word_of reader.new.loads)))) }
+        (loads_since (map word_of_load reader.old.loads) (map word_of_load reader.new.loads)))) }
     ensures malformed { IfOk result (IfMalformed (IsMalformed table.now reader.old.heap.words msg addr limit
-        (since (map word_of reader.old.loads) (map word_of reader.new.loads)))) }
+        (loads_since (map word_of_load reader.old.loads) (map word_of_load reader.new.loads)))) }
     ensures counted { IfOk result (λ answer.
-        loads_of answer ≡ length (since (map word_of reader.old.loads) (map word_of reader.new.loads))) }
+        load_count answer ≡ length (loads_since (map word_of_load reader.old.loads) (map word_of_load reader.new.loads))) }
 {
-    untouched_graph_is_copied();
-    loads_change_no_more();
+    unmodified_graph_is_copied();
+    loads_preserve_reader();
     calls_are_fresh();
     copy(alloc, reader, table, msg, addr, limit)
 }

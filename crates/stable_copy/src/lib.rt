@@ -10,4 +10,4 @@ mod copying;
 mod laws;
 
 pub use copying::copy_message;
-pub use laws::untouched_graph_is_copied;
+pub use laws::unmodified_graph_is_copied;

@@ -2,9 +2,9 @@
 
 ghost use Rattle.std.specs.Prelude.{◌≡◌, ◌≢◌, ◌<◌, ◌≤◌, length, take, IfOk, IsNone, IsSome};
 ghost use Rattle.std.specs.Io.KnownBytes.{Appends, Keeps};
-ghost use Rattle.mrpc_base.specs.Faults.{HasCause, raised};
-ghost use Rattle.mrpc_base.specs.Writing.{OnTook};
-ghost use Rattle.system_io.specs.FileSink.{contents_of, HoldsFirst};
+ghost use Rattle.mrpc_base.specs.Failures.{HasCause, raised};
+ghost use Rattle.mrpc_base.specs.Sinks.{OnTook};
+ghost use Rattle.system_io.specs.FileSink.{file_contents, IsOpenedWith};
 
 use crate::locking::Lock;
 use crate::writing::write_once;
@@ -22,20 +22,20 @@ const WIRE: &str = "mrpc.wire";
 /// The first write creates or empties the file; without a write it isn't touched. The sink then holds its lock until it
 /// is dropped. If the file can't be created, locked or emptied, that write fails, and the next one tries again. The
 /// sink is generic over the system's files: it reveals the contents if an open file does, and the system's files reveal
-/// nothing. Contracts see a `Filed`.
+/// nothing. Contracts see a `FileSinkState`.
 #[derive(Drop)]
 pub struct FileSink<R: Files + Drop> {
     files: R,
     file: Option<R::File>,
-    faults: u64,
+    failures: u64,
 }
 
 impl<R: Files + Drop> Model for FileSink<R> {
-    ghost use Rattle.system_io.specs.FileSink.{Filed};
+    ghost use Rattle.system_io.specs.FileSink.{FileSinkState};
 
-    ghost Value = { Filed R.File };
+    ghost Value = { FileSinkState R.File };
 
-    ghost view = { λ s. record { file = s.file; faults = s.faults } };
+    ghost view = { λ s. record { file = s.file; failures = s.failures } };
 }
 
 // Opens the file, and creates it if it doesn't exist. This doesn't empty it, since another sink may hold it.
@@ -59,12 +59,12 @@ where
     /// A sink before its first write, without an open file.
     pub fn new(files: R) -> Self
         ensures no_file { IsNone result.file }
-        ensures faults { result.faults ≡ 0 }
+        ensures failures { result.failures ≡ 0 }
     {
         FileSink {
             files,
             file: None,
-            faults: 0,
+            failures: 0,
         }
     }
 
@@ -74,14 +74,14 @@ where
 
         ensures count { OnTook result (λ n. (0 < n) × (n ≤ length piece.now)) }
         ensures appended { OnTook result (λ n.
-            Appends (contents_of R.File.contents self.old.file) (contents_of R.File.contents self.new.file)
+            Appends (file_contents R.File.contents self.old.file) (file_contents R.File.contents self.new.file)
             (take n piece.now)) }
         ensures kept { result ≡ Put.Failed
-            → Keeps (contents_of R.File.contents self.old.file) (contents_of R.File.contents self.new.file) }
+            → Keeps (file_contents R.File.contents self.old.file) (file_contents R.File.contents self.new.file) }
         ensures made { OnTook result (λ _. IsSome self.new.file) }
         ensures first { IsNone self.old.file
-            → OnTook result (λ n. HoldsFirst R.File.contents R.File.is_locked self.new.file (take n piece.now)) }
-        ensures faults { self.new.faults ≡ self.old.faults }
+            → OnTook result (λ n. IsOpenedWith R.File.contents R.File.is_locked self.new.file (take n piece.now)) }
+        ensures failures { self.new.failures ≡ self.old.failures }
     {
         if let Some(file) = &mut self.file {
             return write_once(file, piece);
@@ -101,9 +101,9 @@ impl<R: Files + Drop> Sink for FileSink<R>
 where
     R::File: Lock,
 {
-    ghost written = { λ s. contents_of R.File.contents s.file };
+    ghost written = { λ s. file_contents R.File.contents s.file };
 
-    ghost faults = { λ s. s.faults };
+    ghost failures = { λ s. s.failures };
 
     fn write(&mut self, piece: &[u8]) -> Put
         requires some { 0 < length piece.now }
@@ -111,22 +111,22 @@ where
         // The bytes written.
         ensures count { OnTook result (λ n. (0 < n) × (n ≤ length piece.now)) }
         ensures appended { OnTook result (λ n.
-            Appends (contents_of R.File.contents self.old.file) (contents_of R.File.contents self.new.file)
+            Appends (file_contents R.File.contents self.old.file) (file_contents R.File.contents self.new.file)
             (take n piece.now)) }
         ensures kept { result ≡ Put.Failed
-            → Keeps (contents_of R.File.contents self.old.file) (contents_of R.File.contents self.new.file) }
+            → Keeps (file_contents R.File.contents self.old.file) (file_contents R.File.contents self.new.file) }
         ensures made { OnTook result (λ _. IsSome self.new.file) }
         // The file that the first write created or emptied is locked, and holds what was taken of that write.
         ensures first { IsNone self.old.file
-            → OnTook result (λ n. HoldsFirst R.File.contents R.File.is_locked self.new.file (take n piece.now)) }
+            → OnTook result (λ n. IsOpenedWith R.File.contents R.File.is_locked self.new.file (take n piece.now)) }
 
         // The counts.
-        ensures faults { result ≡ Put.Failed → self.new.faults ≡ raised self.old.faults }
-        ensures cause { HasCause (result ≡ Put.Failed) self.old.faults self.new.faults }
+        ensures failures { result ≡ Put.Failed → self.new.failures ≡ raised self.old.failures }
+        ensures cause { HasCause (result ≡ Put.Failed) self.old.failures self.new.failures }
     {
         let put = self.write_to_file(piece);
         if put == Put::Failed {
-            self.faults = self.faults.saturating_add(1);
+            self.failures = self.failures.saturating_add(1);
         }
         put
     }

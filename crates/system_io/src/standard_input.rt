@@ -2,43 +2,46 @@
 
 ghost use Rattle.std.specs.Prelude.{◌≡◌, ◌≢◌, ◌<◌, ◌≤◌, length, take};
 ghost use Rattle.std.specs.Io.KnownBytes.{Consumes, IsAtEnd, Keeps};
-ghost use Rattle.mrpc_base.specs.Faults.{HasCause, raised};
-ghost use Rattle.mrpc_base.specs.Reading.{OnBytes, OnNoBytes};
+ghost use Rattle.mrpc_base.specs.Failures.{HasCause, raised};
+ghost use Rattle.mrpc_base.specs.Sources.{OnBytes, OnNoBytes};
 
 use mrpc_base::{Got, Source};
 use std::io::Read;
 use std::marker::Model;
 
 /// Standard input, or another reader, as a source. It reveals the remaining bytes if the reader does; the system's
-/// reader reveals nothing. Contracts see an `Input`.
+/// reader reveals nothing. Contracts see an `InputState`.
 #[derive(Drop)]
 pub struct StandardInput<R: Read + Drop> {
     reader: R,
-    faults: u64,
+    failures: u64,
 }
 
 impl<R: Read + Drop> Model for StandardInput<R> {
-    ghost use Rattle.system_io.specs.Streams.{Input};
+    ghost use Rattle.system_io.specs.Streams.{InputState};
 
-    ghost Value = { Input };
+    ghost Value = { InputState };
 
-    ghost view = { λ s. record { left = R.remaining s.reader; faults = s.faults } };
+    ghost view = { λ s. record { left = R.remaining s.reader; failures = s.failures } };
 }
 
 impl<R: Read + Drop> StandardInput<R> {
     /// A source before its first read.
     pub fn new(reader: R) -> Self
         ensures left { result.left ≡ R.remaining reader }
-        ensures faults { result.faults ≡ 0 }
+        ensures failures { result.failures ≡ 0 }
     {
-        StandardInput { reader, faults: 0 }
+        StandardInput {
+            reader,
+            failures: 0,
+        }
     }
 }
 
 impl<R: Read + Drop> Source for StandardInput<R> {
     ghost left = { λ s. s.left };
 
-    ghost faults = { λ s. s.faults };
+    ghost failures = { λ s. s.failures };
 
     fn read(&mut self, buf: &mut [u8]) -> Got
         requires room { 0 < length buf.old }
@@ -50,14 +53,14 @@ impl<R: Read + Drop> Source for StandardInput<R> {
         ensures kept { OnNoBytes result (Keeps self.old.left self.new.left) }
 
         // The counts.
-        ensures faults { result ≡ Got.Failed → self.new.faults ≡ raised self.old.faults }
-        ensures cause { HasCause (result ≡ Got.Failed) self.old.faults self.new.faults }
+        ensures failures { result ≡ Got.Failed → self.new.failures ≡ raised self.old.failures }
+        ensures cause { HasCause (result ≡ Got.Failed) self.old.failures self.new.failures }
     {
         match self.reader.read(buf) {
             Ok(0) => Got::End,
             Ok(n) => Got::Bytes(n),
             Err(_) => {
-                self.faults = self.faults.saturating_add(1);
+                self.failures = self.failures.saturating_add(1);
                 Got::Failed
             }
         }

@@ -2,8 +2,8 @@
 
 ghost use Rattle.std.specs.Prelude.{◌≡◌, ◌≢◌, ◌<◌, ◌≤◌, length, take};
 ghost use Rattle.std.specs.Io.KnownBytes.{Appends, Keeps};
-ghost use Rattle.mrpc_base.specs.Faults.{HasCause, raised};
-ghost use Rattle.mrpc_base.specs.Writing.{OnTook};
+ghost use Rattle.mrpc_base.specs.Failures.{HasCause, raised};
+ghost use Rattle.mrpc_base.specs.Sinks.{OnTook};
 
 use crate::writing::write_once;
 use mrpc_base::{Put, Sink};
@@ -11,35 +11,38 @@ use std::io::Write;
 use std::marker::Model;
 
 /// Standard output, or another writer, as a sink. Each write goes to the writer at once, so that each reports its own
-/// failure. It reveals its contents if the writer does; the system's writer reveals nothing. Contracts see an `Output`.
+/// failure. It reveals its contents if the writer does; the system's writer reveals nothing. Contracts see an `OutputState`.
 #[derive(Drop)]
 pub struct StandardOutput<W: Write + Drop> {
     writer: W,
-    faults: u64,
+    failures: u64,
 }
 
 impl<W: Write + Drop> Model for StandardOutput<W> {
-    ghost use Rattle.system_io.specs.Streams.{Output};
+    ghost use Rattle.system_io.specs.Streams.{OutputState};
 
-    ghost Value = { Output };
+    ghost Value = { OutputState };
 
-    ghost view = { λ s. record { written = W.contents s.writer; faults = s.faults } };
+    ghost view = { λ s. record { written = W.contents s.writer; failures = s.failures } };
 }
 
 impl<W: Write + Drop> StandardOutput<W> {
     /// A sink before its first write.
     pub fn new(writer: W) -> Self
         ensures written { result.written ≡ W.contents writer }
-        ensures faults { result.faults ≡ 0 }
+        ensures failures { result.failures ≡ 0 }
     {
-        StandardOutput { writer, faults: 0 }
+        StandardOutput {
+            writer,
+            failures: 0,
+        }
     }
 }
 
 impl<W: Write + Drop> Sink for StandardOutput<W> {
     ghost written = { λ s. s.written };
 
-    ghost faults = { λ s. s.faults };
+    ghost failures = { λ s. s.failures };
 
     fn write(&mut self, piece: &[u8]) -> Put
         requires some { 0 < length piece.now }
@@ -50,12 +53,12 @@ impl<W: Write + Drop> Sink for StandardOutput<W> {
         ensures kept { result ≡ Put.Failed → Keeps self.old.written self.new.written }
 
         // The counts.
-        ensures faults { result ≡ Put.Failed → self.new.faults ≡ raised self.old.faults }
-        ensures cause { HasCause (result ≡ Put.Failed) self.old.faults self.new.faults }
+        ensures failures { result ≡ Put.Failed → self.new.failures ≡ raised self.old.failures }
+        ensures cause { HasCause (result ≡ Put.Failed) self.old.failures self.new.failures }
     {
         let put = write_once(&mut self.writer, piece);
         if put == Put::Failed {
-            self.faults = self.faults.saturating_add(1);
+            self.failures = self.failures.saturating_add(1);
         }
         put
     }

@@ -2,7 +2,7 @@
 
 ghost use Rattle.std.specs.Prelude.{◌≡◌, ◌<◌, ◌≤◌, length, take};
 ghost use Rattle.std.specs.Io.KnownBytes.{Appends, Keeps};
-ghost use Rattle.mrpc_base.specs.Writing.{OnTook};
+ghost use Rattle.mrpc_base.specs.Sinks.{OnTook};
 
 use mrpc_base::Put;
 use std::io::Write;

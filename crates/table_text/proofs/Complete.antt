@@ -11,17 +11,17 @@ use Rattle.std.proofs.lemmas.List.Elements.{All-from_recursion, recursion_from_A
 use Rattle.std.proofs.lemmas.Bool.{ltb-true}
 use Rattle.mrpc_table.specs.Names.{is_short, is_short_full}
 use Rattle.mrpc_table.specs.declared.limits.TheConstants.{MAX_FIELD_NUMBER, FIRST_RESERVED_NUMBER, LAST_RESERVED_NUMBER}
-use Rattle.mrpc_table.specs.Valid.{Ascends, AreDistinct, IsBelow, IsFieldNumber, OneofsFollow, IsField, IsMessage, IsMethod}
+use Rattle.mrpc_table.specs.Valid.{IsAscendingBy, AreDistinct, IsBelow, IsFieldNumber, AreOneofsInOrder, IsField, IsMessage, IsMethod}
 use Rattle.table_text.proofs.TableFacts.{both as both_hold, both_left, both_right}
-use Rattle.table_text.specs.Judged.{fields, field_falls, is_field_below, repeats_number, Types, Before, is_among}
-use Rattle.table_text.specs.Judged.{is_empty, falls, last_of, lacks_value, lacks_zero}
-use Rattle.table_text.specs.Judged.{has_field_number, is_index, clashes}
-use Rattle.table_text.specs.Judged.{is_unknown_kind, is_unknown_label, is_short_kind}
-use Rattle.table_text.specs.Judged.{is_short_label}
-use Rattle.table_text.specs.Places.{place}
-use Rattle.table_text.specs.Drafts.{open_part, enum_names, message_names, method_names, before, labeled}
-use Rattle.table_text.specs.Drafts.{new_oneof, joined_with, field_of, method_of, with_message, with_field}
-use Rattle.table_text.specs.Drafts.{with_part, table_of, added_message, added_method}
+use Rattle.table_text.specs.LineTests.{fields, is_field_out_of_order, is_field_below, repeats_number, TypeNames, NamesBefore, is_among}
+use Rattle.table_text.specs.LineTests.{is_empty, is_below_last, last_of, lacks_value, lacks_zero}
+use Rattle.table_text.specs.LineTests.{has_field_number, is_index, clashes}
+use Rattle.table_text.specs.LineTests.{is_unknown_kind, is_unknown_label, is_short_kind}
+use Rattle.table_text.specs.LineTests.{is_short_label}
+use Rattle.table_text.specs.NameIndex.{index_or_next}
+use Rattle.table_text.specs.Drafts.{open_part, enum_names, message_names, method_names, names_before_line, labeled}
+use Rattle.table_text.specs.Drafts.{new_oneof, joined_with, resolved_field, resolved_method, with_message, with_field_line}
+use Rattle.table_text.specs.Drafts.{with_part, table_of_draft, added_message, added_method}
 use Rattle.mrpc_table.specs.declared.table.Kind.{Kind}
 use Rattle.mrpc_table.specs.declared.table.Label.{Label}
 use Rattle.mrpc_table.specs.declared.table.Field.{Field as TheField}
@@ -31,10 +31,10 @@ use Rattle.mrpc_table.specs.declared.table.Method.{Method as TheMethod}
 use Rattle.mrpc_table.specs.declared.table.Table.{Table}
 use Rattle.table_text.specs.declared.line.FieldLine.{FieldLine}
 use Rattle.table_text.specs.declared.line.MethodLine.{MethodLine}
-use Rattle.table_text.specs.declared.line.Line.{Line}
-use Rattle.table_text.specs.declared.line.Line.TheVariants.{Message, Field, Method}
-use Rattle.table_text.specs.declared.draft.Open.TheVariants as open_parts
-use Rattle.table_text.specs.declared.draft.Draft.{Draft}
+use Rattle.table_text.specs.declared.line.TableLine.{TableLine}
+use Rattle.table_text.specs.declared.line.TableLine.TheVariants.{Message, Field, Method}
+use Rattle.table_text.specs.declared.draft.OpenPart.TheVariants as open_parts
+use Rattle.table_text.specs.declared.draft.TableDraft.{TableDraft}
 use Rattle.table_text.proofs.KeptLemmas.{numbered}
 use Rattle.table_text.proofs.LastLemmas.{last-map}
 use Rattle.table_text.proofs.OrderLemmas.{contains_first, contains_later}
@@ -48,11 +48,11 @@ use Rattle.std.proofs.lemmas.List.{take_all}
 use Rattle.std.proofs.Common.{take, drop}
 use Rattle.mrpc_table.specs.Text.{spaced, table_text, message_name}
 use Rattle.mrpc_table.specs.Valid.{IsValid}
-use Rattle.mrpc_table.specs.Lines.{words_of, whole_lines, rest_of, pieces_of}
-use Rattle.table_text.specs.Lines.{line_of, behind}
-use Rattle.table_text.specs.Faults.{bytes_of}
-use Rattle.table_text.specs.Judged.{line_fault, end_fault, fault_behind, types_of, before_of}
-use Rattle.table_text.specs.Drafts.{added_line, draft_of, empty_draft, table_in}
+use Rattle.mrpc_table.specs.Lines.{words_of, whole_lines, remainder_of, pieces_of}
+use Rattle.table_text.specs.Lines.{line_of, without_prefix}
+use Rattle.table_text.specs.Faults.{bytes_of_lines}
+use Rattle.table_text.specs.LineTests.{line_fault, end_fault, fault_after_lines, types_of, names_in_lines}
+use Rattle.table_text.specs.Drafts.{with_parsed_line, table_draft_of, empty_draft, table_in}
 use Rattle.table_text.specs.declared.fault.TableReason.{TableReason}
 use Rattle.std.proofs.lemmas.Bool.{eq-eqb}
 use Rattle.table_text.proofs.OrderLemmas.{contains_nothing, contains_cases, or_true}
@@ -100,11 +100,11 @@ field_number_is n h =
     ])
 
 last_numbered : (fs : List TheField) (n : ℕ) → ((last : TheField) → last_of fs ≡ Some last → last.number < n)
-    → (field_falls (fields (map numbered fs)) (Some n) ≡ false)
+    → (is_field_out_of_order (fields (map numbered fs)) (Some n) ≡ false)
     × (repeats_number (fields (map numbered fs)) (Some n) ≡ false)
 last_numbered fs n up = go (last_of fs) refl
   where
-    go : (o : Option TheField) → last_of fs ≡ o → (field_falls (fields (map numbered fs)) (Some n) ≡ false) × (repeats_number (fields (map numbered fs)) (Some n) ≡ false)
+    go : (o : Option TheField) → last_of fs ≡ o → (is_field_out_of_order (fields (map numbered fs)) (Some n) ≡ false) × (repeats_number (fields (map numbered fs)) (Some n) ≡ false)
     go None e =
         let at : last_of (map numbered fs) ≡ None = last-map numbered fs ∙ ap (option_map numbered) e in (
           ap (λ (o : Option (ℕ × List ℕ)). option_map_or (is_field_below (Some n)) o false) at,
@@ -125,9 +125,9 @@ all_three true true c e f g = g
 all_three true false c e f g = absurd cc
 all_three false b c e f g = absurd cc
 
-fields_run : (t : Types) (T : Table) (m : TheMessage) (d : Draft) (b : ℕ) (fs gs : List TheField) (met : ℕ)
+fields_run : (t : TypeNames) (T : Table) (m : TheMessage) (d : TableDraft) (b : ℕ) (fs gs : List TheField) (met : ℕ)
     → IsValid T → TypesOf t T → IsMessage T m → m.fields ≡ fs ++ gs → met ≤ length m.oneofs
-    → OneofsFollow met (length m.oneofs) gs → bytes_from b (map (field_text T m.oneofs) gs) ≤ 65536
+    → AreOneofsInOrder met (length m.oneofs) gs → bytes_from b (map (field_text T m.oneofs) gs) ≤ 65536
     → Runs t (with_part d (open_parts.Message (record { name = m.name; fields = fs; oneofs = take met m.oneofs }))) b (map (field_text T m.oneofs) gs) (with_part d (open_parts.Message m))
 fields_run t T m d b fs [] met valid is ok split le follow few =
     let all : take met m.oneofs ≡ m.oneofs = take_all met m.oneofs (omega (arith, follow)) in
@@ -140,7 +140,7 @@ fields_run t T m d b fs (g ∷ gs) met valid is ok split le follow few =
     let field = All-contains (IsField T (length m.oneofs)) (fs ++ g ∷ gs) g
     (subst (All (IsField T (length m.oneofs))) split ok.fields)
     (Contains-append_right fs (g ∷ gs) g (contains_first g gs)) in
-    let P : ℕ → Type 0 = λ k. OneofsFollow k (length m.oneofs) gs in
+    let P : ℕ → Type 0 = λ k. AreOneofsInOrder k (length m.oneofs) gs in
     let lr = label_runs t T m.oneofs met g.label g.kind P valid is ok.oneofs ok.oneof_names (few_oneofs T m ok) le (λ k h. follow_ge k (length m.oneofs) gs h) field.label follow in
     let kw = kind_word_of t T g.kind valid is field.kind in
     let entry = field_entry T m.oneofs g in
@@ -150,7 +150,7 @@ fields_run t T m d b fs (g ∷ gs) met valid is ok split le follow few =
     let below : n < 2 ^ 32 = omega (arith, field.number.small) in
     let reads : line_of text ≡ Some (Field entry) = line_read (codes "field" ∷ decimal n ∷ label_text T m.oneofs g.label ∷ kind_text T g.kind ∷ g.name ∷ []) (Field entry)
     (decimal n, label_text T m.oneofs g.label, kind_text T g.kind, refl, (refl, below), lr.spelled, kind_word_is T g.kind valid field.kind, field.name.form) in
-    let up = subst (Ascends (λ (f g : TheField). f.number < g.number)) split ok.ascend in
+    let up = subst (IsAscendingBy (λ (f g : TheField). f.number < g.number)) split ok.ascend in
     let order = last_numbered fs n (λ last e. ascends_split (λ (f g : TheField). f.number < g.number) fs g gs up last e) in
     let apart = subst AreDistinct (ap (map (λ (f : TheField). f.name)) split ∙ map-append (λ (f : TheField). f.name) fs (g ∷ gs)) ok.names in
     let fresh : is_among g.name (map (λ (p : ℕ × List ℕ). p.1) (map numbered fs)) ≡ false =
@@ -162,7 +162,7 @@ fields_run t T m d b fs (g ∷ gs) met valid is ok split le follow few =
     all_three (is_short_label entry.label) (is_short_kind entry.kind) (is_short g.name) lr.short kw.short
     (le-leb (length g.name) 64 field.name.short) in
     let le_bytes = bytes_rise (b + length text + 1) (map (field_text T m.oneofs) gs) in
-    let made : field_of t oneofs n entry ≡ g =
+    let made : resolved_field t oneofs n entry ≡ g =
     ap (λ (k : Kind). record {
       number = n;
       name = g.name;
@@ -170,7 +170,7 @@ fields_run t T m d b fs (g ∷ gs) met valid is ok split le follow few =
       label = labeled t oneofs (label_word T m.oneofs g.label);
     }) kw.resolves
     ∙ ap (λ (l : Label). record { number = n; name = g.name; kind = g.kind; label = l }) lr.labels in
-    let next_draft : with_part d (with_field t (open_parts.Message M) (Some n) entry)
+    let next_draft : with_part d (with_field_line t (open_parts.Message M) (Some n) entry)
     ≡ with_part d (open_parts.Message (record {
       name = m.name;
       fields = fs ++ g ∷ [];
@@ -183,7 +183,7 @@ fields_run t T m d b fs (g ∷ gs) met valid is ok split le follow few =
     in
     runs_line t (with_part d (open_parts.Message M)) (with_part d (open_parts.Message m)) b text (Field entry) (map (field_text T m.oneofs) gs) reads
     (record {
-      syntax = both_no (clashes entry.label entry.kind) (field_falls (fields (map numbered fs)) (Some n)) (no_clash t T m.oneofs (length m.oneofs) g.label g.kind kw field.label) order.0;
+      syntax = both_no (clashes entry.label entry.kind) (is_field_out_of_order (fields (map numbered fs)) (Some n)) (no_clash t T m.oneofs (length m.oneofs) g.label g.kind kw field.label) order.0;
       number = no_not (has_field_number (Some n)) (field_number_is n field.number);
       duplicate = both_no (is_among g.name (map (λ (p : ℕ × List ℕ). p.1) (map numbered fs))) (repeats_number (fields (map numbered fs)) (Some n)) fresh order.1;
       unknown = both_no (is_unknown_label t entry.label) (is_unknown_kind t entry.kind) lr.known kw.known;
@@ -195,24 +195,24 @@ fields_run t T m d b fs (g ∷ gs) met valid is ok split le follow few =
           (room_left (length (map numbered fs)) 128 (omega (arith, numbered_count, count, ok.few))))
           (no_more_bytes (b + length text + 1) (omega (arith, le_bytes, few)));
     })
-    (subst (λ (e : Draft). Runs t e (b + length text + 1) (map (field_text T m.oneofs) gs) (with_part d (open_parts.Message m))) (sym next_draft) rest)
+    (subst (λ (e : TableDraft). Runs t e (b + length text + 1) (map (field_text T m.oneofs) gs) (with_part d (open_parts.Message m))) (sym next_draft) rest)
 
 -- ---- messages
 
-record MessagesRan (t : Types) (T : Table) (d : Draft) (b : ℕ) (ls : List (List ℕ)) : Type 0 where
-  end : Draft
+record MessagesRan (t : TypeNames) (T : Table) (d : TableDraft) (b : ℕ) (ls : List (List ℕ)) : Type 0 where
+  end : TableDraft
   runs : Runs t d b ls end
   stand : Stand end T.enums T.messages []
 
-message_clean : (t : Types) (T : Table) (d : Draft) (bytes : ℕ) (done : List TheMessage) (m : TheMessage)
+message_clean : (t : TypeNames) (T : Table) (d : TableDraft) (bytes : ℕ) (done : List TheMessage) (m : TheMessage)
     (rest : List TheMessage) → IsValid T → T.messages ≡ done ++ m ∷ rest → Stand d T.enums done [] → bytes ≤ 65536
-    → IsClean t (before d) bytes (Message m.name)
+    → IsClean t (names_before_line d) bytes (Message m.name)
 message_clean t T d bytes done m rest valid split s few =
     let es = stand_enums d T.enums done [] s in
     let ms = stand_messages d T.enums done [] s in
     let ks = stand_methods d T.enums done [] s in
     let names = front_names (λ (c : TheMessage). c.name) T.messages done m rest split in
-    let up = subst (Ascends IsBelow) names (map_ascends IsBelow (λ (c : TheMessage). c.name) T.messages valid.messages_ascend) in
+    let up = subst (IsAscendingBy IsBelow) names (map_ascends IsBelow (λ (c : TheMessage). c.name) T.messages valid.messages_ascend) in
     let enums = map (λ (e : Choices). e.name) T.enums in
     let front = map (λ (c : TheMessage). c.name) done in
     let back = map (λ (c : TheMessage). c.name) rest in
@@ -223,13 +223,13 @@ message_clean t T d bytes done m rest valid split s few =
     let ok = All-contains (IsMessage T) (done ++ m ∷ rest) m (subst (All (IsMessage T)) split valid.messages) (Contains-append_right done (m ∷ rest) m (contains_first m rest)) in
     let count : length T.messages ≡ length done + suc (length rest) = ap length split ∙ length-append done (m ∷ rest) in
     let no_methods : not (is_empty (method_names d)) ≡ false = rw ks refl in
-    let stays : falls m.name (message_names d) ≡ false = rw ms (not_falls m.name front (λ n last. ascends_split IsBelow front m.name back up n last)) in
+    let stays : is_below_last m.name (message_names d) ≡ false = rw ms (not_falls m.name front (λ n last. ascends_split IsBelow front m.name back up n last)) in
     let new_enum : is_among m.name (enum_names d) ≡ false = rw es (among_not m.name enums (λ h. fresh (Contains-append_left enums front m.name h))) in
     let new_message : is_among m.name (message_names d) ≡ false = rw ms (among_not m.name front (λ h. fresh (Contains-append_right enums front m.name h))) in
     let length_is : length (message_names d) ≡ length done = ap length ms ∙ length-map done (λ (c : TheMessage). c.name) in
     record {
       syntax = both_no (lacks_value (open_part d.open_part) || not (is_empty (method_names d)))
-          (falls m.name (message_names d))
+          (is_below_last m.name (message_names d))
           (both_no (lacks_value (open_part d.open_part)) (not (is_empty (method_names d))) s.value_in no_methods)
           stays;
       number = s.zero_in;
@@ -243,7 +243,7 @@ message_clean t T d bytes done m rest valid split s few =
           (no_more_bytes bytes few);
     }
 
-messages_run : (t : Types) (T : Table) (d : Draft) (b : ℕ) (done rest : List TheMessage) → IsValid T → TypesOf t T
+messages_run : (t : TypeNames) (T : Table) (d : TableDraft) (b : ℕ) (done rest : List TheMessage) → IsValid T → TypesOf t T
     → T.messages ≡ done ++ rest → Stand d T.enums done [] → bytes_from b (flat_map (message_texts T) rest) ≤ 65536
     → MessagesRan t T d b (flat_map (message_texts T) rest)
 messages_run t T d b done [] valid is split s few = record {
@@ -282,8 +282,8 @@ messages_run t T d b done (m ∷ rest) valid is split s few =
 abbrev method_entry : Table → ℕ → TheMethod → MethodLine
 method_entry T i m = record { index = Some i; service = m.service; name = m.name; input = message_name T m.input; output = message_name T m.output }
 
-record MethodsRan (t : Types) (T : Table) (d : Draft) (b : ℕ) (ls : List (List ℕ)) : Type 0 where
-  end : Draft
+record MethodsRan (t : TypeNames) (T : Table) (d : TableDraft) (b : ℕ) (ls : List (List ℕ)) : Type 0 where
+  end : TableDraft
   runs : Runs t d b ls end
   stand : Stand end T.enums T.messages T.methods
 
@@ -317,7 +317,7 @@ all_front {X = X} P xs ys all = All-from_recursion P xs (go xs (recursion_from_A
     go [] h = tt
     go (z ∷ zs) h = (h.0, go zs h.1)
 
-methods_run : (t : Types) (T : Table) (d : Draft) (b i : ℕ) (done rest : List TheMethod) → IsValid T → TypesOf t T
+methods_run : (t : TypeNames) (T : Table) (d : TableDraft) (b i : ℕ) (done rest : List TheMethod) → IsValid T → TypesOf t T
     → i ≡ length done → T.methods ≡ done ++ rest → Stand d T.enums T.messages done
     → bytes_from b (map (method_text T) (enumerate_from i rest)) ≤ 65536
     → MethodsRan t T d b (map (method_text T) (enumerate_from i rest))
@@ -356,12 +356,12 @@ methods_run t T d b i done (m ∷ rest) valid is at split s few =
     ok.service.short (le-leb (length m.name) 64 ok.name.short) input_at.full.short) output_at.full.short in
     let bytes = b + length text + 1 in
     let le_bytes = bytes_rise bytes (map (method_text T) (enumerate_from (i + 1) rest)) in
-    let made : method_of t entry ≡ m =
+    let made : resolved_method t entry ≡ m =
     ap (λ (k : ℕ). record {
       service = m.service;
       name = m.name;
       input = k;
-      output = place (message_name T m.output) t.messages;
+      output = index_or_next (message_name T m.output) t.messages;
     }) input.0
     ∙ ap (λ (k : ℕ). record { service = m.service; name = m.name; input = m.input; output = k }) output.0 in
     let next = added_method t d entry in
@@ -430,7 +430,7 @@ whole_joined ls h =
     let n : length (ls ++ [] ∷ []) - 1 ≡ length ls = omega (arith, length-append ls ([] ∷ [])) in
     ap (λ (ps : List (List ℕ)). take (length ps - 1) ps) (pieces_joined ls h) ∙ ap (λ (k : ℕ). take k (ls ++ [] ∷ [])) n ∙ take_front ls ([] ∷ [])
 
-rest_joined : (ls : List (List ℕ)) → AllLines ls → rest_of (flat_map fed ls) ≡ []
+rest_joined : (ls : List (List ℕ)) → AllLines ls → remainder_of (flat_map fed ls) ≡ []
 rest_joined ls h =
     let n : length (ls ++ [] ∷ []) - 1 ≡ length ls = omega (arith, length-append ls ([] ∷ [])) in
     ap (λ (ps : List (List ℕ)). unwrap_or (slice_get ps (length ps - 1)) []) (pieces_joined ls h)
@@ -452,43 +452,43 @@ spaced_visible [] h = refl
 spaced_visible (w ∷ []) h = word_visible w h.0
 spaced_visible (w ∷ v ∷ ws) h = all-append (λ c. nat_lt 10 c) w (32 ∷ spaced (v ∷ ws)) (word_visible w h.0) (spaced_visible (v ∷ ws) h.1)
 
-line_visible : (t : Types) (d : Draft) (bytes : ℕ) (text : List ℕ) → line_fault t (before d) bytes (line_of text) ≡ None → list_all (λ c. nat_lt 10 c) text ≡ true
+line_visible : (t : TypeNames) (d : TableDraft) (bytes : ℕ) (text : List ℕ) → line_fault t (names_before_line d) bytes (line_of text) ≡ None → list_all (λ c. nat_lt 10 c) text ≡ true
 line_visible t d bytes text none = taken (line_of text) refl none
   where
-    taken : (o : Option Line) → line_of text ≡ o → line_fault t (before d) bytes o ≡ None → list_all (λ c. nat_lt 10 c) text ≡ true
+    taken : (o : Option TableLine) → line_of text ≡ o → line_fault t (names_before_line d) bytes o ≡ None → list_all (λ c. nat_lt 10 c) text ≡ true
     taken None e none = absurd cc
     taken (Some l) e none =
-        let h = is_clean t (before d) bytes l none in
-        let is = line_is text l e (in_range t (before d) bytes l h) in
+        let h = is_clean t (names_before_line d) bytes l none in
+        let is = line_is text l e (in_range t (names_before_line d) bytes l h) in
         ap (list_all (λ c. nat_lt 10 c)) (text_is text) ∙ spaced_visible (words_of text) (words_dark (words_of text) l is)
 
-runs_visible : (t : Types) (d e : Draft) (b : ℕ) (ls : List (List ℕ)) → Runs t d b ls e → AllLines ls
+runs_visible : (t : TypeNames) (d e : TableDraft) (b : ℕ) (ls : List (List ℕ)) → Runs t d b ls e → AllLines ls
 runs_visible t d e b [] r = tt
-runs_visible t d e b (l ∷ ls) r = (line_visible t d (b + length l + 1) l r.0, runs_visible t (added_line t d (line_of l)) e (b + length l + 1) ls r.1)
+runs_visible t d e b (l ∷ ls) r = (line_visible t d (b + length l + 1) l r.0, runs_visible t (with_parsed_line t d (line_of l)) e (b + length l + 1) ls r.1)
 
 filter_first : {X Y : Type 0} (h : X → Option Y) (x : X) (xs : List X) → filter_map h (x ∷ xs) ≡ option_to_list (h x) ++ filter_map h xs
 filter_first {Y = Y} h x xs = elim (h x) as (λ (o : Option Y). cons_option o (filter_map h xs) ≡ option_to_list o ++ filter_map h xs) [ None ↦ refl | Some y ↦ refl ]
 
-runs_enums : (t : Types) (d e : Draft) (b : ℕ) (ls : List (List ℕ)) → Runs t d b ls e → enum_names e ≡ enum_names d ++ filter_map (behind (codes "enum ")) ls
+runs_enums : (t : TypeNames) (d e : TableDraft) (b : ℕ) (ls : List (List ℕ)) → Runs t d b ls e → enum_names e ≡ enum_names d ++ filter_map (without_prefix (codes "enum ")) ls
 runs_enums t d e b [] r = ap enum_names (sym r) ∙ sym (append-nil (enum_names d))
 runs_enums t d e b (l ∷ ls) r =
     let n = names_step t d (b + length l + 1) l r.0 in
-    runs_enums t (added_line t d (line_of l)) e (b + length l + 1) ls r.1 ∙ ap (λ (x : List (List ℕ)). x ++ filter_map (behind (codes "enum ")) ls) n.enums
-    ∙ append_assoc (enum_names d) (option_to_list (behind (codes "enum ") l)) (filter_map (behind (codes "enum ")) ls)
-    ∙ ap (λ (x : List (List ℕ)). enum_names d ++ x) (sym (filter_first (behind (codes "enum ")) l ls))
+    runs_enums t (with_parsed_line t d (line_of l)) e (b + length l + 1) ls r.1 ∙ ap (λ (x : List (List ℕ)). x ++ filter_map (without_prefix (codes "enum ")) ls) n.enums
+    ∙ append_assoc (enum_names d) (option_to_list (without_prefix (codes "enum ") l)) (filter_map (without_prefix (codes "enum ")) ls)
+    ∙ ap (λ (x : List (List ℕ)). enum_names d ++ x) (sym (filter_first (without_prefix (codes "enum ")) l ls))
 
-runs_messages : (t : Types) (d e : Draft) (b : ℕ) (ls : List (List ℕ)) → Runs t d b ls e → message_names e ≡ message_names d ++ filter_map (behind (codes "message ")) ls
+runs_messages : (t : TypeNames) (d e : TableDraft) (b : ℕ) (ls : List (List ℕ)) → Runs t d b ls e → message_names e ≡ message_names d ++ filter_map (without_prefix (codes "message ")) ls
 runs_messages t d e b [] r = ap message_names (sym r) ∙ sym (append-nil (message_names d))
 runs_messages t d e b (l ∷ ls) r =
     let n = names_step t d (b + length l + 1) l r.0 in
-    runs_messages t (added_line t d (line_of l)) e (b + length l + 1) ls r.1 ∙ ap (λ (x : List (List ℕ)). x ++ filter_map (behind (codes "message ")) ls) n.messages
-    ∙ append_assoc (message_names d) (option_to_list (behind (codes "message ") l))
-    (filter_map (behind (codes "message ")) ls) ∙ ap (λ (x : List (List ℕ)). message_names d ++ x)
-    (sym (filter_first (behind (codes "message ")) l ls))
+    runs_messages t (with_parsed_line t d (line_of l)) e (b + length l + 1) ls r.1 ∙ ap (λ (x : List (List ℕ)). x ++ filter_map (without_prefix (codes "message ")) ls) n.messages
+    ∙ append_assoc (message_names d) (option_to_list (without_prefix (codes "message ") l))
+    (filter_map (without_prefix (codes "message ")) ls) ∙ ap (λ (x : List (List ℕ)). message_names d ++ x)
+    (sym (filter_first (without_prefix (codes "message ")) l ls))
 
-runs_draft : (t : Types) (d e : Draft) (b : ℕ) (ls : List (List ℕ)) → Runs t d b ls e → fold (λ d line. added_line t d (line_of line)) d ls ≡ e
+runs_draft : (t : TypeNames) (d e : TableDraft) (b : ℕ) (ls : List (List ℕ)) → Runs t d b ls e → fold (λ d line. with_parsed_line t d (line_of line)) d ls ≡ e
 runs_draft t d e b [] r = r
-runs_draft t d e b (l ∷ ls) r = runs_draft t (added_line t d (line_of l)) e (b + length l + 1) ls r.1
+runs_draft t d e b (l ∷ ls) r = runs_draft t (with_parsed_line t d (line_of l)) e (b + length l + 1) ls r.1
 
 bytes_long : (b : ℕ) (ls : List (List ℕ)) → bytes_from b ls ≡ b + length (flat_map fed ls)
 bytes_long b [] = omega arith
@@ -498,38 +498,38 @@ drop_front : {X : Type 0} (xs ys : List X) → drop (length xs) (xs ++ ys) ≡ y
 drop_front [] ys = refl
 drop_front (x ∷ xs) ys = drop_front xs ys
 
-runs_clean : (t : Types) (full done ls : List (List ℕ)) (tail : List ℕ) (d e : Draft) (b k : ℕ) → full ≡ done ++ ls
-    → types_of full ≡ t → draft_of t done ≡ d → bytes_of done ≡ b → Runs t d b ls e → k < length ls
-    → fault_behind full tail (length done + k) ≡ None
+runs_clean : (t : TypeNames) (full done ls : List (List ℕ)) (tail : List ℕ) (d e : TableDraft) (b k : ℕ) → full ≡ done ++ ls
+    → types_of full ≡ t → table_draft_of t done ≡ d → bytes_of_lines done ≡ b → Runs t d b ls e → k < length ls
+    → fault_after_lines full tail (length done + k) ≡ None
 runs_clean t full done [] tail d e b k split types draft bytes r within = absurd (omega arith)
 runs_clean t full done (l ∷ ls) tail d e b zero split types draft bytes r within =
     let at : length done + 0 ≡ length done = omega arith in
     let here : drop (length done) full ≡ l ∷ ls = ap (drop (length done)) split ∙ drop_front done (l ∷ ls) in
     let front : take (length done) full ≡ done = ap (take (length done)) split ∙ take_front done (l ∷ ls) in
-    let before_is : before_of (take (length done) full) ≡ before d = ap before_of front ∙ sym (before_draft t done) ∙ ap before draft in
-    let bytes_is : bytes_of (take (length done) full) ≡ b = ap bytes_of front ∙ bytes in
-    ap (fault_behind full tail) at ∙ here_is full tail (length done) l ls here
-    ∙ ap (λ (u : Types). line_fault u (before_of (take (length done) full)) (bytes_of (take (length done) full) + length l + 1) (line_of l)) types
-    ∙ ap (λ (x : Before). line_fault t x (bytes_of (take (length done) full) + length l + 1) (line_of l)) before_is
-    ∙ ap (λ (n : ℕ). line_fault t (before d) (n + length l + 1) (line_of l)) bytes_is
+    let before_is : names_in_lines (take (length done) full) ≡ names_before_line d = ap names_in_lines front ∙ sym (before_draft t done) ∙ ap names_before_line draft in
+    let bytes_is : bytes_of_lines (take (length done) full) ≡ b = ap bytes_of_lines front ∙ bytes in
+    ap (fault_after_lines full tail) at ∙ here_is full tail (length done) l ls here
+    ∙ ap (λ (u : TypeNames). line_fault u (names_in_lines (take (length done) full)) (bytes_of_lines (take (length done) full) + length l + 1) (line_of l)) types
+    ∙ ap (λ (x : NamesBefore). line_fault t x (bytes_of_lines (take (length done) full) + length l + 1) (line_of l)) before_is
+    ∙ ap (λ (n : ℕ). line_fault t (names_before_line d) (n + length l + 1) (line_of l)) bytes_is
     ∙ r.0
 runs_clean t full done (l ∷ ls) tail d e b (suc k) split types draft bytes r within =
     let at : length done + suc k ≡ length (done ++ l ∷ []) + k = omega (arith, length-append done (l ∷ [])) in
-    let next : draft_of t (done ++ l ∷ []) ≡ added_line t d (line_of l) =
-    fold_push (λ d l. added_line t d (line_of l)) empty_draft done l
-    ∙ ap (λ (x : Draft). added_line t x (line_of l)) draft in
-    let more : bytes_of (done ++ l ∷ []) ≡ b + length l + 1 = bytes_push done l ∙ ap (λ (n : ℕ). n + length l + 1) bytes in
-    ap (fault_behind full tail) at ∙ runs_clean t full (done ++ l ∷ []) ls tail (added_line t d (line_of l)) e
+    let next : table_draft_of t (done ++ l ∷ []) ≡ with_parsed_line t d (line_of l) =
+    fold_push (λ d l. with_parsed_line t d (line_of l)) empty_draft done l
+    ∙ ap (λ (x : TableDraft). with_parsed_line t x (line_of l)) draft in
+    let more : bytes_of_lines (done ++ l ∷ []) ≡ b + length l + 1 = bytes_push done l ∙ ap (λ (n : ℕ). n + length l + 1) bytes in
+    ap (fault_after_lines full tail) at ∙ runs_clean t full (done ++ l ∷ []) ls tail (with_parsed_line t d (line_of l)) e
     (b + length l + 1) k (split ∙ sym (append_assoc done (l ∷ []) ls)) types next more r.1 (omega arith)
 
 record TableRan (T : Table) : Type 0 where
-  end : Draft
+  end : TableDraft
   runs : Runs (record { enums = map (λ e. e.name) T.enums; messages = map (λ m. m.name) T.messages }) empty_draft 0 (table_lines T) end
   stand : Stand end T.enums T.messages T.methods
 
 table_run : (T : Table) → IsValid T → TableRan T
 table_run T valid =
-    let t : Types = (record { enums = map (λ e. e.name) T.enums; messages = map (λ m. m.name) T.messages }) in
+    let t : TypeNames = (record { enums = map (λ e. e.name) T.enums; messages = map (λ m. m.name) T.messages }) in
     let es = flat_map enum_texts T.enums in
     let ms = flat_map (message_texts T) T.messages in
     let ks = map (method_text T) (enumerate_from 0 T.methods) in
@@ -555,43 +555,43 @@ either_none : (b : Bool) → cond b None None ≡ none_of_reasons
 either_none true = refl
 either_none false = refl
 
-clean_at : (t : Types) (e : Draft) (ls : List (List ℕ)) → types_of ls ≡ t → Runs t empty_draft 0 ls e
-    → draft_of (types_of ls) ls ≡ e → lacks_value (open_part e.open_part) ≡ false
-    → lacks_zero (open_part e.open_part) ≡ false → (i : ℕ) → fault_behind ls [] i ≡ None
+clean_at : (t : TypeNames) (e : TableDraft) (ls : List (List ℕ)) → types_of ls ≡ t → Runs t empty_draft 0 ls e
+    → table_draft_of (types_of ls) ls ≡ e → lacks_value (open_part e.open_part) ≡ false
+    → lacks_zero (open_part e.open_part) ≡ false → (i : ℕ) → fault_after_lines ls [] i ≡ None
 clean_at t e ls types runs drafted value_in zero_in i =
     elim (cases_lt i (length ls)) [
-      | inl within ↦ ap (fault_behind ls []) (sym (zero-add i)) ∙ runs_clean t ls [] ls [] empty_draft e 0 i refl types refl refl runs within
+      | inl within ↦ ap (fault_after_lines ls []) (sym (zero-add i)) ∙ runs_clean t ls [] ls [] empty_draft e 0 i refl types refl refl runs within
       | inr past ↦
-          let before_is : before_of ls ≡ before e = sym (before_draft (types_of ls) ls) ∙ ap before drafted in
-          let end : end_fault (before_of ls) [] ≡ None = ap (λ (b : Before). end_fault b []) before_is ∙ rw (value_in, zero_in) refl in
+          let before_is : names_in_lines ls ≡ names_before_line e = sym (before_draft (types_of ls) ls) ∙ ap names_before_line drafted in
+          let end : end_fault (names_in_lines ls) [] ≡ None = ap (λ (b : NamesBefore). end_fault b []) before_is ∙ rw (value_in, zero_in) refl in
           ap (λ (o : Option (List ℕ)). option_map_or
-          (λ x. line_fault (types_of ls) (before_of (take i ls)) (bytes_of (take (i + 1) ls)) (line_of x)) o
-          (cond (i == length ls) (end_fault (before_of ls) []) None)) (get_end ls i past)
+          (λ x. line_fault (types_of ls) (names_in_lines (take i ls)) (bytes_of_lines (take (i + 1) ls)) (line_of x)) o
+          (cond (i == length ls) (end_fault (names_in_lines ls) []) None)) (get_end ls i past)
           ∙ ap (λ (x : Option TableReason). cond (i == length ls) x None) end ∙ either_none (i == length ls)
     ]
 
 pub complete : (T : Table) (text : List ℕ) → IsValid T → text ≡ table_text T → IsFaultless text × (table_in (whole_lines text) ≡ T)
 complete T text valid e =
-    let t : Types = (record { enums = map (λ e. e.name) T.enums; messages = map (λ m. m.name) T.messages }) in
+    let t : TypeNames = (record { enums = map (λ e. e.name) T.enums; messages = map (λ m. m.name) T.messages }) in
     let ran = table_run T valid in
     let ls = table_lines T in
     let seen = runs_visible t empty_draft ran.end 0 ls ran.runs in
     let joined : text ≡ flat_map fed ls = e ∙ sym (lines_text T) in
     let lines : whole_lines text ≡ ls = ap whole_lines joined ∙ whole_joined ls seen in
-    let tail : rest_of text ≡ [] = ap rest_of joined ∙ rest_joined ls seen in
-    let enums : filter_map (behind (codes "enum ")) ls ≡ t.enums = sym (runs_enums t empty_draft ran.end 0 ls ran.runs) ∙ stand_enums ran.end T.enums T.messages T.methods ran.stand in
-    let messages : filter_map (behind (codes "message ")) ls ≡ t.messages =
+    let tail : remainder_of text ≡ [] = ap remainder_of joined ∙ rest_joined ls seen in
+    let enums : filter_map (without_prefix (codes "enum ")) ls ≡ t.enums = sym (runs_enums t empty_draft ran.end 0 ls ran.runs) ∙ stand_enums ran.end T.enums T.messages T.methods ran.stand in
+    let messages : filter_map (without_prefix (codes "message ")) ls ≡ t.messages =
     sym (runs_messages t empty_draft ran.end 0 ls ran.runs)
     ∙ stand_messages ran.end T.enums T.messages T.methods ran.stand in
     let types : types_of ls ≡ t =
-    ap (λ (x : List (List ℕ)). record { enums = x; messages = filter_map (behind (codes "message ")) ls }) enums
+    ap (λ (x : List (List ℕ)). record { enums = x; messages = filter_map (without_prefix (codes "message ")) ls }) enums
     ∙ ap (λ (x : List (List ℕ)). record { enums = t.enums; messages = x }) messages in
-    let drafted : draft_of (types_of ls) ls ≡ ran.end = ap (λ (u : Types). draft_of u ls) types ∙ runs_draft t empty_draft ran.end 0 ls ran.runs in
-    let made : table_of ran.end ≡ T =
+    let drafted : table_draft_of (types_of ls) ls ≡ ran.end = ap (λ (u : TypeNames). table_draft_of u ls) types ∙ runs_draft t empty_draft ran.end 0 ls ran.runs in
+    let made : table_of_draft ran.end ≡ T =
     ap (λ (x : List Choices). record { messages = with_message ran.end.open_part ran.end.messages; enums = x; methods = ran.end.methods }) ran.stand.enums
     ∙ ap (λ (x : List TheMessage). record { messages = x; enums = T.enums; methods = ran.end.methods }) ran.stand.messages
     ∙ ap (λ (x : List TheMethod). record { messages = T.messages; enums = T.enums; methods = x }) ran.stand.methods in
-    let clean : (i : ℕ) → fault_behind ls [] i ≡ None = clean_at t ran.end ls types ran.runs drafted ran.stand.value_in ran.stand.zero_in in (
-      λ i. ap (λ (x : List (List ℕ)). fault_behind x (rest_of text) i) lines ∙ ap (λ (r : List ℕ). fault_behind ls r i) tail ∙ clean i,
-      ap table_in lines ∙ ap table_of drafted ∙ made,
+    let clean : (i : ℕ) → fault_after_lines ls [] i ≡ None = clean_at t ran.end ls types ran.runs drafted ran.stand.value_in ran.stand.zero_in in (
+      λ i. ap (λ (x : List (List ℕ)). fault_after_lines x (remainder_of text) i) lines ∙ ap (λ (r : List ℕ). fault_after_lines ls r i) tail ∙ clean i,
+      ap table_in lines ∙ ap table_of_draft drafted ∙ made,
     )

@@ -12,17 +12,17 @@ use Rattle.std.specs.Ordering.{int_eq}
 use Rattle.std.proofs.lemmas.List.{append-nil}
 use Rattle.mrpc_table.specs.Names.{is_short, is_short_full, IsName, IsFullName}
 use Rattle.mrpc_table.specs.Words.{is_numeric, is_key}
-use Rattle.mrpc_table.specs.Valid.{Ascends, AreDistinct, IsBelow, IsValueBelow, IsKnown, IsMessageKind, GoesWith, Joins, OneofsFollow, IsEnum}
-use Rattle.table_text.specs.Faults.{is_packable, is_key_kind}
-use Rattle.table_text.specs.Judged.{Types, is_among}
-use Rattle.table_text.specs.Judged.{is_empty, is_value_below, falls, last_of, lacks_value, lacks_zero}
-use Rattle.table_text.specs.Judged.{clashes, is_message_word}
-use Rattle.table_text.specs.Judged.{is_unknown_kind, is_unknown_label, is_map_key_label, is_short_kind}
-use Rattle.table_text.specs.Judged.{is_short_label}
-use Rattle.table_text.specs.Places.{place}
-use Rattle.table_text.specs.Drafts.{open_part, enum_names, message_names, method_names, before, resolved, labeled}
+use Rattle.mrpc_table.specs.Valid.{IsAscendingBy, AreDistinct, IsBelow, IsValueBelow, IsKnown, IsMessageKind, IsLabelFor, IsNextOneof, AreOneofsInOrder, IsEnum}
+use Rattle.table_text.specs.Faults.{is_packable_word, is_key_kind}
+use Rattle.table_text.specs.LineTests.{TypeNames, is_among}
+use Rattle.table_text.specs.LineTests.{is_empty, is_value_below, is_below_last, last_of, lacks_value, lacks_zero}
+use Rattle.table_text.specs.LineTests.{clashes, is_message_word}
+use Rattle.table_text.specs.LineTests.{is_unknown_kind, is_unknown_label, is_map_key_label, is_short_kind}
+use Rattle.table_text.specs.LineTests.{is_short_label}
+use Rattle.table_text.specs.NameIndex.{index_or_next}
+use Rattle.table_text.specs.Drafts.{open_part, enum_names, message_names, method_names, names_before_line, resolved, labeled}
 use Rattle.table_text.specs.Drafts.{new_oneof, joined_with, with_enum, with_message}
-use Rattle.table_text.specs.Drafts.{with_part, added, added_enum}
+use Rattle.table_text.specs.Drafts.{with_part, with_line, added_enum}
 use Rattle.mrpc_table.specs.declared.table.Kind.{Kind}
 use Rattle.mrpc_table.specs.declared.table.Kind.TheVariants.{Int32, Int64, Uint32, Uint64, Sint32, Sint64}
 use Rattle.mrpc_table.specs.declared.table.Kind.TheVariants.{Bool as TheBool, Fixed32, Fixed64, Sfixed32, Sfixed64}
@@ -39,11 +39,11 @@ use Rattle.table_text.specs.declared.line.KindWord.{KindWord}
 use Rattle.table_text.specs.declared.line.KindWord.TheVariants as kinds
 use Rattle.table_text.specs.declared.line.LabelWord.{LabelWord}
 use Rattle.table_text.specs.declared.line.LabelWord.TheVariants as labels
-use Rattle.table_text.specs.declared.line.Whole.TheVariants.{Within}
-use Rattle.table_text.specs.declared.line.Line.{Line}
-use Rattle.table_text.specs.declared.line.Line.TheVariants.{Enum, Value}
-use Rattle.table_text.specs.declared.draft.Open.TheVariants as open_parts
-use Rattle.table_text.specs.declared.draft.Draft.{Draft}
+use Rattle.table_text.specs.declared.line.EnumNumber.TheVariants.{Within}
+use Rattle.table_text.specs.declared.line.TableLine.{TableLine}
+use Rattle.table_text.specs.declared.line.TableLine.TheVariants.{Enum, Value}
+use Rattle.table_text.specs.declared.draft.OpenPart.TheVariants as open_parts
+use Rattle.table_text.specs.declared.draft.TableDraft.{TableDraft}
 use Rattle.table_text.proofs.KeptLemmas.{closed_enums, closed_messages}
 use Rattle.table_text.proofs.OrderLemmas.{contains_first, contains_among}
 use Rattle.table_text.proofs.TableFacts.{key_known}
@@ -59,8 +59,8 @@ use Rattle.std.proofs.lemmas.List.Concat.{flat_map-append}
 use Rattle.mrpc_table.specs.Text.{spaced, line, table_text, enum_lines, message_lines, message_name}
 use Rattle.mrpc_table.specs.Valid.{IsValid}
 use Rattle.table_text.specs.Lines.{line_of}
-use Rattle.table_text.specs.Judged.{line_fault}
-use Rattle.table_text.specs.Drafts.{added_line}
+use Rattle.table_text.specs.LineTests.{line_fault}
+use Rattle.table_text.specs.Drafts.{with_parsed_line}
 use Rattle.table_text.proofs.OrderLemmas.{contains_nothing, contains_cases, or_true}
 use Rattle.mrpc_table.specs.Text.{kind_text, label_text, enum_name}
 use Rattle.std.proofs.lemmas.Option.{slice_get-map}
@@ -73,8 +73,8 @@ use Rattle.std.proofs.Common.{min}
 use Rattle.std.proofs.lemmas.List.{length-take, take-append-drop}
 use Rattle.std.proofs.lemmas.Option.{slice_get_within, get_or_from_slice_get, slice_get-get_or}
 use Rattle.std.proofs.lemmas.List.Elements.{Contains-append_left}
-use Rattle.table_text.specs.Places.{place_from}
-use Rattle.table_text.specs.Places as places
+use Rattle.table_text.specs.NameIndex.{index_from}
+use Rattle.table_text.specs.NameIndex as places
 use Rattle.table_text.proofs.PlaceLemmas.{same_bytes, bytes_same}
 use Rattle.table_text.proofs.ParseLemmas.{unsome}
 use Rattle.table_text.proofs.OrderLemmas.{false_or as false_from}
@@ -129,9 +129,9 @@ abbrev pub bytes_from : ℕ → List (List ℕ) → ℕ
 bytes_from b [] = b
 bytes_from b (l ∷ ls) = bytes_from (b + length l + 1) ls
 
-abbrev pub Runs : Types → Draft → ℕ → List (List ℕ) → Draft → Type 0
+abbrev pub Runs : TypeNames → TableDraft → ℕ → List (List ℕ) → TableDraft → Type 0
 Runs t d b [] e = d ≡ e
-Runs t d b (l ∷ ls) e = (line_fault t (before d) (b + length l + 1) (line_of l) ≡ None) × Runs t (added_line t d (line_of l)) (b + length l + 1) ls e
+Runs t d b (l ∷ ls) e = (line_fault t (names_before_line d) (b + length l + 1) (line_of l) ≡ None) × Runs t (with_parsed_line t d (line_of l)) (b + length l + 1) ls e
 
 pub bytes_append : (b : ℕ) (xs ys : List (List ℕ)) → bytes_from b (xs ++ ys) ≡ bytes_from (bytes_from b xs) ys
 bytes_append b [] ys = refl
@@ -141,17 +141,17 @@ pub bytes_rise : (b : ℕ) (xs : List (List ℕ)) → b ≤ bytes_from b xs
 bytes_rise b [] = omega arith
 bytes_rise b (x ∷ xs) = omega (arith, bytes_rise (b + length x + 1) xs)
 
-pub runs_append : (t : Types) (d e f : Draft) (b : ℕ) (xs ys : List (List ℕ)) → Runs t d b xs e → Runs t e (bytes_from b xs) ys f → Runs t d b (xs ++ ys) f
-runs_append t d e f b [] ys r s = subst (λ (x : Draft). Runs t x b ys f) (sym r) s
-runs_append t d e f b (x ∷ xs) ys r s = (r.0, runs_append t (added_line t d (line_of x)) e f (b + length x + 1) xs ys r.1 s)
+pub runs_append : (t : TypeNames) (d e f : TableDraft) (b : ℕ) (xs ys : List (List ℕ)) → Runs t d b xs e → Runs t e (bytes_from b xs) ys f → Runs t d b (xs ++ ys) f
+runs_append t d e f b [] ys r s = subst (λ (x : TableDraft). Runs t x b ys f) (sym r) s
+runs_append t d e f b (x ∷ xs) ys r s = (r.0, runs_append t (with_parsed_line t d (line_of x)) e f (b + length x + 1) xs ys r.1 s)
 
 -- one line that is read, without a fault
-pub runs_line : (t : Types) (d e : Draft) (b : ℕ) (text : List ℕ) (l : Line) (ls : List (List ℕ)) → line_of text ≡ Some l
-    → IsClean t (before d) (b + length text + 1) l → Runs t (added t d l) (b + length text + 1) ls e
+pub runs_line : (t : TypeNames) (d e : TableDraft) (b : ℕ) (text : List ℕ) (l : TableLine) (ls : List (List ℕ)) → line_of text ≡ Some l
+    → IsClean t (names_before_line d) (b + length text + 1) l → Runs t (with_line t d l) (b + length text + 1) ls e
     → Runs t d b (text ∷ ls) e
 runs_line t d e b text l ls is clean rest = (
-  ap (line_fault t (before d) (b + length text + 1)) is ∙ clean_is t (before d) (b + length text + 1) l clean,
-  subst (λ (x : Draft). Runs t x (b + length text + 1) ls e) (sym (ap (added_line t d) is)) rest,
+  ap (line_fault t (names_before_line d) (b + length text + 1)) is ∙ clean_is t (names_before_line d) (b + length text + 1) l clean,
+  subst (λ (x : TableDraft). Runs t x (b + length text + 1) ls e) (sym (ap (with_parsed_line t d) is)) rest,
 )
 
 pub no_more_bytes : (b : ℕ) → b ≤ 65536 → nat_lt 65536 b ≡ false
@@ -171,7 +171,7 @@ value_stays vs w up = go (last_of vs) refl
     go None e = rw e refl
     go (Some last) e = rw e (not_value_below w.0 w.1 last (up last e))
 
-values_run : (t : Types) (d : Draft) (b : ℕ) (name : List ℕ) (vs ws : List (ℤ × List ℕ))
+values_run : (t : TypeNames) (d : TableDraft) (b : ℕ) (name : List ℕ) (vs ws : List (ℤ × List ℕ))
     → IsEnum (record { name = name; values = vs ++ ws }) → bytes_from b (map value_text ws) ≤ 65536
     → Runs t (with_part d (open_parts.Enum (record { name = name; values = vs }))) b (map value_text ws) (with_part d (open_parts.Enum (record { name = name; values = vs ++ ws })))
 values_run t d b name vs [] ok few = ap (λ (xs : List (ℤ × List ℕ)). with_part d (open_parts.Enum (record { name = name; values = xs }))) (sym (append-nil vs))
@@ -214,20 +214,20 @@ values_run t d b name vs (w ∷ ws) ok few =
 -- ---- enums
 
 -- the finished parts of a draft, once its open part is one of them
-pub record Stand (d : Draft) (es : List Choices) (ms : List TheMessage) (ks : List TheMethod) : Type 0 where
+pub record Stand (d : TableDraft) (es : List Choices) (ms : List TheMessage) (ks : List TheMethod) : Type 0 where
   pub enums : with_enum d.open_part d.enums ≡ es
   pub messages : with_message d.open_part d.messages ≡ ms
   pub methods : d.methods ≡ ks
   pub value_in : lacks_value (open_part d.open_part) ≡ false
   pub zero_in : lacks_zero (open_part d.open_part) ≡ false
 
-pub stand_enums : (d : Draft) (es : List Choices) (ms : List TheMessage) (ks : List TheMethod) → Stand d es ms ks → enum_names d ≡ map (λ e. e.name) es
+pub stand_enums : (d : TableDraft) (es : List Choices) (ms : List TheMessage) (ks : List TheMethod) → Stand d es ms ks → enum_names d ≡ map (λ e. e.name) es
 stand_enums d es ms ks s = sym (closed_enums d.open_part d.enums) ∙ ap (map (λ (e : Choices). e.name)) s.enums
 
-pub stand_messages : (d : Draft) (es : List Choices) (ms : List TheMessage) (ks : List TheMethod) → Stand d es ms ks → message_names d ≡ map (λ m. m.name) ms
+pub stand_messages : (d : TableDraft) (es : List Choices) (ms : List TheMessage) (ks : List TheMethod) → Stand d es ms ks → message_names d ≡ map (λ m. m.name) ms
 stand_messages d es ms ks s = sym (closed_messages d.open_part d.messages) ∙ ap (map (λ (m : TheMessage). m.name)) s.messages
 
-pub stand_methods : (d : Draft) (es : List Choices) (ms : List TheMessage) (ks : List TheMethod) → Stand d es ms ks → method_names d ≡ map key_in ks
+pub stand_methods : (d : TableDraft) (es : List Choices) (ms : List TheMessage) (ks : List TheMethod) → Stand d es ms ks → method_names d ≡ map key_in ks
 stand_methods d es ms ks s = ap (map key_in) s.methods
 
 contained_any : (vs : List (ℤ × List ℕ)) → Contains (map (λ v. v.0) vs) (pos 0) → list_any (λ v. int_eq v.0 (pos 0)) vs ≡ true
@@ -246,20 +246,20 @@ some_values (v ∷ vs) h = ne_eqb (suc (length vs)) 0 (omega arith)
 pub front_names : {X : Type 0} (f : X → List ℕ) (all done : List X) (x : X) (rest : List X) → all ≡ done ++ x ∷ rest → map f all ≡ map f done ++ f x ∷ map f rest
 front_names f all done x rest e = ap (map f) e ∙ map-append f done (x ∷ rest)
 
-pub record EnumsRan (t : Types) (T : Table) (d : Draft) (b : ℕ) (ls : List (List ℕ)) : Type 0 where
-  pub end : Draft
+pub record EnumsRan (t : TypeNames) (T : Table) (d : TableDraft) (b : ℕ) (ls : List (List ℕ)) : Type 0 where
+  pub end : TableDraft
   pub runs : Runs t d b ls end
   pub stand : Stand end T.enums [] []
 
-enum_clean : (t : Types) (T : Table) (d : Draft) (bytes : ℕ) (done : List Choices) (e : Choices) (rest : List Choices)
+enum_clean : (t : TypeNames) (T : Table) (d : TableDraft) (bytes : ℕ) (done : List Choices) (e : Choices) (rest : List Choices)
     → IsValid T → T.enums ≡ done ++ e ∷ rest → Stand d done [] [] → bytes ≤ 65536
-    → IsClean t (before d) bytes (Enum e.name)
+    → IsClean t (names_before_line d) bytes (Enum e.name)
 enum_clean t T d bytes done e rest valid split s few =
     let es = stand_enums d done [] [] s in
     let ms = stand_messages d done [] [] s in
     let ks = stand_methods d done [] [] s in
     let names = front_names (λ (c : Choices). c.name) T.enums done e rest split in
-    let up = subst (Ascends IsBelow) names (map_ascends IsBelow (λ (c : Choices). c.name) T.enums valid.enums_ascend) in
+    let up = subst (IsAscendingBy IsBelow) names (map_ascends IsBelow (λ (c : Choices). c.name) T.enums valid.enums_ascend) in
     let apart : AreDistinct (map (λ c. c.name) done ++ e.name
     ∷ (map (λ c. c.name) rest ++ map (λ m. m.name) T.messages)) =
     subst AreDistinct (ap (λ (xs : List (List ℕ)). xs ++ map (λ m. m.name) T.messages) names
@@ -269,7 +269,7 @@ enum_clean t T d bytes done e rest valid split s few =
     let count : length T.enums ≡ length done + suc (length rest) = ap length split ∙ length-append done (e ∷ rest) in
     let no_messages : not (is_empty (message_names d)) ≡ false = rw ms refl in
     let no_methods : not (is_empty (method_names d)) ≡ false = rw ks refl in
-    let stays : falls e.name (enum_names d) ≡ false =
+    let stays : is_below_last e.name (enum_names d) ≡ false =
     rw es (not_falls e.name (map (λ c. c.name) done)
     (λ m last. ascends_split IsBelow (map (λ c. c.name) done) e.name (map (λ c. c.name) rest) up m last)) in
     let new_enum : is_among e.name (enum_names d) ≡ false =
@@ -279,7 +279,7 @@ enum_clean t T d bytes done e rest valid split s few =
     let new_message : is_among e.name (message_names d) ≡ false = rw ms refl in
     let length_is : length (enum_names d) ≡ length done = ap length es ∙ length-map done (λ (c : Choices). c.name) in
     record {
-      syntax = both_no ((lacks_value (open_part d.open_part) || not (is_empty (message_names d))) || not (is_empty (method_names d))) (falls e.name (enum_names d))
+      syntax = both_no ((lacks_value (open_part d.open_part) || not (is_empty (message_names d))) || not (is_empty (method_names d))) (is_below_last e.name (enum_names d))
           (both_no (lacks_value (open_part d.open_part) || not (is_empty (message_names d)))
           (not (is_empty (method_names d)))
           (both_no (lacks_value (open_part d.open_part)) (not (is_empty (message_names d))) s.value_in
@@ -295,7 +295,7 @@ enum_clean t T d bytes done e rest valid split s few =
           (no_more_bytes bytes few);
     }
 
-pub enums_run : (t : Types) (T : Table) (d : Draft) (b : ℕ) (done rest : List Choices) → IsValid T
+pub enums_run : (t : TypeNames) (T : Table) (d : TableDraft) (b : ℕ) (done rest : List Choices) → IsValid T
     → T.enums ≡ done ++ rest → Stand d done [] [] → bytes_from b (flat_map enum_texts rest) ≤ 65536
     → EnumsRan t T d b (flat_map enum_texts rest)
 enums_run t T d b done [] valid split s few = record {
@@ -329,11 +329,11 @@ enums_run t T d b done (e ∷ rest) valid split s few =
 
 -- ---- kinds and labels in words
 
-pub record TypesOf (t : Types) (T : Table) : Type 0 where
+pub record TypesOf (t : TypeNames) (T : Table) : Type 0 where
   pub messages : t.messages ≡ map (λ m. m.name) T.messages
   pub enums : t.enums ≡ map (λ e. e.name) T.enums
 
-place_at : (k : ℕ) (n : List ℕ) (ns : List (List ℕ)) (i : ℕ) → AreDistinct ns → slice_get ns i ≡ Some n → place_from k n ns ≡ Some (k + i)
+place_at : (k : ℕ) (n : List ℕ) (ns : List (List ℕ)) (i : ℕ) → AreDistinct ns → slice_get ns i ≡ Some n → index_from k n ns ≡ Some (k + i)
 place_at k n [] i d e = absurd cc
 place_at k n (m ∷ ns) zero d e =
     let same : m ≡ n = unsome e in
@@ -347,11 +347,11 @@ place_at k n (m ∷ ns) (suc i) d e =
     let z : k + 1 + i ≡ k + suc i = omega arith in
     rw miss (place_at (k + 1) n ns i d.1 e ∙ ap Some z)
 
-place_is : (n : List ℕ) (ns : List (List ℕ)) (i : ℕ) → AreDistinct ns → length ns ≤ 65536 → slice_get ns i ≡ Some n → place n ns ≡ i
+place_is : (n : List ℕ) (ns : List (List ℕ)) (i : ℕ) → AreDistinct ns → length ns ≤ 65536 → slice_get ns i ≡ Some n → index_or_next n ns ≡ i
 place_is n ns i d small e =
     let within = slice_get_within ns i n e in
     let z : min (0 + i) (2 ^ 32 - 1) ≡ i = omega arith in
-    ap (λ (o : Option ℕ). places.in_range (unwrap_or o (length ns))) (place_at 0 n ns i d e) ∙ z
+    ap (λ (o : Option ℕ). places.capped_index (unwrap_or o (length ns))) (place_at 0 n ns i d e) ∙ z
 
 abbrev pub kind_word : Table → Kind → KindWord
 kind_word T (OfMessage i) = kinds.Message (message_name T i)
@@ -427,8 +427,8 @@ distinct_back : {X : Type 0} (xs ys : List X) → AreDistinct (xs ++ ys) → Are
 distinct_back [] ys d = d
 distinct_back (x ∷ xs) ys d = distinct_back xs ys d.1
 
-pub message_placed : (t : Types) (T : Table) (i : ℕ) → IsValid T → TypesOf t T → i < length T.messages
-    → (place (message_name T i) t.messages ≡ i) × (is_among (message_name T i) t.messages ≡ true)
+pub message_placed : (t : TypeNames) (T : Table) (i : ℕ) → IsValid T → TypesOf t T → i < length T.messages
+    → (index_or_next (message_name T i) t.messages ≡ i) × (is_among (message_name T i) t.messages ≡ true)
 message_placed t T i valid is within =
     let at = message_at T i valid within in
     let d : AreDistinct t.messages = subst AreDistinct (sym is.messages) (distinct_back (map (λ e. e.name) T.enums) (map (λ m. m.name) T.messages) valid.types) in
@@ -438,7 +438,7 @@ message_placed t T i valid is within =
       contains_among (message_name T i) t.messages (i, slice_get_within t.messages i (message_name T i) got, get_or_from_slice_get t.messages i (message_name T i) (message_name T i) got),
     )
 
-enum_placed : (t : Types) (T : Table) (i : ℕ) → IsValid T → TypesOf t T → i < length T.enums → (place (enum_name T i) t.enums ≡ i) × (is_among (enum_name T i) t.enums ≡ true)
+enum_placed : (t : TypeNames) (T : Table) (i : ℕ) → IsValid T → TypesOf t T → i < length T.enums → (index_or_next (enum_name T i) t.enums ≡ i) × (is_among (enum_name T i) t.enums ≡ true)
 enum_placed t T i valid is within =
     let at = enum_at T i valid within in
     let d : AreDistinct t.enums = subst AreDistinct (sym is.enums) (distinct_front (map (λ e. e.name) T.enums) (map (λ m. m.name) T.messages) valid.types) in
@@ -448,15 +448,15 @@ enum_placed t T i valid is within =
       contains_among (enum_name T i) t.enums (i, slice_get_within t.enums i (enum_name T i) got, get_or_from_slice_get t.enums i (enum_name T i) (enum_name T i) got),
     )
 
-pub record KindWordIs (t : Types) (T : Table) (k : Kind) : Type 0 where
+pub record KindWordIs (t : TypeNames) (T : Table) (k : Kind) : Type 0 where
   pub resolves : resolved t (kind_word T k) ≡ k
   pub known : is_unknown_kind t (kind_word T k) ≡ false
   pub short : is_short_kind (kind_word T k) ≡ true
   pub message : (IsMessageKind k → ⊥) → is_message_word (kind_word T k) ≡ false
-  pub numeric : IsTrue (is_numeric k) → is_packable (kind_word T k) ≡ true
+  pub numeric : IsTrue (is_numeric k) → is_packable_word (kind_word T k) ≡ true
   pub key : IsTrue (is_key k) → is_key_kind (kind_word T k) ≡ true
 
-pub kind_word_of : (t : Types) (T : Table) (k : Kind) → IsValid T → TypesOf t T → IsKnown T k → KindWordIs t T k
+pub kind_word_of : (t : TypeNames) (T : Table) (k : Kind) → IsValid T → TypesOf t T → IsKnown T k → KindWordIs t T k
 kind_word_of t T (OfMessage i) valid is known =
     let p = message_placed t T i valid is known in
     record {
@@ -508,11 +508,11 @@ member_named oneofs o names within =
     let is : unwrap_or (slice_get oneofs o) [] ≡ get_or oneofs o [] = ap (λ (x : Option (List ℕ)). unwrap_or x []) at in
     (at ∙ ap Some (sym is), subst IsName (sym is) (names o [] within))
 
-pub follow_ge : (met all : ℕ) (fs : List TheField) → OneofsFollow met all fs → met ≤ all
+pub follow_ge : (met all : ℕ) (fs : List TheField) → AreOneofsInOrder met all fs → met ≤ all
 follow_ge met all [] h = omega (arith, h)
-follow_ge met all (f ∷ fs) h = joined_ge met all f.label (OneofsFollow met all fs) (OneofsFollow (met + 1) all fs) (follow_ge met all fs) (follow_ge (met + 1) all fs) h
+follow_ge met all (f ∷ fs) h = joined_ge met all f.label (AreOneofsInOrder met all fs) (AreOneofsInOrder (met + 1) all fs) (follow_ge met all fs) (follow_ge (met + 1) all fs) h
   where
-    joined_ge : (met all : ℕ) (l : Label) (A B : Type 0) → (A → met ≤ all) → (B → met + 1 ≤ all) → Joins met l A B → met ≤ all
+    joined_ge : (met all : ℕ) (l : Label) (A B : Type 0) → (A → met ≤ all) → (B → met + 1 ≤ all) → IsNextOneof met l A B → met ≤ all
     joined_ge met all Plain A B f g h = f h
     joined_ge met all Optional A B f g h = f h
     joined_ge met all Repeated A B f g h = f h
@@ -541,7 +541,7 @@ take_next xs n x e = let next : n + 1 ≡ suc n = omega arith in ap (λ (k : ℕ
     go (y ∷ ys) (suc n) x e = ap (λ zs. y ∷ zs) (go ys n x e)
 
 -- the label of a field, read when the first oneofs are known
-pub record LabelRuns (t : Types) (T : Table) (oneofs : List (List ℕ)) (met : ℕ) (l : Label) (P : ℕ → Type 0) : Type 0 where
+pub record LabelRuns (t : TypeNames) (T : Table) (oneofs : List (List ℕ)) (met : ℕ) (l : Label) (P : ℕ → Type 0) : Type 0 where
   pub next : ℕ
   pub spelled : LabelIs (label_text T oneofs l) (label_word T oneofs l)
   pub labels : labeled t (take met oneofs) (label_word T oneofs l) ≡ l
@@ -551,10 +551,10 @@ pub record LabelRuns (t : Types) (T : Table) (oneofs : List (List ℕ)) (met : �
   pub short : is_short_label (label_word T oneofs l) ≡ true
   pub goes_on : P next
 
-pub label_runs : (t : Types) (T : Table) (oneofs : List (List ℕ)) (met : ℕ) (l : Label) (k : Kind) (P : ℕ → Type 0)
+pub label_runs : (t : TypeNames) (T : Table) (oneofs : List (List ℕ)) (met : ℕ) (l : Label) (k : Kind) (P : ℕ → Type 0)
     → IsValid T → TypesOf t T → All IsName oneofs → AreDistinct oneofs → length oneofs ≤ 128 → met ≤ length oneofs
     → ((n : ℕ) → P n → n ≤ length oneofs)
-    → GoesWith (length oneofs) l k → Joins met l (P met) (P (met + 1)) → LabelRuns t T oneofs met l P
+    → IsLabelFor (length oneofs) l k → IsNextOneof met l (P met) (P (met + 1)) → LabelRuns t T oneofs met l P
 label_runs t T oneofs met Plain k P valid is names d few le top goes h = record {
   next = met;
   spelled = refl;
@@ -637,7 +637,7 @@ label_runs t T oneofs met (Member o) k P valid is names d few le top goes h =
           let got : slice_get oneofs met ≡ Some n = ap (slice_get oneofs) (sym new.0) ∙ at.0 in
           let apart = subst AreDistinct (cut_here oneofs met n got) d in
           let fresh : is_among n (take met oneofs) ≡ false = among_not n (take met oneofs) (distinct_split (take met oneofs) n (drop (suc met) oneofs) apart) in
-          let placed : place n (take met oneofs) ≡ o = member_new n (take met oneofs) (omega (arith, count, few)) fresh ∙ count ∙ sym new.0 in
+          let placed : index_or_next n (take met oneofs) ≡ o = member_new n (take met oneofs) (omega (arith, count, few)) fresh ∙ count ∙ sym new.0 in
           record {
             next = met + 1;
             spelled = (refl, at.1.form);
@@ -650,11 +650,11 @@ label_runs t T oneofs met (Member o) k P valid is names d few le top goes h =
           }
     ]
 
-pub no_clash : (t : Types) (T : Table) (oneofs : List (List ℕ)) (n : ℕ) (l : Label) (k : Kind) → KindWordIs t T k
-    → GoesWith n l k → clashes (label_word T oneofs l) (kind_word T k) ≡ false
+pub no_clash : (t : TypeNames) (T : Table) (oneofs : List (List ℕ)) (n : ℕ) (l : Label) (k : Kind) → KindWordIs t T k
+    → IsLabelFor n l k → clashes (label_word T oneofs l) (kind_word T k) ≡ false
 no_clash t T oneofs n Plain k w h = refl
 no_clash t T oneofs n Optional k w h = w.message h
 no_clash t T oneofs n Repeated k w h = refl
-no_clash t T oneofs n Packed k w h = no_not (is_packable (kind_word T k)) (w.numeric h)
+no_clash t T oneofs n Packed k w h = no_not (is_packable_word (kind_word T k)) (w.numeric h)
 no_clash t T oneofs n (Map j) k w h = refl
 no_clash t T oneofs n (Member o) k w h = refl

@@ -8,9 +8,9 @@ use Rattle.std.specs.Fmt.{decimal, signed_decimal}
 use Rattle.std.proofs.lemmas.List.{append-nil}
 use Rattle.std.proofs.lemmas.List.Concat.{flat_map-append}
 use Rattle.mrpc_table.specs.Text.{line, kind_text, label_text, value_line, enum_lines, field_line, message_lines, method_line}
-use Rattle.table_text.specs.Judged.{Types, is_among, is_unknown_kind, is_unknown_label}
-use Rattle.table_text.specs.Places.{place, in_range}
-use Rattle.table_text.specs.Drafts.{resolved, labeled, new_oneof, joined_with, field_of, with_enum, with_message, with_field, with_part, table_of, added_enum, added_message}
+use Rattle.table_text.specs.LineTests.{TypeNames, is_among, is_unknown_kind, is_unknown_label}
+use Rattle.table_text.specs.NameIndex.{index_or_next, capped_index}
+use Rattle.table_text.specs.Drafts.{resolved, labeled, new_oneof, joined_with, resolved_field, with_enum, with_message, with_field_line, with_part, table_of_draft, added_enum, added_message}
 use Rattle.mrpc_table.specs.declared.table.Label.{Label}
 use Rattle.mrpc_table.specs.declared.table.Label.TheVariants.{Plain, Optional, Repeated, Packed, Map, Member}
 use Rattle.mrpc_table.specs.declared.table.Field.{Field as TheField}
@@ -23,8 +23,8 @@ use Rattle.table_text.specs.declared.line.KindWord.TheVariants as kinds
 use Rattle.table_text.specs.declared.line.LabelWord.{LabelWord}
 use Rattle.table_text.specs.declared.line.LabelWord.TheVariants as labels
 use Rattle.table_text.specs.declared.line.FieldLine.{FieldLine}
-use Rattle.table_text.specs.declared.draft.Open.TheVariants as open_parts
-use Rattle.table_text.specs.declared.draft.Draft.{Draft}
+use Rattle.table_text.specs.declared.draft.OpenPart.TheVariants as open_parts
+use Rattle.table_text.specs.declared.draft.TableDraft.{TableDraft}
 use Rattle.table_text.proofs.ListLemmas.{enumerate-push}
 use Rattle.table_text.proofs.Clean.{names_table, place_known, place_new, message_named, enum_named, not_no}
 use Rattle.table_text.proofs.SpellLemmas.{KindIs, LabelIs}
@@ -52,8 +52,8 @@ no_methods N ms e = rw e refl
 no_messages : (N : Table) (ms : List TheMessage) → ms ≡ [] → flat_map (message_lines N) ms ≡ []
 no_messages N ms e = rw e refl
 
-pub text_enum : (N : Table) (d : Draft) (n : List ℕ) → with_message d.open_part d.messages ≡ [] → d.methods ≡ []
-    → text_by N (table_of (added_enum d n)) ≡ text_by N (table_of d) ++ line (codes "enum" ∷ n ∷ [])
+pub text_enum : (N : Table) (d : TableDraft) (n : List ℕ) → with_message d.open_part d.messages ≡ [] → d.methods ≡ []
+    → text_by N (table_of_draft (added_enum d n)) ≡ text_by N (table_of_draft d) ++ line (codes "enum" ∷ n ∷ [])
 text_enum N d n ms ks =
     let es = with_enum d.open_part d.enums in
     let last : enum_lines (record { name = n; values = [] }) ≡ line (codes "enum" ∷ n ∷ []) = append-nil (line (codes "enum" ∷ n ∷ [])) in
@@ -64,7 +64,7 @@ text_enum N d n ms ks =
     (flat_push enum_lines es (record { name = n; values = [] })
     ∙ ap (λ (l : List ℕ). flat_map enum_lines es ++ l) last)
 
-pub text_message : (N : Table) (d : Draft) (n : List ℕ) → d.methods ≡ [] → text_by N (table_of (added_message d n)) ≡ text_by N (table_of d) ++ line (codes "message" ∷ n ∷ [])
+pub text_message : (N : Table) (d : TableDraft) (n : List ℕ) → d.methods ≡ [] → text_by N (table_of_draft (added_message d n)) ≡ text_by N (table_of_draft d) ++ line (codes "message" ∷ n ∷ [])
 text_message N d n ks =
     let ms = with_message d.open_part d.messages in
     let m : TheMessage = (record { name = n; fields = []; oneofs = [] }) in
@@ -78,10 +78,10 @@ enum_more : (c : Choices) (v : ℤ × List ℕ) → enum_lines (record { name = 
 enum_more c v = ap (λ (x : List ℕ). line (codes "enum" ∷ c.name ∷ []) ++ x) (flat_push value_line c.values v)
     ∙ sym (append_assoc (line (codes "enum" ∷ c.name ∷ [])) (flat_map value_line c.values) (value_line v))
 
-pub text_value : (N : Table) (d : Draft) (c : Choices) (z : ℤ) (n : List ℕ) → d.messages ≡ [] → d.methods ≡ []
-    → text_by N (table_of
+pub text_value : (N : Table) (d : TableDraft) (c : Choices) (z : ℤ) (n : List ℕ) → d.messages ≡ [] → d.methods ≡ []
+    → text_by N (table_of_draft
     (with_part d (open_parts.Enum (record { name = c.name; values = c.values ++ (z, n) ∷ [] }))))
-    ≡ text_by N (table_of (with_part d (open_parts.Enum c))) ++ line (codes "value" ∷ signed_decimal z ∷ n ∷ [])
+    ≡ text_by N (table_of_draft (with_part d (open_parts.Enum c))) ++ line (codes "value" ∷ signed_decimal z ∷ n ∷ [])
 text_value N d c z n ms ks =
     let c' : Choices = (record { name = c.name; values = c.values ++ (z, n) ∷ [] }) in
     at_first (flat_map enum_lines (d.enums ++ c ∷ [])) (flat_map enum_lines (d.enums ++ c' ∷ []))
@@ -92,14 +92,14 @@ text_value N d c z n ms ks =
     ∙ sym (append_assoc (flat_map enum_lines d.enums) (enum_lines c) (value_line (z, n)))
     ∙ ap (λ (x : List ℕ). x ++ value_line (z, n)) (sym (flat_push enum_lines d.enums c)))
 
-pub text_method : (N : Table) (d : Draft) (m : TheMethod)
-    → text_by N (table_of (record {
+pub text_method : (N : Table) (d : TableDraft) (m : TheMethod)
+    → text_by N (table_of_draft (record {
       enums = with_enum d.open_part d.enums;
       messages = with_message d.open_part d.messages;
       methods = d.methods ++ m ∷ [];
       open_part = open_parts.Nothing;
     }))
-    ≡ text_by N (table_of d) ++ method_line N (length d.methods, m)
+    ≡ text_by N (table_of_draft d) ++ method_line N (length d.methods, m)
 text_method N d m =
     at_third (flat_map enum_lines (with_enum d.open_part d.enums))
     (flat_map (message_lines N) (with_message d.open_part d.messages))
@@ -116,18 +116,18 @@ abbrev pub LabelPlaced : ℕ → Label → Type 0
 LabelPlaced n (Member o) = o < n
 LabelPlaced n _ = Unit {0}
 
-pub record IsSmall (t : Types) : Type 0 where
+pub record IsSmall (t : TypeNames) : Type 0 where
   pub enums : length t.enums ≤ 65536
   pub messages : length t.messages ≤ 65536
 
-pub kind_placed : (t : Types) (w : List ℕ) (k : KindWord) → IsSmall t → KindIs w k → is_unknown_kind t k ≡ false → kind_text (names_table t) (resolved t k) ≡ w
+pub kind_placed : (t : TypeNames) (w : List ℕ) (k : KindWord) → IsSmall t → KindIs w k → is_unknown_kind t k ≡ false → kind_text (names_table t) (resolved t k) ≡ w
 kind_placed t w (kinds.Scalar k) small h known = sym (h.0 (names_table t))
 kind_placed t w (kinds.Message n) small h known =
     let p = place_known n t.messages small.messages (not_no (is_among n t.messages) known) in
-    ap (λ (x : List ℕ). codes "message:" ++ x) (message_named t (place n t.messages) n p.1) ∙ sym h.0
+    ap (λ (x : List ℕ). codes "message:" ++ x) (message_named t (index_or_next n t.messages) n p.1) ∙ sym h.0
 kind_placed t w (kinds.Choice n) small h known =
     let p = place_known n t.enums small.enums (not_no (is_among n t.enums) known) in
-    ap (λ (x : List ℕ). codes "enum:" ++ x) (enum_named t (place n t.enums) n p.1) ∙ sym h.0
+    ap (λ (x : List ℕ). codes "enum:" ++ x) (enum_named t (index_or_next n t.enums) n p.1) ∙ sym h.0
 
 get_front : {X : Type 0} (xs ys : List X) (i : ℕ) → i < length xs → slice_get (xs ++ ys) i ≡ slice_get xs i
 get_front [] ys i within = absurd (omega arith)
@@ -155,10 +155,10 @@ fields_kept N oneofs more (f ∷ fs) h =
     let rest = fields_kept N oneofs more fs h.1 in
     rw (label, rest) refl
 
-pub member_new : (n : List ℕ) (oneofs : List (List ℕ)) → length oneofs ≤ 128 → is_among n oneofs ≡ false → place n oneofs ≡ length oneofs
+pub member_new : (n : List ℕ) (oneofs : List (List ℕ)) → length oneofs ≤ 128 → is_among n oneofs ≡ false → index_or_next n oneofs ≡ length oneofs
 member_new n oneofs few is =
     let small : min (length oneofs) (2 ^ 32 - 1) ≡ length oneofs = omega arith in
-    ap (λ (o : Option ℕ). in_range (unwrap_or o (length oneofs))) (place_new 0 n oneofs is) ∙ small
+    ap (λ (o : Option ℕ). capped_index (unwrap_or o (length oneofs))) (place_new 0 n oneofs is) ∙ small
 
 kept_by : (N : Table) (oneofs : List (List ℕ)) (new : Option (List ℕ)) (fs : List TheField)
     → AllByRecursion (λ f. LabelPlaced (length oneofs) f.label) fs
@@ -166,7 +166,7 @@ kept_by : (N : Table) (oneofs : List (List ℕ)) (new : Option (List ℕ)) (fs :
 kept_by N oneofs None fs h = refl
 kept_by N oneofs (Some n) fs h = fields_kept N oneofs (n ∷ []) fs h
 
-pub label_placed : (t : Types) (oneofs : List (List ℕ)) (w : List ℕ) (l : LabelWord) → IsSmall t → length oneofs ≤ 128 → LabelIs w l → is_unknown_label t l ≡ false
+pub label_placed : (t : TypeNames) (oneofs : List (List ℕ)) (w : List ℕ) (l : LabelWord) → IsSmall t → length oneofs ≤ 128 → LabelIs w l → is_unknown_label t l ≡ false
     → label_text (names_table t) (joined_with oneofs (new_oneof oneofs l)) (labeled t oneofs l) ≡ w
 label_placed t oneofs w labels.Plain small few h known = sym h
 label_placed t oneofs w labels.Optional small few h known = sym h
@@ -174,12 +174,12 @@ label_placed t oneofs w labels.Repeated small few h known = sym h
 label_placed t oneofs w labels.Packed small few h known = sym h
 label_placed t oneofs w (labels.Map k) small few h known = ap (λ (x : List ℕ). codes "map:" ++ x) (kind_placed t h.0 k small h.2 known) ∙ sym h.1
 label_placed t oneofs w (labels.Member n) small few h known =
-    elim (is_among n oneofs) as (λ (b : Bool). is_among n oneofs ≡ b → codes "oneof:" ++ unwrap_or (slice_get (joined_with oneofs (cond b None (Some n))) (place n oneofs)) [] ≡ w) [
+    elim (is_among n oneofs) as (λ (b : Bool). is_among n oneofs ≡ b → codes "oneof:" ++ unwrap_or (slice_get (joined_with oneofs (cond b None (Some n))) (index_or_next n oneofs)) [] ≡ w) [
       | true ↦ λ is.
           let p = place_known n oneofs (omega arith) is in
           ap (λ (x : Option (List ℕ)). codes "oneof:" ++ unwrap_or x []) p.1 ∙ sym h.0
       | false ↦ λ is.
-          let at : place n oneofs ≡ length oneofs = member_new n oneofs few is in
+          let at : index_or_next n oneofs ≡ length oneofs = member_new n oneofs few is in
           ap (λ (i : ℕ). codes "oneof:" ++ unwrap_or (slice_get (oneofs ++ n ∷ []) i) []) at
           ∙ ap (λ (x : Option (List ℕ)). codes "oneof:" ++ unwrap_or x []) (get_last oneofs n) ∙ sym h.0
     ] refl
@@ -193,16 +193,16 @@ message_more N m f new placed =
     (kept_by N m.oneofs new m.fields placed))
     ∙ sym (append_assoc head (flat_map (field_line N m.oneofs) m.fields) (field_line N (joined_with m.oneofs new) f))
 
-pub text_field : (t : Types) (d : Draft) (m : TheMessage) (n : ℕ) (f : FieldLine) (lw kw : List ℕ) → IsSmall t
+pub text_field : (t : TypeNames) (d : TableDraft) (m : TheMessage) (n : ℕ) (f : FieldLine) (lw kw : List ℕ) → IsSmall t
     → d.methods ≡ [] → length m.oneofs ≤ 128 → AllByRecursion (λ f. LabelPlaced (length m.oneofs) f.label) m.fields
     → LabelIs lw f.label → KindIs kw f.kind → is_unknown_label t f.label ≡ false → is_unknown_kind t f.kind ≡ false
-    → text_by (names_table t) (table_of (with_part d (with_field t (open_parts.Message m) (Some n) f)))
-    ≡ text_by (names_table t) (table_of (with_part d (open_parts.Message m)))
+    → text_by (names_table t) (table_of_draft (with_part d (with_field_line t (open_parts.Message m) (Some n) f)))
+    ≡ text_by (names_table t) (table_of_draft (with_part d (open_parts.Message m)))
     ++ line (codes "field" ∷ decimal n ∷ lw ∷ kw ∷ f.name ∷ [])
 text_field t d m n f lw kw small ks few placed label kind known_label known_kind =
     let N = names_table t in
     let new = new_oneof m.oneofs f.label in
-    let g = field_of t m.oneofs n f in
+    let g = resolved_field t m.oneofs n f in
     let m' : TheMessage = (record { name = m.name; fields = m.fields ++ g ∷ []; oneofs = joined_with m.oneofs new }) in
     let text : field_line N (joined_with m.oneofs new) g ≡ line (codes "field" ∷ decimal n ∷ lw ∷ kw ∷ f.name ∷ []) =
     ap (λ (x : List ℕ). line (codes "field" ∷ decimal n ∷ x ∷ kind_text N (resolved t f.kind) ∷ f.name ∷ [])) (label_placed t m.oneofs lw f.label small few label known_label)

@@ -6,8 +6,8 @@ use Rattle.std.proofs.lemmas.List.{length-take}
 use Rattle.std.proofs.lemmas.List.Splits.{length-slice_split}
 use Rattle.std.proofs.lemmas.List.Sums.{count_by-le-length}
 use Rattle.std.proofs.lemmas.Option.{same_Some, slice_get_past}
-use Rattle.table_text.specs.Judged.{IsFirstJudged, fault_at, fault_behind}
-use Rattle.mrpc_table.specs.Lines.{pieces_of, whole_lines, rest_of}
+use Rattle.table_text.specs.LineTests.{IsFirstFaultFound, fault_at_line, fault_after_lines}
+use Rattle.mrpc_table.specs.Lines.{pieces_of, whole_lines, remainder_of}
 use Rattle.mrpc_table.specs.Text.{table_text}
 use Rattle.mrpc_table.specs.Valid.{IsValid}
 use Rattle.mrpc_table.specs.declared.table.Table.{Table}
@@ -17,22 +17,22 @@ use Rattle.table_text.proofs.Complete.{complete}
 none_some : (o : Option TableReason) (r : TableReason) → o ≡ Some r → o ≡ None → ⊥
 none_some o r some none = absurd cc
 
-pub one_first : (text : List ℕ) (m n : ℕ) (r q : TableReason) → IsFirstJudged text m r → IsFirstJudged text n q → (m ≡ n) × (r ≡ q)
+pub one_first : (text : List ℕ) (m n : ℕ) (r q : TableReason) → IsFirstFaultFound text m r → IsFirstFaultFound text n q → (m ≡ n) × (r ≡ q)
 one_first text m n r q h k =
     elim (cases_lt m n) [
-      | inl before ↦ absurd (none_some (fault_at text (m - 1)) r h.here (k.none_before (m - 1) (omega arith)))
+      | inl before ↦ absurd (none_some (fault_at_line text (m - 1)) r h.here (k.none_before (m - 1) (omega arith)))
       | inr from ↦ elim (cases_lt n m) [
-        | inl behind ↦ absurd (none_some (fault_at text (n - 1)) q k.here (h.none_before (n - 1) (omega arith)))
+        | inl behind ↦ absurd (none_some (fault_at_line text (n - 1)) q k.here (h.none_before (n - 1) (omega arith)))
         | inr to ↦
             let same : m ≡ n = omega arith in
-            (same, same_Some r q (sym h.here ∙ ap (λ (i : ℕ). fault_at text (i - 1)) same ∙ k.here))
+            (same, same_Some r q (sym h.here ∙ ap (λ (i : ℕ). fault_at_line text (i - 1)) same ∙ k.here))
       ]
     ]
 
-pub none_first : (t : Table) (line : ℕ) (reason : TableReason) → IsValid t → IsFirstJudged (table_text t) line reason → ⊥
-none_first t line reason valid h = none_some (fault_at (table_text t) (line - 1)) reason h.here ((complete t (table_text t) valid refl).0 (line - 1))
+pub none_first : (t : Table) (line : ℕ) (reason : TableReason) → IsValid t → IsFirstFaultFound (table_text t) line reason → ⊥
+none_first t line reason valid h = none_some (fault_at_line (table_text t) (line - 1)) reason h.here ((complete t (table_text t) valid refl).0 (line - 1))
 
-pub no_fault_past : (lines : List (List ℕ)) (rest : List ℕ) (i : ℕ) → length lines + 1 ≤ i → fault_behind lines rest i ≡ None
+pub no_fault_past : (lines : List (List ℕ)) (rest : List ℕ) (i : ℕ) → length lines + 1 ≤ i → fault_after_lines lines rest i ≡ None
 no_fault_past lines rest i past =
     let no_line : slice_get lines i ≡ None = slice_get_past lines i (omega arith) in
     let not_end : (i == length lines) ≡ false = ne_eqb i (length lines) (λ same. omega arith) in
@@ -44,9 +44,9 @@ line_count text =
     let few = count_by-le-length (λ c. c == 10) text in
     omega (arith, pieces, few, length-take (length (pieces_of text) - 1) (pieces_of text))
 
-pub first_within : (text : List ℕ) (line : ℕ) (reason : TableReason) → IsFirstJudged text line reason → line ≤ length text + 1
+pub first_within : (text : List ℕ) (line : ℕ) (reason : TableReason) → IsFirstFaultFound text line reason → line ≤ length text + 1
 first_within text line reason h =
     elim (cases_lt (length (whole_lines text)) (line - 1)) [
-      | inl past ↦ absurd (none_some (fault_at text (line - 1)) reason h.here (no_fault_past (whole_lines text) (rest_of text) (line - 1) (omega arith)))
+      | inl past ↦ absurd (none_some (fault_at_line text (line - 1)) reason h.here (no_fault_past (whole_lines text) (remainder_of text) (line - 1) (omega arith)))
       | inr within ↦ omega (arith, line_count text)
     ]

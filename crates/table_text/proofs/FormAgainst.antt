@@ -9,31 +9,31 @@ use Rattle.std.proofs.lemmas.Bool.Decides.{leb_tells}
 use Rattle.std.proofs.lemmas.List.Elements.{Contains-append_cases}
 use Rattle.mrpc_table.specs.Names.{is_full_form, is_short, is_short_full}
 use Rattle.mrpc_table.specs.Valid.{IsFieldNumber}
-use Rattle.table_text.specs.Faults.{Offends, is_packable, is_key_kind, order_of, no_form, enum_behind_message}
-use Rattle.table_text.specs.Faults.{enum_behind_method, message_behind_method, falling_enum, falling_message}
-use Rattle.table_text.specs.Faults.{value_outside, falling_value, field_outside, falling_field, optional_message}
+use Rattle.table_text.specs.Faults.{IsFaultyLine, is_packable_word, is_key_kind, order_of_reason, no_form, enum_after_message}
+use Rattle.table_text.specs.Faults.{enum_after_method, message_after_method, enum_out_of_order, message_out_of_order}
+use Rattle.table_text.specs.Faults.{value_outside, value_out_of_order, field_outside, field_out_of_order, optional_message}
 use Rattle.table_text.specs.Faults.{packed_no_number, enum_without_value, value_out_of_range, no_field_number}
 use Rattle.table_text.specs.Faults.{index_out_of_turn, enum_without_zero, type_twice, value_twice, field_twice}
 use Rattle.table_text.specs.Faults.{number_twice, method_twice, unknown_type, map_key, long_name, long_full_name}
 use Rattle.table_text.specs.Faults.{too_many_enums, too_many_messages, too_many_methods, too_many_values}
 use Rattle.table_text.specs.Faults.{too_many_fields}
-use Rattle.table_text.specs.Forms.{Form, enum, value, message, field, method, Says, is_method, goes_on, type_named}
+use Rattle.table_text.specs.Forms.{TableLineForm, enum, value, message, field, method, HasLineForm, is_method_line, continues, type_named}
 use Rattle.table_text.specs.Forms.{type_of_kind, types_of_label, types_used, names_of_label, names_in}
 use Rattle.table_text.specs.Forms.{full_name_of_kind, full_names_of_label, full_names_in}
-use Rattle.table_text.specs.Judged.{Types, Before, types_of, line_fault, is_syntax, is_number, is_duplicate}
-use Rattle.table_text.specs.Judged.{is_unknown, is_map_key, is_limit, is_among, is_empty, falls, lacks_value}
-use Rattle.table_text.specs.Judged.{lacks_zero, is_within, has_field_number, is_index, clashes, field_falls}
-use Rattle.table_text.specs.Judged.{is_type_before, is_field_before, repeats_number, is_unknown_kind}
-use Rattle.table_text.specs.Judged.{is_unknown_label, is_short_kind, is_short_label}
-use Rattle.table_text.specs.Judged.{has_short_names, is_full}
-use Rattle.table_text.specs.Lines.{in_32_bits, behind, line_of}
+use Rattle.table_text.specs.LineTests.{TypeNames, NamesBefore, types_of, line_fault, has_syntax_fault, has_number_fault, has_duplicate}
+use Rattle.table_text.specs.LineTests.{has_unknown_type, has_map_key_fault, exceeds_limit, is_among, is_empty, is_below_last, lacks_value}
+use Rattle.table_text.specs.LineTests.{lacks_zero, is_enum_number, has_field_number, is_index, clashes, is_field_out_of_order}
+use Rattle.table_text.specs.LineTests.{is_type_before, is_field_before, repeats_number, is_unknown_kind}
+use Rattle.table_text.specs.LineTests.{is_unknown_label, is_short_kind, is_short_label}
+use Rattle.table_text.specs.LineTests.{has_short_names, has_one_too_many}
+use Rattle.table_text.specs.Lines.{in_32_bits, without_prefix, line_of}
 use Rattle.table_text.specs.declared.fault.TableReason.{TableReason}
 use Rattle.table_text.specs.declared.fault.TableReason.TheVariants.{Syntax, Number, Duplicate, UnknownType, MapKey, Limit}
 use Rattle.table_text.specs.declared.line.KindWord.{KindWord}
 use Rattle.table_text.specs.declared.line.KindWord.TheVariants as kinds
 use Rattle.table_text.specs.declared.line.LabelWord.{LabelWord}
 use Rattle.table_text.specs.declared.line.LabelWord.TheVariants as labels
-use Rattle.table_text.specs.declared.line.Line.{Line}
+use Rattle.table_text.specs.declared.line.TableLine.{TableLine}
 use Rattle.table_text.proofs.FormLines.{kept, kept_whole, kept_within, in_32, says_line, line_said}
 use Rattle.table_text.proofs.FormParts.{Fits, enum_name, message_name, method_key_of, named_in, in_names}
 use Rattle.table_text.proofs.FormPlaces.{left_true, right_true, not_is}
@@ -49,17 +49,17 @@ use Rattle.table_text.proofs.Soundness.{number_fits}
 pub record AtMost (found : Option TableReason) (q : TableReason) : Type 0 where
   pub reason : TableReason
   pub is : found ≡ Some reason
-  pub le : order_of reason ≤ order_of q
+  pub le : order_of_reason reason ≤ order_of_reason q
 
-first : (b : Bool) (r q : TableReason) (rest : Option TableReason) → order_of r ≤ order_of q → b ≡ true → AtMost (cond b (Some r) rest) q
+first : (b : Bool) (r q : TableReason) (rest : Option TableReason) → order_of_reason r ≤ order_of_reason q → b ≡ true → AtMost (cond b (Some r) rest) q
 first true r q rest le e = record { reason = r; is = refl; le = le }
 first false r q rest le e = absurd cc
 
-later : (b : Bool) (r q : TableReason) (rest : Option TableReason) → order_of r ≤ order_of q → AtMost rest q → AtMost (cond b (Some r) rest) q
+later : (b : Bool) (r q : TableReason) (rest : Option TableReason) → order_of_reason r ≤ order_of_reason q → AtMost rest q → AtMost (cond b (Some r) rest) q
 later true r q rest le h = record { reason = r; is = refl; le = le }
 later false r q rest le h = h
 
-pub syntax_least : (q : TableReason) → 1 ≤ order_of q
+pub syntax_least : (q : TableReason) → 1 ≤ order_of_reason q
 syntax_least Syntax = omega arith
 syntax_least Number = omega arith
 syntax_least Duplicate = omega arith
@@ -69,38 +69,38 @@ syntax_least Limit = omega arith
 
 -- ---- the tests in order
 
-module _ (t : Types) (b : Before) (bytes : ℕ) (l : Line) where
-  at_syntax : (q : TableReason) → is_syntax b l ≡ true → AtMost (line_fault t b bytes (Some l)) q
-  at_syntax q e = first (is_syntax b l) Syntax q _ (syntax_least q) e
+module _ (t : TypeNames) (b : NamesBefore) (bytes : ℕ) (l : TableLine) where
+  at_syntax : (q : TableReason) → has_syntax_fault b l ≡ true → AtMost (line_fault t b bytes (Some l)) q
+  at_syntax q e = first (has_syntax_fault b l) Syntax q _ (syntax_least q) e
 
-  at_number : is_number b l ≡ true → AtMost (line_fault t b bytes (Some l)) Number
-  at_number e = later (is_syntax b l) Syntax Number _ (omega arith) (first (is_number b l) Number Number _ (omega arith) e)
+  at_number : has_number_fault b l ≡ true → AtMost (line_fault t b bytes (Some l)) Number
+  at_number e = later (has_syntax_fault b l) Syntax Number _ (omega arith) (first (has_number_fault b l) Number Number _ (omega arith) e)
 
-  at_duplicate : is_duplicate b l ≡ true → AtMost (line_fault t b bytes (Some l)) Duplicate
-  at_duplicate e = later (is_syntax b l) Syntax Duplicate _ (omega arith)
-      (later (is_number b l) Number Duplicate _ (omega arith)
-      (first (is_duplicate b l) Duplicate Duplicate _ (omega arith) e))
+  at_duplicate : has_duplicate b l ≡ true → AtMost (line_fault t b bytes (Some l)) Duplicate
+  at_duplicate e = later (has_syntax_fault b l) Syntax Duplicate _ (omega arith)
+      (later (has_number_fault b l) Number Duplicate _ (omega arith)
+      (first (has_duplicate b l) Duplicate Duplicate _ (omega arith) e))
 
-  at_unknown : is_unknown t l ≡ true → AtMost (line_fault t b bytes (Some l)) UnknownType
+  at_unknown : has_unknown_type t l ≡ true → AtMost (line_fault t b bytes (Some l)) UnknownType
   at_unknown e =
-      later (is_syntax b l) Syntax UnknownType _ (omega arith) (later (is_number b l) Number UnknownType _ (omega arith) (later (is_duplicate b l) Duplicate UnknownType _ (omega arith)
-      (first (is_unknown t l) UnknownType UnknownType _ (omega arith) e)))
+      later (has_syntax_fault b l) Syntax UnknownType _ (omega arith) (later (has_number_fault b l) Number UnknownType _ (omega arith) (later (has_duplicate b l) Duplicate UnknownType _ (omega arith)
+      (first (has_unknown_type t l) UnknownType UnknownType _ (omega arith) e)))
 
-  at_map_key : is_map_key l ≡ true → AtMost (line_fault t b bytes (Some l)) MapKey
+  at_map_key : has_map_key_fault l ≡ true → AtMost (line_fault t b bytes (Some l)) MapKey
   at_map_key e =
-      later (is_syntax b l) Syntax MapKey _ (omega arith) (later (is_number b l) Number MapKey _ (omega arith) (later (is_duplicate b l) Duplicate MapKey _ (omega arith)
-      (later (is_unknown t l) UnknownType MapKey _ (omega arith) (first (is_map_key l) MapKey MapKey _ (omega arith) e))))
+      later (has_syntax_fault b l) Syntax MapKey _ (omega arith) (later (has_number_fault b l) Number MapKey _ (omega arith) (later (has_duplicate b l) Duplicate MapKey _ (omega arith)
+      (later (has_unknown_type t l) UnknownType MapKey _ (omega arith) (first (has_map_key_fault l) MapKey MapKey _ (omega arith) e))))
 
-  pub at_limit : is_limit b bytes l ≡ true → AtMost (line_fault t b bytes (Some l)) Limit
+  pub at_limit : exceeds_limit b bytes l ≡ true → AtMost (line_fault t b bytes (Some l)) Limit
   at_limit e =
-      later (is_syntax b l) Syntax Limit _ (omega arith) (later (is_number b l) Number Limit _ (omega arith) (later (is_duplicate b l) Duplicate Limit _ (omega arith)
-      (later (is_unknown t l) UnknownType Limit _ (omega arith) (later (is_map_key l) MapKey Limit _ (omega arith) (first (is_limit b bytes l) Limit Limit None (omega arith) e)))))
+      later (has_syntax_fault b l) Syntax Limit _ (omega arith) (later (has_number_fault b l) Number Limit _ (omega arith) (later (has_duplicate b l) Duplicate Limit _ (omega arith)
+      (later (has_unknown_type t l) UnknownType Limit _ (omega arith) (later (has_map_key_fault l) MapKey Limit _ (omega arith) (first (exceeds_limit b bytes l) Limit Limit None (omega arith) e)))))
 
-  at_full : is_full b l ≡ true → AtMost (line_fault t b bytes (Some l)) Limit
-  at_full e = at_limit (left_true (not (has_short_names l) || is_full b l) (nat_lt 65536 bytes) (right_true (not (has_short_names l)) (is_full b l) e))
+  at_full : has_one_too_many b l ≡ true → AtMost (line_fault t b bytes (Some l)) Limit
+  at_full e = at_limit (left_true (not (has_short_names l) || has_one_too_many b l) (nat_lt 65536 bytes) (right_true (not (has_short_names l)) (has_one_too_many b l) e))
 
   at_long : has_short_names l ≡ false → AtMost (line_fault t b bytes (Some l)) Limit
-  at_long e = at_limit (left_true (not (has_short_names l) || is_full b l) (nat_lt 65536 bytes) (left_true (not (has_short_names l)) (is_full b l) (not_is (has_short_names l) e)))
+  at_long e = at_limit (left_true (not (has_short_names l) || has_one_too_many b l) (nat_lt 65536 bytes) (left_true (not (has_short_names l)) (has_one_too_many b l) (not_is (has_short_names l) e)))
 
 -- ---- Syntax
 
@@ -108,7 +108,7 @@ pub not_empty : {X : Type 0} (xs : List X) (x : X) → Contains xs x → not (is
 not_empty [] x c = absurd (contains_nothing x c)
 not_empty (y ∷ ys) x c = let some : (length (y ∷ ys) == 0) ≡ false = ne_eqb (length (y ∷ ys)) 0 (omega arith) in rw some refl
 
-key_in : (fs : List Form) (b : Before) (f : Form) → Fits fs b → Contains fs f → is_method f ≡ true → not (is_empty b.methods) ≡ true
+key_in : (fs : List TableLineForm) (b : NamesBefore) (f : TableLineForm) → Fits fs b → Contains fs f → is_method_line f ≡ true → not (is_empty b.methods) ≡ true
 key_in fs b (method i s n x y) fits c e =
     let key = subst (λ (xs : List (List ℕ)). Contains xs (s ++ 32 ∷ n)) fits.methods (in_names method_key_of fs (method i s n x y) (s ++ 32 ∷ n) c refl) in
     not_empty b.methods (s ++ 32 ∷ n) key
@@ -117,19 +117,19 @@ key_in fs b (value z n) fits c e = absurd cc
 key_in fs b (message n) fits c e = absurd cc
 key_in fs b (field i l k m) fits c e = absurd cc
 
-lacking : (b : Before) (f : Form) → goes_on f ≡ false → lacks_value b.open_part ≡ true → is_syntax b (kept f) ≡ true
+lacking : (b : NamesBefore) (f : TableLineForm) → continues f ≡ false → lacks_value b.open_part ≡ true → has_syntax_fault b (kept f) ≡ true
 lacking b (enum n) goes e =
     let o = b.open_part in
-    left_true ((lacks_value o || not (is_empty b.messages)) || not (is_empty b.methods)) (falls n b.enums)
+    left_true ((lacks_value o || not (is_empty b.messages)) || not (is_empty b.methods)) (is_below_last n b.enums)
     (left_true (lacks_value o || not (is_empty b.messages)) (not (is_empty b.methods)) (left_true (lacks_value o) (not (is_empty b.messages)) e))
 lacking b (message n) goes e =
     let o = b.open_part in
-    left_true (lacks_value o || not (is_empty b.methods)) (falls n b.messages) (left_true (lacks_value o) (not (is_empty b.methods)) e)
+    left_true (lacks_value o || not (is_empty b.methods)) (is_below_last n b.messages) (left_true (lacks_value o) (not (is_empty b.methods)) e)
 lacking b (method i s n x y) goes e = e
 lacking b (value z n) goes e = absurd cc
 lacking b (field i l k m) goes e = absurd cc
 
-zeroless : (b : Before) (f : Form) → goes_on f ≡ false → lacks_zero b.open_part ≡ true → is_number b (kept f) ≡ true
+zeroless : (b : NamesBefore) (f : TableLineForm) → continues f ≡ false → lacks_zero b.open_part ≡ true → has_number_fault b (kept f) ≡ true
 zeroless b (enum n) goes e = e
 zeroless b (message n) goes e = e
 zeroless b (method i s n x y) goes e = left_true (lacks_zero b.open_part) (not (is_index (in_32_bits i) (length b.methods))) e
@@ -138,10 +138,10 @@ zeroless b (field i l k m) goes e = absurd cc
 
 -- ---- Number
 
-out_of_range : (z : ℤ) → (FitsSigned w32 z → ⊥) → not (is_within (kept_whole z)) ≡ true
-out_of_range z wrong = go (is_within (kept_whole z)) refl
+out_of_range : (z : ℤ) → (FitsSigned w32 z → ⊥) → not (is_enum_number (kept_whole z)) ≡ true
+out_of_range z wrong = go (is_enum_number (kept_whole z)) refl
   where
-    go : (b : Bool) → is_within (kept_whole z) ≡ b → not b ≡ true
+    go : (b : Bool) → is_enum_number (kept_whole z) ≡ b → not b ≡ true
     go false e = refl
     go true e = absurd (wrong (kept_within z e).1)
 
@@ -163,7 +163,7 @@ bad_index i n other = elim (in_32 i) [
 
 -- ---- Duplicate
 
-type_before : (fs : List Form) (b : Before) (g : Form) (n : List ℕ) → Fits fs b → Contains fs g → type_named g ≡ Some n → is_type_before b n ≡ true
+type_before : (fs : List TableLineForm) (b : NamesBefore) (g : TableLineForm) (n : List ℕ) → Fits fs b → Contains fs g → type_named g ≡ Some n → is_type_before b n ≡ true
 type_before fs b (enum m) n s c e =
     let name = subst (λ (xs : List (List ℕ)). Contains xs n) s.enums (in_names enum_name fs (enum m) n c e) in
     left_true (is_among n b.enums) (is_among n b.messages) (contains_among n b.enums name)
@@ -174,7 +174,7 @@ type_before fs b (value z m) n s c e = absurd cc
 type_before fs b (field i l k m) n s c e = absurd cc
 type_before fs b (method i sv m x y) n s c e = absurd cc
 
-type_duplicate : (b : Before) (f : Form) (n : List ℕ) → type_named f ≡ Some n → is_type_before b n ≡ true → is_duplicate b (kept f) ≡ true
+type_duplicate : (b : NamesBefore) (f : TableLineForm) (n : List ℕ) → type_named f ≡ Some n → is_type_before b n ≡ true → has_duplicate b (kept f) ≡ true
 type_duplicate b (enum m) n e h = let same : m ≡ n = cc in subst (λ (w : List ℕ). is_type_before b w ≡ true) (sym same) h
 type_duplicate b (message m) n e h = let same : m ≡ n = cc in subst (λ (w : List ℕ). is_type_before b w ≡ true) (sym same) h
 type_duplicate b (value z m) n e h = absurd cc
@@ -184,25 +184,25 @@ type_duplicate b (method i s m x y) n e h = absurd cc
 -- ---- UnknownType
 
 message_unknown : (lines : List (List ℕ)) (n : List ℕ) → IsTrue (is_full_form n)
-    → ((other : List ℕ) → Contains lines other → Says other (message n) → ⊥)
+    → ((other : List ℕ) → Contains lines other → HasLineForm other (message n) → ⊥)
     → not (is_among n (types_of lines).messages) ≡ true
 message_unknown lines n form none =
     not_is (is_among n (types_of lines).messages) (among_not n (types_of lines).messages (λ c.
-    let r = named_in (behind (codes "message ")) lines n c in
+    let r = named_in (without_prefix (codes "message ")) lines n c in
     none r.0 r.1 (behind_message r.0 n r.2 form)))
 
 enum_unknown : (lines : List (List ℕ)) (n : List ℕ) → IsTrue (is_full_form n)
-    → ((other : List ℕ) → Contains lines other → Says other (enum n) → ⊥)
+    → ((other : List ℕ) → Contains lines other → HasLineForm other (enum n) → ⊥)
     → not (is_among n (types_of lines).enums) ≡ true
 enum_unknown lines n form none =
     not_is (is_among n (types_of lines).enums) (among_not n (types_of lines).enums (λ c.
-    let r = named_in (behind (codes "enum ")) lines n c in
+    let r = named_in (without_prefix (codes "enum ")) lines n c in
     none r.0 r.1 (behind_enum r.0 n r.2 form)))
 
-abbrev pub NoneSays : List (List ℕ) → Form → Type 0
-NoneSays lines type = (other : List ℕ) → Contains lines other → Says other type → ⊥
+abbrev pub NoneSays : List (List ℕ) → TableLineForm → Type 0
+NoneSays lines type = (other : List ℕ) → Contains lines other → HasLineForm other type → ⊥
 
-kind_unknown : (lines : List (List ℕ)) (w : List ℕ) (k : KindWord) (type : Form) → KindIs w k
+kind_unknown : (lines : List (List ℕ)) (w : List ℕ) (k : KindWord) (type : TableLineForm) → KindIs w k
     → Contains (type_of_kind k) type → NoneSays lines type → is_unknown_kind (types_of lines) k ≡ true
 kind_unknown lines w (kinds.Scalar k) type is c none = absurd (contains_nothing type c)
 kind_unknown lines w (kinds.Message n) type is c none = elim (contains_cases (message n) type [] c) [
@@ -214,7 +214,7 @@ kind_unknown lines w (kinds.Choice n) type is c none = elim (contains_cases (enu
   | inr more ↦ absurd (contains_nothing type more)
 ]
 
-label_unknown : (lines : List (List ℕ)) (w : List ℕ) (l : LabelWord) (type : Form) → LabelIs w l
+label_unknown : (lines : List (List ℕ)) (w : List ℕ) (l : LabelWord) (type : TableLineForm) → LabelIs w l
     → Contains (types_of_label l) type → NoneSays lines type → is_unknown_label (types_of lines) l ≡ true
 label_unknown lines w labels.Plain type is c none = absurd (contains_nothing type c)
 label_unknown lines w labels.Optional type is c none = absurd (contains_nothing type c)
@@ -223,8 +223,8 @@ label_unknown lines w labels.Packed type is c none = absurd (contains_nothing ty
 label_unknown lines w (labels.Map key) type is c none = kind_unknown lines is.0 key type is.2 c none
 label_unknown lines w (labels.Member o) type is c none = absurd (contains_nothing type c)
 
-unknown_found : (lines : List (List ℕ)) (line : List ℕ) (f type : Form) → Says line f → Contains (types_used f) type
-    → NoneSays lines type → is_unknown (types_of lines) (kept f) ≡ true
+unknown_found : (lines : List (List ℕ)) (line : List ℕ) (f type : TableLineForm) → HasLineForm line f → Contains (types_used f) type
+    → NoneSays lines type → has_unknown_type (types_of lines) (kept f) ≡ true
 unknown_found lines line (enum n) type says c none = absurd (contains_nothing type c)
 unknown_found lines line (value z n) type says c none = absurd (contains_nothing type c)
 unknown_found lines line (message n) type says c none = absurd (contains_nothing type c)
@@ -281,7 +281,7 @@ label_long labels.Packed n c e = absurd (contains_nothing n c)
 label_long (labels.Map key) n c e = kind_long key n c e
 label_long (labels.Member o) n c e = absurd (contains_nothing n c)
 
-names_long : (f : Form) (n : List ℕ) → Contains (names_in f) n → is_short n ≡ false → has_short_names (kept f) ≡ false
+names_long : (f : TableLineForm) (n : List ℕ) → Contains (names_in f) n → is_short n ≡ false → has_short_names (kept f) ≡ false
 names_long (enum m) n c e = absurd (contains_nothing n c)
 names_long (value z m) n c e = ap is_short (only m n c) ∙ e
 names_long (message m) n c e = absurd (contains_nothing n c)
@@ -294,7 +294,7 @@ names_long (method i s m x y) n c e =
     and_left ((is_short_full s && is_short m) && is_short_full x) (is_short_full y)
     (and_left (is_short_full s && is_short m) (is_short_full x) (and_right (is_short_full s) (is_short m) short))
 
-full_names_long : (f : Form) (n : List ℕ) → Contains (full_names_in f) n → is_short_full n ≡ false → has_short_names (kept f) ≡ false
+full_names_long : (f : TableLineForm) (n : List ℕ) → Contains (full_names_in f) n → is_short_full n ≡ false → has_short_names (kept f) ≡ false
 full_names_long (enum m) n c e = ap is_short_full (only m n c) ∙ e
 full_names_long (value z m) n c e = absurd (contains_nothing n c)
 full_names_long (message m) n c e = ap is_short_full (only m n c) ∙ e
@@ -317,62 +317,62 @@ full_names_long (method i s m x y) n c e = elim (contains_cases s n (x ∷ y ∷
 -- ---- a line
 
 -- a line of the right form is checked by its form
-pub by_form : (t : Types) (b : Before) (bytes : ℕ) (line : List ℕ) (f : Form) (q r : TableReason) → Says line f
+pub by_form : (t : TypeNames) (b : NamesBefore) (bytes : ℕ) (line : List ℕ) (f : TableLineForm) (q r : TableReason) → HasLineForm line f
     → r ≡ q → AtMost (line_fault t b bytes (Some (kept f))) q → AtMost (line_fault t b bytes (line_of line)) r
 by_form t b bytes line f q r says e h =
-    subst (λ (s : TableReason). AtMost (line_fault t b bytes (line_of line)) s) (sym e) (subst (λ (o : Option Line). AtMost (line_fault t b bytes o) q) (sym (says_line line f says)) h)
+    subst (λ (s : TableReason). AtMost (line_fault t b bytes (line_of line)) s) (sym e) (subst (λ (o : Option TableLine). AtMost (line_fault t b bytes o) q) (sym (says_line line f says)) h)
 
-formless : (t : Types) (b : Before) (bytes : ℕ) (line : List ℕ) → ((f : Form) → Says line f → ⊥) → (o : Option Line)
+formless : (t : TypeNames) (b : NamesBefore) (bytes : ℕ) (line : List ℕ) → ((f : TableLineForm) → HasLineForm line f → ⊥) → (o : Option TableLine)
     → line_of line ≡ o → AtMost (line_fault t b bytes o) Syntax
 formless t b bytes line none None e = record { reason = Syntax; is = refl; le = omega arith }
 formless t b bytes line none (Some l) e = let said = line_said line l e in absurd (none said.form said.words)
 
-pub stands_found : (lines : List (List ℕ)) (fs : List Form) (b : Before) (bytes : ℕ) (line : List ℕ) (r : TableReason)
-    → Fits fs b → Offends lines fs line r → AtMost (line_fault (types_of lines) b bytes (line_of line)) r
+pub stands_found : (lines : List (List ℕ)) (fs : List TableLineForm) (b : NamesBefore) (bytes : ℕ) (line : List ℕ) (r : TableReason)
+    → Fits fs b → IsFaultyLine lines fs line r → AtMost (line_fault (types_of lines) b bytes (line_of line)) r
 stands_found lines fs b bytes line r s (no_form none e) =
     subst (λ (q : TableReason). AtMost (line_fault (types_of lines) b bytes (line_of line)) q) (sym e) (formless (types_of lines) b bytes line none (line_of line) refl)
-stands_found lines fs b bytes line r s (enum_behind_message n other says c e) =
+stands_found lines fs b bytes line r s (enum_after_message n other says c e) =
     let t = types_of lines in
     let name = subst (λ (xs : List (List ℕ)). Contains xs other) s.messages (in_names message_name fs (message other) other c refl) in
     let lacks = lacks_value b.open_part in
     by_form t b bytes line (enum n) Syntax r says e (at_syntax t b bytes (kept (enum n)) Syntax
-    (left_true ((lacks || not (is_empty b.messages)) || not (is_empty b.methods)) (falls n b.enums)
+    (left_true ((lacks || not (is_empty b.messages)) || not (is_empty b.methods)) (is_below_last n b.enums)
     (left_true (lacks || not (is_empty b.messages)) (not (is_empty b.methods)) (right_true lacks (not (is_empty b.messages)) (not_empty b.messages other name)))))
-stands_found lines fs b bytes line r s (enum_behind_method n m says c is e) =
+stands_found lines fs b bytes line r s (enum_after_method n m says c is e) =
     let t = types_of lines in
     let lacks = lacks_value b.open_part in
     by_form t b bytes line (enum n) Syntax r says e (at_syntax t b bytes (kept (enum n)) Syntax
-    (left_true ((lacks || not (is_empty b.messages)) || not (is_empty b.methods)) (falls n b.enums)
+    (left_true ((lacks || not (is_empty b.messages)) || not (is_empty b.methods)) (is_below_last n b.enums)
     (right_true (lacks || not (is_empty b.messages)) (not (is_empty b.methods)) (key_in fs b m s c is))))
-stands_found lines fs b bytes line r s (message_behind_method n m says c is e) =
+stands_found lines fs b bytes line r s (message_after_method n m says c is e) =
     let t = types_of lines in
     let lacks = lacks_value b.open_part in
     by_form t b bytes line (message n) Syntax r says e (at_syntax t b bytes (kept (message n)) Syntax
-    (left_true (lacks || not (is_empty b.methods)) (falls n b.messages) (right_true lacks (not (is_empty b.methods)) (key_in fs b m s c is))))
-stands_found lines fs b bytes line r s (falling_enum n other says above less e) =
+    (left_true (lacks || not (is_empty b.methods)) (is_below_last n b.messages) (right_true lacks (not (is_empty b.methods)) (key_in fs b m s c is))))
+stands_found lines fs b bytes line r s (enum_out_of_order n other says above less e) =
     let t = types_of lines in
     let falling = said_enum_falls fs b.enums b.open_part n other s.enums s.part above less in
     by_form t b bytes line (enum n) Syntax r says e (at_syntax t b bytes (kept (enum n)) Syntax
-    (right_true ((lacks_value b.open_part || not (is_empty b.messages)) || not (is_empty b.methods)) (falls n b.enums) falling))
-stands_found lines fs b bytes line r s (falling_message n other says above less e) =
+    (right_true ((lacks_value b.open_part || not (is_empty b.messages)) || not (is_empty b.methods)) (is_below_last n b.enums) falling))
+stands_found lines fs b bytes line r s (message_out_of_order n other says above less e) =
     let t = types_of lines in
     let falling = said_message_falls fs b.messages b.open_part n other s.messages s.part above less in
     by_form t b bytes line (message n) Syntax r says e (at_syntax t b bytes (kept (message n)) Syntax
-    (right_true (lacks_value b.open_part || not (is_empty b.methods)) (falls n b.messages) falling))
+    (right_true (lacks_value b.open_part || not (is_empty b.methods)) (is_below_last n b.messages) falling))
 stands_found lines fs b bytes line r s (value_outside z n says none e) =
     let t = types_of lines in
     by_form t b bytes line (value z n) Syntax r says e (at_syntax t b bytes (kept (value z n)) Syntax (outside_falls fs b.open_part (kept_whole z) n s.part none))
-stands_found lines fs b bytes line r s (falling_value z last n other says is_last less e) =
+stands_found lines fs b bytes line r s (value_out_of_order z last n other says is_last less e) =
     let t = types_of lines in
     by_form t b bytes line (value z n) Syntax r says e (at_syntax t b bytes (kept (value z n)) Syntax (below_falls fs b.open_part z n (last, other) s.part is_last less))
 stands_found lines fs b bytes line r s (field_outside i l k m says none e) =
     let t = types_of lines in
     by_form t b bytes line (field i l k m) Syntax r says e (at_syntax t b bytes (kept (field i l k m)) Syntax
-    (right_true (clashes l k) (field_falls b.open_part (in_32_bits i)) (outside_field_falls fs b.open_part (in_32_bits i) s.part none)))
-stands_found lines fs b bytes line r s (falling_field i last l l2 k k2 m other says is_last less e) =
+    (right_true (clashes l k) (is_field_out_of_order b.open_part (in_32_bits i)) (outside_field_falls fs b.open_part (in_32_bits i) s.part none)))
+stands_found lines fs b bytes line r s (field_out_of_order i last l l2 k k2 m other says is_last less e) =
     let t = types_of lines in
     by_form t b bytes line (field i l k m) Syntax r says e (at_syntax t b bytes (kept (field i l k m)) Syntax
-    (right_true (clashes l k) (field_falls b.open_part (in_32_bits i))
+    (right_true (clashes l k) (is_field_out_of_order b.open_part (in_32_bits i))
     (below_field_falls fs b.open_part i (record { number = last; label = l2; kind = k2; name = other }) s.part
     is_last less)))
 stands_found lines fs b bytes line r s (optional_message i type m says e) =
@@ -381,7 +381,7 @@ stands_found lines fs b bytes line r s (optional_message i type m says e) =
 stands_found lines fs b bytes line r s (packed_no_number i k m says no_number e) =
     let t = types_of lines in
     by_form t b bytes line (field i labels.Packed k m) Syntax r says e (at_syntax t b bytes (kept (field i labels.Packed k m)) Syntax
-    (left_true (not (is_packable k)) (field_falls b.open_part (in_32_bits i)) (not_is (is_packable k) no_number)))
+    (left_true (not (is_packable_word k)) (is_field_out_of_order b.open_part (in_32_bits i)) (not_is (is_packable_word k) no_number)))
 stands_found lines fs b bytes line r s (enum_without_value f says goes lacks e) =
     let t = types_of lines in
     by_form t b bytes line f Syntax r says e (at_syntax t b bytes (kept f) Syntax (lacking b f goes (said_lacks_value fs b.open_part s.part lacks)))
@@ -417,7 +417,7 @@ stands_found lines fs b bytes line r s (field_twice i other l l2 k k2 m says abo
       kind = k2;
       name = m;
     }) s.part above) [
-      | inl falling ↦ at_syntax t b bytes (kept (field i l k m)) Duplicate (right_true (clashes l k) (field_falls b.open_part (in_32_bits i)) falling)
+      | inl falling ↦ at_syntax t b bytes (kept (field i l k m)) Duplicate (right_true (clashes l k) (is_field_out_of_order b.open_part (in_32_bits i)) falling)
       | inr twice ↦ at_duplicate t b bytes (kept (field i l k m)) (left_true (is_field_before b.open_part m) (repeats_number b.open_part (in_32_bits i)) twice)
     ])
 stands_found lines fs b bytes line r s (number_twice i l l2 k k2 m other says last e) =

@@ -9,13 +9,13 @@ use Rattle.std.proofs.lemmas.List.{append-nil}
 use Rattle.std.proofs.lemmas.List.Sums.{sum_by-append}
 use Rattle.std.proofs.lemmas.List.Elements.{All-push, All-nil, All-contains, Contains-append_right, Contains-push_cases, filter_map-append}
 use Rattle.mrpc_table.specs.Names.{is_name_form, is_full_form, is_short, is_short_full}
-use Rattle.table_text.specs.Forms.{Form, enum, value, message, field, method, goes_on, is_method}
-use Rattle.table_text.specs.Judged.{Types, Before, OpenNames, nothing, values, fields, after, names_with_value, names_with_field, lacks_value, is_empty, falls, is_within, has_field_number, clashes}
+use Rattle.table_text.specs.Forms.{TableLineForm, enum, value, message, field, method, continues, is_method_line}
+use Rattle.table_text.specs.LineTests.{TypeNames, NamesBefore, OpenNames, nothing, values, fields, names_after, names_with_value, names_with_field, lacks_value, is_empty, is_below_last, is_enum_number, has_field_number, clashes}
 use Rattle.table_text.specs.Lines.{in_32_bits}
 use Rattle.table_text.specs.declared.line.KindWord.{KindWord}
 use Rattle.table_text.specs.declared.line.LabelWord.{LabelWord}
-use Rattle.table_text.specs.declared.line.Whole.{Whole}
-use Rattle.table_text.specs.declared.line.Line.TheVariants.{Value}
+use Rattle.table_text.specs.declared.line.EnumNumber.{EnumNumber}
+use Rattle.table_text.specs.declared.line.TableLine.TheVariants.{Value}
 use Rattle.table_text.proofs.Clean.{IsClean, left_no, right_no, not_no}
 use Rattle.table_text.proofs.FormLines.{kept, kept_whole, kept_within, in_32}
 use Rattle.table_text.proofs.KeptLemmas.{map_push}
@@ -24,7 +24,7 @@ use Rattle.table_text.proofs.Soundness.{empty_is, not_le, length_push}
 
 -- ---- lines of an enum and of a message
 
-abbrev pub value_form : ℤ × List ℕ → Form
+abbrev pub value_form : ℤ × List ℕ → TableLineForm
 value_form v = value v.0 v.1
 
 pub record Parts : Type 0 where
@@ -33,66 +33,66 @@ pub record Parts : Type 0 where
   pub kind : KindWord
   pub name : List ℕ
 
-abbrev pub field_form : Parts → Form
+abbrev pub field_form : Parts → TableLineForm
 field_form p = field p.number p.label p.kind p.name
 
 abbrev pub field_key : Parts → ℕ × List ℕ
 field_key p = (p.number, p.name)
 
-pub record InEnum (fs : List Form) (vs : List (ℤ × List ℕ)) : Type 0 where
-  pub front : List Form
+pub record InEnum (fs : List TableLineForm) (vs : List (ℤ × List ℕ)) : Type 0 where
+  pub front : List TableLineForm
   pub name : List ℕ
   pub is : fs ≡ front ++ enum name ∷ map value_form vs
   pub fits : All (λ v. FitsSigned w32 v.0) vs
 
-pub record InMessage (fs : List Form) (ns : List (ℕ × List ℕ)) : Type 0 where
-  pub front : List Form
+pub record InMessage (fs : List TableLineForm) (ns : List (ℕ × List ℕ)) : Type 0 where
+  pub front : List TableLineForm
   pub name : List ℕ
   pub parts : List Parts
   pub is : fs ≡ front ++ message name ∷ map field_form parts
   pub keys : map field_key parts ≡ ns
   pub small : All (λ n. n.0 < 2 ^ 32) ns
 
-pub record InNothing (fs : List Form) : Type 0 where
-  pub front : List Form
-  pub last : Form
+pub record InNothing (fs : List TableLineForm) : Type 0 where
+  pub front : List TableLineForm
+  pub last : TableLineForm
   pub is : fs ≡ front ++ last ∷ []
-  pub a_method : is_method last ≡ true
+  pub a_method : is_method_line last ≡ true
 
-abbrev pub PartIs : List Form → OpenNames → Type 0
+abbrev pub PartIs : List TableLineForm → OpenNames → Type 0
 PartIs fs nothing = (fs ≡ []) ⊎ InNothing fs
 PartIs fs (values vs) = InEnum fs vs
 PartIs fs (fields ns) = InMessage fs ns
 
-abbrev pub IsOrdered : OpenNames → List Form → List (List ℕ) → List (List ℕ) → Type 0
+abbrev pub IsOrdered : OpenNames → List TableLineForm → List (List ℕ) → List (List ℕ) → Type 0
 IsOrdered nothing fs ms ks = ks ≡ [] → fs ≡ []
 IsOrdered (values vs) fs ms ks = (ms ≡ []) × (ks ≡ [])
 IsOrdered (fields ns) fs ms ks = ks ≡ []
 
-abbrev pub enum_name : Form → Option (List ℕ)
+abbrev pub enum_name : TableLineForm → Option (List ℕ)
 enum_name (enum name) = Some name
 enum_name _ = None
 
-abbrev pub message_name : Form → Option (List ℕ)
+abbrev pub message_name : TableLineForm → Option (List ℕ)
 message_name (message name) = Some name
 message_name _ = None
 
-abbrev pub method_key_of : Form → Option (List ℕ)
+abbrev pub method_key_of : TableLineForm → Option (List ℕ)
 method_key_of (method i s n x y) = Some (s ++ 32 ∷ n)
 method_key_of _ = None
 
-abbrev pub IsFormed : Form → Type 0
+abbrev pub IsFormed : TableLineForm → Type 0
 IsFormed (method i s n x y) = IsTrue (is_full_form s) × IsTrue (is_name_form n)
 IsFormed _ = Unit {0}
 
-pub record Fits (fs : List Form) (b : Before) : Type 0 where
+pub record Fits (fs : List TableLineForm) (b : NamesBefore) : Type 0 where
   pub enums : filter_map enum_name fs ≡ b.enums
   pub messages : filter_map message_name fs ≡ b.messages
   pub methods : filter_map method_key_of fs ≡ b.methods
   pub few : length b.methods ≤ 256
   pub part : PartIs fs b.open_part
   pub ordered : IsOrdered b.open_part fs b.messages b.methods
-  pub formed : (f : Form) → Contains fs f → IsFormed f
+  pub formed : (f : TableLineForm) → Contains fs f → IsFormed f
 
 -- ---- one line more
 
@@ -100,28 +100,28 @@ one : (o : Option (List ℕ)) → cons_option o [] ≡ option_to_list o
 one None = refl
 one (Some n) = refl
 
-names_push : (h : Form → Option (List ℕ)) (fs : List Form) (ns : List (List ℕ)) (f : Form) → filter_map h fs ≡ ns → filter_map h (fs ++ f ∷ []) ≡ ns ++ option_to_list (h f)
+names_push : (h : TableLineForm → Option (List ℕ)) (fs : List TableLineForm) (ns : List (List ℕ)) (f : TableLineForm) → filter_map h fs ≡ ns → filter_map h (fs ++ f ∷ []) ≡ ns ++ option_to_list (h f)
 names_push h fs ns f e = filter_map-append h fs (f ∷ []) ∙ ap (λ (xs : List (List ℕ)). filter_map h fs ++ xs)
     (one (h f)) ∙ ap (λ (xs : List (List ℕ)). xs ++ option_to_list (h f)) e
 
-names_stay : (h : Form → Option (List ℕ)) (fs : List Form) (ns : List (List ℕ)) (f : Form) → h f ≡ None → filter_map h fs ≡ ns → filter_map h (fs ++ f ∷ []) ≡ ns
+names_stay : (h : TableLineForm → Option (List ℕ)) (fs : List TableLineForm) (ns : List (List ℕ)) (f : TableLineForm) → h f ≡ None → filter_map h fs ≡ ns → filter_map h (fs ++ f ∷ []) ≡ ns
 names_stay h fs ns f none e = names_push h fs ns f e ∙ ap (λ (o : Option (List ℕ)). ns ++ option_to_list o) none ∙ append-nil ns
 
-formed_push : (fs : List Form) (f : Form) → ((g : Form) → Contains fs g → IsFormed g) → IsFormed f → (g : Form) → Contains (fs ++ f ∷ []) g → IsFormed g
+formed_push : (fs : List TableLineForm) (f : TableLineForm) → ((g : TableLineForm) → Contains fs g → IsFormed g) → IsFormed f → (g : TableLineForm) → Contains (fs ++ f ∷ []) g → IsFormed g
 formed_push fs f all ok g h = elim (Contains-push_cases fs f g h) [ inl old ↦ all g old | inr same ↦ subst IsFormed same ok ]
 
-value_step : (t : Types) (fs : List Form) (es ms ks : List (List ℕ)) (part : OpenNames) (bytes : ℕ) (z : ℤ) (n : List ℕ)
+value_step : (t : TypeNames) (fs : List TableLineForm) (es ms ks : List (List ℕ)) (part : OpenNames) (bytes : ℕ) (z : ℤ) (n : List ℕ)
     → Fits fs (record { enums = es; messages = ms; methods = ks; open_part = part })
     → IsClean t (record { enums = es; messages = ms; methods = ks; open_part = part }) bytes (Value (kept_whole z) n)
     → Fits (fs ++ value z n ∷ []) (record { enums = es; messages = ms; methods = ks; open_part = names_with_value part (kept_whole z) n })
 value_step t fs es ms ks (values vs) bytes z n s h =
-    let w = kept_within z (not_no (is_within (kept_whole z)) h.number) in
+    let w = kept_within z (not_no (is_enum_number (kept_whole z)) h.number) in
     let p = s.part in
     let more : fs ++ value z n ∷ [] ≡ p.front ++ enum p.name ∷ map value_form (vs ++ (z, n) ∷ []) =
-    ap (λ (xs : List Form). xs ++ value z n ∷ []) p.is
+    ap (λ (xs : List TableLineForm). xs ++ value z n ∷ []) p.is
     ∙ append_assoc p.front (enum p.name ∷ map value_form vs) (value z n ∷ [])
-    ∙ ap (λ (xs : List Form). p.front ++ enum p.name ∷ xs) (sym (map_push value_form vs (z, n))) in
-    subst (λ (x : Whole). Fits (fs ++ value z n ∷ []) (record { enums = es; messages = ms; methods = ks; open_part = names_with_value (values vs) x n })) (sym w.0) (record {
+    ∙ ap (λ (xs : List TableLineForm). p.front ++ enum p.name ∷ xs) (sym (map_push value_form vs (z, n))) in
+    subst (λ (x : EnumNumber). Fits (fs ++ value z n ∷ []) (record { enums = es; messages = ms; methods = ks; open_part = names_with_value (values vs) x n })) (sym w.0) (record {
       enums = names_stay enum_name fs es (value z n) refl s.enums;
       messages = names_stay message_name fs ms (value z n) refl s.messages;
       methods = names_stay method_key_of fs ks (value z n) refl s.methods;
@@ -133,7 +133,7 @@ value_step t fs es ms ks (values vs) bytes z n s h =
 value_step t fs es ms ks (fields ns) bytes z n s h = let clash = h.syntax in absurd cc
 value_step t fs es ms ks nothing bytes z n s h = let clash = h.syntax in absurd cc
 
-field_step : (t : Types) (fs : List Form) (es ms ks : List (List ℕ)) (part : OpenNames) (bytes : ℕ) (p : Parts)
+field_step : (t : TypeNames) (fs : List TableLineForm) (es ms ks : List (List ℕ)) (part : OpenNames) (bytes : ℕ) (p : Parts)
     → Fits fs (record { enums = es; messages = ms; methods = ks; open_part = part })
     → IsClean t (record { enums = es; messages = ms; methods = ks; open_part = part }) bytes (kept (field_form p))
     → Fits (fs ++ field_form p ∷ []) (record { enums = es; messages = ms; methods = ks; open_part = names_with_field part (in_32_bits p.number) p.name })
@@ -142,9 +142,9 @@ field_step t fs es ms ks (fields ns) bytes p s h =
       | inl small ↦
           let q = s.part in
           let more : fs ++ field_form p ∷ [] ≡ q.front ++ message q.name ∷ map field_form (q.parts ++ p ∷ []) =
-          ap (λ (xs : List Form). xs ++ field_form p ∷ []) q.is
+          ap (λ (xs : List TableLineForm). xs ++ field_form p ∷ []) q.is
           ∙ append_assoc q.front (message q.name ∷ map field_form q.parts) (field_form p ∷ [])
-          ∙ ap (λ (xs : List Form). q.front ++ message q.name ∷ xs) (sym (map_push field_form q.parts p)) in
+          ∙ ap (λ (xs : List TableLineForm). q.front ++ message q.name ∷ xs) (sym (map_push field_form q.parts p)) in
           subst (λ (o : Option ℕ). Fits (fs ++ field_form p ∷ []) (record {
             enums = es;
             messages = ms;
@@ -172,9 +172,9 @@ field_step t fs es ms ks (fields ns) bytes p s h =
 field_step t fs es ms ks (values vs) bytes p s h = let clash = right_no (clashes p.label p.kind) true h.syntax in absurd cc
 field_step t fs es ms ks nothing bytes p s h = let clash = right_no (clashes p.label p.kind) true h.syntax in absurd cc
 
-pub fits_step : (t : Types) (fs : List Form) (b : Before) (bytes : ℕ) (f : Form) → IsFormed f → Fits fs b → IsClean t b bytes (kept f) → Fits (fs ++ f ∷ []) (after b (kept f))
+pub fits_step : (t : TypeNames) (fs : List TableLineForm) (b : NamesBefore) (bytes : ℕ) (f : TableLineForm) → IsFormed f → Fits fs b → IsClean t b bytes (kept f) → Fits (fs ++ f ∷ []) (names_after b (kept f))
 fits_step t fs b bytes (enum n) ok s h =
-    let front = left_no ((lacks_value b.open_part || not (is_empty b.messages)) || not (is_empty b.methods)) (falls n b.enums) h.syntax in
+    let front = left_no ((lacks_value b.open_part || not (is_empty b.messages)) || not (is_empty b.methods)) (is_below_last n b.enums) h.syntax in
     let parts = left_no (lacks_value b.open_part || not (is_empty b.messages)) (not (is_empty b.methods)) front in
     record {
       enums = names_push enum_name fs b.enums (enum n) s.enums;
@@ -190,7 +190,7 @@ fits_step t fs b bytes (enum n) ok s h =
     }
 fits_step t fs b bytes (value z n) ok s h = value_step t fs b.enums b.messages b.methods b.open_part bytes z n s h
 fits_step t fs b bytes (message n) ok s h =
-    let front = left_no (lacks_value b.open_part || not (is_empty b.methods)) (falls n b.messages) h.syntax in
+    let front = left_no (lacks_value b.open_part || not (is_empty b.methods)) (is_below_last n b.messages) h.syntax in
     record {
       enums = names_stay enum_name fs b.enums (message n) refl s.enums;
       messages = names_push message_name fs b.messages (message n) s.messages;
@@ -218,9 +218,9 @@ fits_step t fs b bytes (method i s n x y) ok fits h =
 
 -- ---- where a line is among them
 
-goes_inside : (xs : List Form) (h : Form) (inner : List Form) → goes_on h ≡ false → All (λ g. goes_on g ≡ true) (xs ++ h ∷ inner) → ⊥
+goes_inside : (xs : List TableLineForm) (h : TableLineForm) (inner : List TableLineForm) → continues h ≡ false → All (λ g. continues g ≡ true) (xs ++ h ∷ inner) → ⊥
 goes_inside xs h inner ends all =
-    let goes : goes_on h ≡ true = All-contains (λ g. goes_on g ≡ true) (xs ++ h ∷ inner) h all (Contains-append_right xs (h ∷ inner) h (contains_first h inner)) in
+    let goes : continues h ≡ true = All-contains (λ g. continues g ≡ true) (xs ++ h ∷ inner) h all (Contains-append_right xs (h ∷ inner) h (contains_first h inner)) in
     absurd cc
 
 pub first_same : {X : Type 0} {x y : X} {xs ys : List X} → x ∷ xs ≡ y ∷ ys → x ≡ y
@@ -230,25 +230,25 @@ pub rest_same : {X : Type 0} {x y : X} {xs ys : List X} → x ∷ xs ≡ y ∷ y
 rest_same e = cc
 
 -- what is above the last line that starts a part is that line, or in the part
-pub around : (xs ys : List Form) (h f : Form) (inner between : List Form) → xs ++ h ∷ inner ≡ ys ++ f ∷ between
-    → goes_on h ≡ false → All (λ g. goes_on g ≡ true) between → (h ≡ f) ⊎ Contains inner f
+pub around : (xs ys : List TableLineForm) (h f : TableLineForm) (inner between : List TableLineForm) → xs ++ h ∷ inner ≡ ys ++ f ∷ between
+    → continues h ≡ false → All (λ g. continues g ≡ true) between → (h ≡ f) ⊎ Contains inner f
 around [] [] h f inner between e ends all = inl (first_same e)
 around [] (y ∷ ys) h f inner between e ends all =
-    inr (subst (λ (zs : List Form). Contains zs f) (sym (rest_same e))
+    inr (subst (λ (zs : List TableLineForm). Contains zs f) (sym (rest_same e))
     (Contains-append_right ys (f ∷ between) f (contains_first f between)))
-around (x ∷ xs) [] h f inner between e ends all = absurd (goes_inside xs h inner ends (subst (All (λ g. goes_on g ≡ true)) (sym (rest_same e)) all))
+around (x ∷ xs) [] h f inner between e ends all = absurd (goes_inside xs h inner ends (subst (All (λ g. continues g ≡ true)) (sym (rest_same e)) all))
 around (x ∷ xs) (y ∷ ys) h f inner between e ends all = around xs ys h f inner between (rest_same e) ends all
 
 -- and no more lines continue the part than it has
-pub no_longer : (xs ys : List Form) (h : Form) (inner tail : List Form) → xs ++ h ∷ inner ≡ ys ++ tail
-    → goes_on h ≡ false → All (λ g. goes_on g ≡ true) tail → length tail ≤ length inner
-no_longer [] [] h inner tail e ends all = absurd (goes_inside [] h inner ends (subst (All (λ g. goes_on g ≡ true)) (sym e) all))
+pub no_longer : (xs ys : List TableLineForm) (h : TableLineForm) (inner tail : List TableLineForm) → xs ++ h ∷ inner ≡ ys ++ tail
+    → continues h ≡ false → All (λ g. continues g ≡ true) tail → length tail ≤ length inner
+no_longer [] [] h inner tail e ends all = absurd (goes_inside [] h inner ends (subst (All (λ g. continues g ≡ true)) (sym e) all))
 no_longer [] (y ∷ ys) h inner tail e ends all = long ys tail inner (rest_same e)
   where
-    long : (ys tail inner : List Form) → inner ≡ ys ++ tail → length tail ≤ length inner
+    long : (ys tail inner : List TableLineForm) → inner ≡ ys ++ tail → length tail ≤ length inner
     long [] tail inner e = omega (arith, ap length e)
     long (y ∷ ys) tail inner e = let less = long ys tail (ys ++ tail) refl in omega (arith, ap length e)
-no_longer (x ∷ xs) [] h inner tail e ends all = absurd (goes_inside (x ∷ xs) h inner ends (subst (All (λ g. goes_on g ≡ true)) (sym e) all))
+no_longer (x ∷ xs) [] h inner tail e ends all = absurd (goes_inside (x ∷ xs) h inner ends (subst (All (λ g. continues g ≡ true)) (sym e) all))
 no_longer (x ∷ xs) (y ∷ ys) h inner tail e ends all = no_longer xs ys h inner tail (rest_same e) ends all
 
 -- a list is empty, or it ends
@@ -302,10 +302,10 @@ in_names h (y ∷ ys) x n c e = elim (contains_cases y x ys c) [
     more ns n (Some m) c = contains_later m n ns c
 
 -- how many there are of a form
-pub counted : (p : Form → Bool) (h : Form → Option (List ℕ)) (fs : List Form)
-    → ((f : Form) → length (option_to_list (h f)) ≡ count_by p (f ∷ [])) → length (filter_map h fs) ≡ count_by p fs
+pub counted : (p : TableLineForm → Bool) (h : TableLineForm → Option (List ℕ)) (fs : List TableLineForm)
+    → ((f : TableLineForm) → length (option_to_list (h f)) ≡ count_by p (f ∷ [])) → length (filter_map h fs) ≡ count_by p fs
 counted p h [] each = refl
-counted p h (f ∷ fs) each = omega (arith, first (h f) (filter_map h fs), each f, counted p h fs each, sum_by-append (λ (g : Form). cond (p g) 1 0) (f ∷ []) fs)
+counted p h (f ∷ fs) each = omega (arith, first (h f) (filter_map h fs), each f, counted p h fs each, sum_by-append (λ (g : TableLineForm). cond (p g) 1 0) (f ∷ []) fs)
   where
     first : (o : Option (List ℕ)) (ns : List (List ℕ)) → length (cons_option o ns) ≡ length (option_to_list o) + length ns
     first None ns = omega arith

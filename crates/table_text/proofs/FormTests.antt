@@ -10,13 +10,13 @@ use Rattle.std.proofs.lemmas.Bool.{lt-ltb, le-leb, leb-true, ltb-true, eq-eqb, e
 use Rattle.std.proofs.lemmas.List.{length-map}
 use Rattle.std.proofs.lemmas.List.Elements.{All-contains, filter_map-append}
 use Rattle.mrpc_table.specs.Valid.{IsBelow, IsValueBelow}
-use Rattle.table_text.specs.Faults.{IsLast, IsAbove, AreInner, LacksValue, LacksZero}
-use Rattle.table_text.specs.Forms.{Form, enum, value, message, field, method, is_method, is_of_enum, is_of_message}
-use Rattle.table_text.specs.Judged.{OpenNames, nothing, values, fields, is_below, falls, last_of, is_value_below}
-use Rattle.table_text.specs.Judged.{value_falls, is_field_below, field_falls, is_index, repeats_number}
-use Rattle.table_text.specs.Judged.{is_value_before, is_field_before, lacks_value, lacks_zero, open_count}
+use Rattle.table_text.specs.Faults.{IsPreviousLine, IsEarlierInPart, AreInner, HasNoValue, HasNoZero}
+use Rattle.table_text.specs.Forms.{TableLineForm, enum, value, message, field, method, is_method_line, is_enum_or_value, is_message_or_field}
+use Rattle.table_text.specs.LineTests.{OpenNames, nothing, values, fields, is_below, is_below_last, last_of, is_value_below}
+use Rattle.table_text.specs.LineTests.{is_value_out_of_order, is_field_below, is_field_out_of_order, is_index, repeats_number}
+use Rattle.table_text.specs.LineTests.{is_value_before, is_field_before, lacks_value, lacks_zero, open_count}
 use Rattle.table_text.specs.Lines.{in_32_bits}
-use Rattle.table_text.specs.declared.line.Whole.{Whole}
+use Rattle.table_text.specs.declared.line.EnumNumber.{EnumNumber}
 use Rattle.table_text.proofs.FormLines.{kept_whole, in_32}
 use Rattle.table_text.proofs.FormParts.{value_form, Parts, field_form, field_key, InEnum, InMessage, PartIs, IsOrdered, enum_name, message_name, no_longer, in_map, mapped_in}
 use Rattle.table_text.proofs.FormPlaces.{is_not, below_said, said_below, falls_at, none_last, any_in, in_any}
@@ -29,30 +29,30 @@ use Rattle.table_text.proofs.OrderLemmas.{contains_among, among_contains, int_eq
 -- ---- what may be last
 
 -- directly after a line of an enum, the open part is one
-pub last_of_enum : (fs : List Form) (part : OpenNames) → PartIs fs part → (f : Form) → IsLast fs f → is_of_enum f ≡ true → (vs : List (ℤ × List ℕ)) × (part ≡ values vs)
+pub last_of_enum : (fs : List TableLineForm) (part : OpenNames) → PartIs fs part → (f : TableLineForm) → IsPreviousLine fs f → is_enum_or_value f ≡ true → (vs : List (ℤ × List ℕ)) × (part ≡ values vs)
 last_of_enum fs (values vs) p f last is = (vs, refl)
 last_of_enum fs (fields ns) p f last is = elim (of_message fs ns p f (is_last_above fs f last)) [
-  | the_message same ↦ let other : is_of_enum (message p.name) ≡ true = ap is_of_enum same ∙ is in absurd cc
-  | a_field q c same ↦ let other : is_of_enum (field_form q) ≡ true = ap is_of_enum same ∙ is in absurd cc
+  | the_message same ↦ let other : is_enum_or_value (message p.name) ≡ true = ap is_enum_or_value same ∙ is in absurd cc
+  | a_field q c same ↦ let other : is_enum_or_value (field_form q) ≡ true = ap is_enum_or_value same ∙ is in absurd cc
 ]
 last_of_enum fs nothing p f last is = absurd (no_enum f is (of_nothing fs p f (is_last_above fs f last)))
   where
-    no_enum : (f : Form) → is_of_enum f ≡ true → is_method f ≡ true → ⊥
+    no_enum : (f : TableLineForm) → is_enum_or_value f ≡ true → is_method_line f ≡ true → ⊥
     no_enum (enum n) e m = absurd cc
     no_enum (value z n) e m = absurd cc
     no_enum (message n) e m = absurd cc
     no_enum (field n l k x) e m = absurd cc
     no_enum (method i s n x y) e m = absurd cc
 
-pub last_of_message : (fs : List Form) (part : OpenNames) → PartIs fs part → (f : Form) → IsLast fs f → is_of_message f ≡ true → (ns : List (ℕ × List ℕ)) × (part ≡ fields ns)
+pub last_of_message : (fs : List TableLineForm) (part : OpenNames) → PartIs fs part → (f : TableLineForm) → IsPreviousLine fs f → is_message_or_field f ≡ true → (ns : List (ℕ × List ℕ)) × (part ≡ fields ns)
 last_of_message fs (fields ns) p f last is = (ns, refl)
 last_of_message fs (values vs) p f last is = elim (of_enum fs vs p f (is_last_above fs f last)) [
-  | the_enum same ↦ let other : is_of_message (enum p.name) ≡ true = ap is_of_message same ∙ is in absurd cc
-  | a_value v c same ↦ let other : is_of_message (value_form v) ≡ true = ap is_of_message same ∙ is in absurd cc
+  | the_enum same ↦ let other : is_message_or_field (enum p.name) ≡ true = ap is_message_or_field same ∙ is in absurd cc
+  | a_value v c same ↦ let other : is_message_or_field (value_form v) ≡ true = ap is_message_or_field same ∙ is in absurd cc
 ]
 last_of_message fs nothing p f last is = absurd (no_message f is (of_nothing fs p f (is_last_above fs f last)))
   where
-    no_message : (f : Form) → is_of_message f ≡ true → is_method f ≡ true → ⊥
+    no_message : (f : TableLineForm) → is_message_or_field f ≡ true → is_method_line f ≡ true → ⊥
     no_message (enum n) e m = absurd cc
     no_message (value z n) e m = absurd cc
     no_message (message n) e m = absurd cc
@@ -60,13 +60,13 @@ last_of_message fs nothing p f last is = absurd (no_message f is (of_nothing fs 
     no_message (method i s n x y) e m = absurd cc
 
 -- an enum's last line, if an enum is open
-pub enum_last : (fs : List Form) (vs : List (ℤ × List ℕ)) → InEnum fs vs → (f : Form) × IsLast fs f × (is_of_enum f ≡ true)
+pub enum_last : (fs : List TableLineForm) (vs : List (ℤ × List ℕ)) → InEnum fs vs → (f : TableLineForm) × IsPreviousLine fs f × (is_enum_or_value f ≡ true)
 enum_last fs vs p = elim (enum_ends fs vs p) [
   | at_enum e last ↦ (enum p.name, last, refl)
   | at_value v e c last ↦ (value_form v, last, refl)
 ]
 
-pub message_last : (fs : List Form) (ns : List (ℕ × List ℕ)) → InMessage fs ns → (f : Form) × IsLast fs f × (is_of_message f ≡ true)
+pub message_last : (fs : List TableLineForm) (ns : List (ℕ × List ℕ)) → InMessage fs ns → (f : TableLineForm) × IsPreviousLine fs f × (is_message_or_field f ≡ true)
 message_last fs ns p = elim (message_ends fs ns p) [
   | at_message e last ↦ (message p.name, last, refl)
   | at_field q e small last ↦ (field_form q, last, refl)
@@ -74,7 +74,7 @@ message_last fs ns p = elim (message_ends fs ns p) [
 
 -- ---- an enum without a value
 
-pub lacks_value_said : (fs : List Form) (part : OpenNames) → PartIs fs part → lacks_value part ≡ true → LacksValue fs
+pub lacks_value_said : (fs : List TableLineForm) (part : OpenNames) → PartIs fs part → lacks_value part ≡ true → HasNoValue fs
 lacks_value_said fs (values vs) p e = elim (enum_ends fs vs p) [
   | at_enum none last ↦ (p.name, last)
   | at_value v at c last ↦ let none : length vs ≡ 0 = eqb-true (length vs) 0 e in absurd (omega (arith, c.1, none))
@@ -88,7 +88,7 @@ same_enum n m e = cc
 same_message : (n m : List ℕ) → message n ≡ message m → n ≡ m
 same_message n m e = cc
 
-pub said_lacks_value : (fs : List Form) (part : OpenNames) → PartIs fs part → LacksValue fs → lacks_value part ≡ true
+pub said_lacks_value : (fs : List TableLineForm) (part : OpenNames) → PartIs fs part → HasNoValue fs → lacks_value part ≡ true
 said_lacks_value fs part p h = go part p (last_of_enum fs part p (enum h.0) h.1 refl)
   where
     go : (part : OpenNames) → PartIs fs part → (vs : List (ℤ × List ℕ)) × (part ≡ values vs) → lacks_value part ≡ true
@@ -104,7 +104,7 @@ said_lacks_value fs part p h = go part p (last_of_enum fs part p (enum h.0) h.1 
 is_zero_value : (v : ℤ × List ℕ) (n : List ℕ) → value_form v ≡ value (pos 0) n → v.0 ≡ pos 0
 is_zero_value v n e = cc
 
-pub lacks_zero_said : (fs : List Form) (part : OpenNames) → PartIs fs part → lacks_zero part ≡ true → LacksZero fs
+pub lacks_zero_said : (fs : List TableLineForm) (part : OpenNames) → PartIs fs part → lacks_zero part ≡ true → HasNoZero fs
 lacks_zero_said fs (values vs) p e =
     let last = enum_last fs vs p in
     let none : list_any (λ v. int_eq v.0 (pos 0)) vs ≡ false = is_not (list_any (λ v. int_eq v.0 (pos 0)) vs) e in
@@ -122,7 +122,7 @@ lacks_zero_said fs (values vs) p e =
 lacks_zero_said fs (fields ns) p e = absurd cc
 lacks_zero_said fs nothing p e = absurd cc
 
-pub said_lacks_zero : (fs : List Form) (part : OpenNames) → PartIs fs part → LacksZero fs → lacks_zero part ≡ true
+pub said_lacks_zero : (fs : List TableLineForm) (part : OpenNames) → PartIs fs part → HasNoZero fs → lacks_zero part ≡ true
 said_lacks_zero fs part p h = go part p (last_of_enum fs part p h.last h.is_last h.of_enum)
   where
     none : (vs : List (ℤ × List ℕ)) → InEnum fs vs → (b : Bool) → list_any (λ v. int_eq v.0 (pos 0)) vs ≡ b → not b ≡ true
@@ -130,7 +130,7 @@ said_lacks_zero fs part p h = go part p (last_of_enum fs part p h.last h.is_last
     none vs p true e =
         let v = any_in (λ (v : ℤ × List ℕ). int_eq v.0 (pos 0)) vs e in
         let zero : v.0.0 ≡ pos 0 = int_equal v.0.0 (pos 0) v.2 in
-        absurd (h.no_zero v.0.1 (subst (λ (z : ℤ). IsAbove fs (value z v.0.1)) zero (value_above fs vs p v.0 v.1)))
+        absurd (h.no_zero v.0.1 (subst (λ (z : ℤ). IsEarlierInPart fs (value z v.0.1)) zero (value_above fs vs p v.0 v.1)))
 
     go : (part : OpenNames) → PartIs fs part → (vs : List (ℤ × List ℕ)) × (part ≡ values vs) → lacks_zero part ≡ true
     go (values vs) p known = none vs p (list_any (λ v. int_eq v.0 (pos 0)) vs) refl
@@ -139,15 +139,15 @@ said_lacks_zero fs part p h = go part p (last_of_enum fs part p h.last h.is_last
 
 -- ---- a value out of order
 
-pub data ValueFalls (fs : List Form) (z : ℤ) (n : List ℕ) : Type 0 where
-  outside : ((f : Form) → IsLast fs f → is_of_enum f ≡ true → ⊥) → ValueFalls fs z n
-  below : (v : ℤ × List ℕ) → IsLast fs (value_form v) → IsValueBelow (z, n) v → ValueFalls fs z n
+pub data ValueFalls (fs : List TableLineForm) (z : ℤ) (n : List ℕ) : Type 0 where
+  outside : ((f : TableLineForm) → IsPreviousLine fs f → is_enum_or_value f ≡ true → ⊥) → ValueFalls fs z n
+  below : (v : ℤ × List ℕ) → IsPreviousLine fs (value_form v) → IsValueBelow (z, n) v → ValueFalls fs z n
 
-not_values : (fs : List Form) (part : OpenNames) → PartIs fs part → ((vs : List (ℤ × List ℕ)) → part ≡ values vs → ⊥)
-    → (f : Form) → IsLast fs f → is_of_enum f ≡ true → ⊥
+not_values : (fs : List TableLineForm) (part : OpenNames) → PartIs fs part → ((vs : List (ℤ × List ℕ)) → part ≡ values vs → ⊥)
+    → (f : TableLineForm) → IsPreviousLine fs f → is_enum_or_value f ≡ true → ⊥
 not_values fs part p other f last is = let known = last_of_enum fs part p f last is in other known.0 known.1
 
-pub value_falls_said : (fs : List Form) (part : OpenNames) (z : ℤ) (n : List ℕ) → PartIs fs part → value_falls part (kept_whole z) n ≡ true → ValueFalls fs z n
+pub value_falls_said : (fs : List TableLineForm) (part : OpenNames) (z : ℤ) (n : List ℕ) → PartIs fs part → is_value_out_of_order part (kept_whole z) n ≡ true → ValueFalls fs z n
 value_falls_said fs (values vs) z n p e = elim (enum_ends fs vs p) [
   | at_enum none last ↦
       let given : false ≡ true = ap (λ (xs : List (ℤ × List ℕ)). option_map_or (is_value_below (kept_whole z) n) (last_of xs) false) (sym none) ∙ e in absurd cc
@@ -158,13 +158,13 @@ value_falls_said fs (values vs) z n p e = elim (enum_ends fs vs p) [
 value_falls_said fs (fields ns) z n p e = outside (not_values fs (fields ns) p (λ vs same. absurd cc))
 value_falls_said fs nothing z n p e = outside (not_values fs nothing p (λ vs same. absurd cc))
 
-pub outside_falls : (fs : List Form) (part : OpenNames) (w : Whole) (n : List ℕ) → PartIs fs part
-    → ((f : Form) → IsLast fs f → is_of_enum f ≡ true → ⊥) → value_falls part w n ≡ true
+pub outside_falls : (fs : List TableLineForm) (part : OpenNames) (w : EnumNumber) (n : List ℕ) → PartIs fs part
+    → ((f : TableLineForm) → IsPreviousLine fs f → is_enum_or_value f ≡ true → ⊥) → is_value_out_of_order part w n ≡ true
 outside_falls fs (values vs) w n p no_line = let last = enum_last fs vs p in absurd (no_line last.0 last.1 last.2)
 outside_falls fs (fields ns) w n p no_line = refl
 outside_falls fs nothing w n p no_line = refl
 
-value_in : Form → ℤ × List ℕ
+value_in : TableLineForm → ℤ × List ℕ
 value_in (value z n) = (z, n)
 value_in _ = (pos 0, [])
 
@@ -172,8 +172,8 @@ same_value : (u v : ℤ × List ℕ) → value_form u ≡ value_form v → u ≡
 unfolding value_in
 same_value u v e = ap value_in e
 
-pub below_falls : (fs : List Form) (part : OpenNames) (z : ℤ) (n : List ℕ) (v : ℤ × List ℕ) → PartIs fs part
-    → IsLast fs (value_form v) → IsValueBelow (z, n) v → value_falls part (kept_whole z) n ≡ true
+pub below_falls : (fs : List TableLineForm) (part : OpenNames) (z : ℤ) (n : List ℕ) (v : ℤ × List ℕ) → PartIs fs part
+    → IsPreviousLine fs (value_form v) → IsValueBelow (z, n) v → is_value_out_of_order part (kept_whole z) n ≡ true
 below_falls fs (values vs) z n v p last is = elim (enum_ends fs vs p) [
   | at_enum none here ↦ let same = same_last fs (enum p.name) (value_form v) here last in absurd cc
   | at_value u at c here ↦
@@ -188,12 +188,12 @@ below_falls fs nothing z n v p last is = refl
 
 -- ---- a field out of order
 
-pub data FieldFalls (fs : List Form) (n : ℕ) : Type 0 where
-  outside_message : ((f : Form) → IsLast fs f → is_of_message f ≡ true → ⊥) → FieldFalls fs n
-  below_field : (q : Parts) → IsLast fs (field_form q) → n < q.number → FieldFalls fs n
+pub data FieldFalls (fs : List TableLineForm) (n : ℕ) : Type 0 where
+  outside_message : ((f : TableLineForm) → IsPreviousLine fs f → is_message_or_field f ≡ true → ⊥) → FieldFalls fs n
+  below_field : (q : Parts) → IsPreviousLine fs (field_form q) → n < q.number → FieldFalls fs n
 
-not_fields : (fs : List Form) (part : OpenNames) → PartIs fs part → ((ns : List (ℕ × List ℕ)) → part ≡ fields ns → ⊥)
-    → (f : Form) → IsLast fs f → is_of_message f ≡ true → ⊥
+not_fields : (fs : List TableLineForm) (part : OpenNames) → PartIs fs part → ((ns : List (ℕ × List ℕ)) → part ≡ fields ns → ⊥)
+    → (f : TableLineForm) → IsPreviousLine fs f → is_message_or_field f ≡ true → ⊥
 not_fields fs part p other f last is = let known = last_of_message fs part p f last is in other known.0 known.1
 
 below_number : (n m : ℕ) (name : List ℕ) → is_field_below (in_32_bits n) (m, name) ≡ true → n < m
@@ -208,7 +208,7 @@ number_below n m name small less = elim (in_32 n) [
   | inr large ↦ absurd (omega (arith, small, less, large.1))
 ]
 
-pub field_falls_said : (fs : List Form) (part : OpenNames) (n : ℕ) → PartIs fs part → field_falls part (in_32_bits n) ≡ true → FieldFalls fs n
+pub field_falls_said : (fs : List TableLineForm) (part : OpenNames) (n : ℕ) → PartIs fs part → is_field_out_of_order part (in_32_bits n) ≡ true → FieldFalls fs n
 field_falls_said fs (fields ns) n p e = elim (message_ends fs ns p) [
   | at_message none last ↦
       let no_keys : ns ≡ [] = sym p.keys ∙ ap (map field_key) none in
@@ -220,8 +220,8 @@ field_falls_said fs (fields ns) n p e = elim (message_ends fs ns p) [
 field_falls_said fs (values vs) n p e = outside_message (not_fields fs (values vs) p (λ ns same. absurd cc))
 field_falls_said fs nothing n p e = outside_message (not_fields fs nothing p (λ ns same. absurd cc))
 
-pub outside_field_falls : (fs : List Form) (part : OpenNames) (o : Option ℕ) → PartIs fs part
-    → ((f : Form) → IsLast fs f → is_of_message f ≡ true → ⊥) → field_falls part o ≡ true
+pub outside_field_falls : (fs : List TableLineForm) (part : OpenNames) (o : Option ℕ) → PartIs fs part
+    → ((f : TableLineForm) → IsPreviousLine fs f → is_message_or_field f ≡ true → ⊥) → is_field_out_of_order part o ≡ true
 outside_field_falls fs (fields ns) o p no_line = let last = message_last fs ns p in absurd (no_line last.0 last.1 last.2)
 outside_field_falls fs (values vs) o p no_line = refl
 outside_field_falls fs nothing o p no_line = refl
@@ -229,7 +229,7 @@ outside_field_falls fs nothing o p no_line = refl
 same_number : (q r : Parts) → field_form q ≡ field_form r → q.number ≡ r.number
 same_number q r e = cc
 
-pub below_field_falls : (fs : List Form) (part : OpenNames) (n : ℕ) (r : Parts) → PartIs fs part → IsLast fs (field_form r) → n < r.number → field_falls part (in_32_bits n) ≡ true
+pub below_field_falls : (fs : List TableLineForm) (part : OpenNames) (n : ℕ) (r : Parts) → PartIs fs part → IsPreviousLine fs (field_form r) → n < r.number → is_field_out_of_order part (in_32_bits n) ≡ true
 below_field_falls fs (fields ns) n r p last less = elim (message_ends fs ns p) [
   | at_message none here ↦ let same = same_last fs (message p.name) (field_form r) here last in absurd cc
   | at_field q at small here ↦
@@ -241,15 +241,15 @@ below_field_falls fs nothing n r p last less = refl
 
 -- ---- names and numbers that occur twice
 
-pub value_before_said : (fs : List Form) (part : OpenNames) (n : List ℕ) → PartIs fs part → is_value_before part n ≡ true → (z : ℤ) × IsAbove fs (value z n)
+pub value_before_said : (fs : List TableLineForm) (part : OpenNames) (n : List ℕ) → PartIs fs part → is_value_before part n ≡ true → (z : ℤ) × IsEarlierInPart fs (value z n)
 value_before_said fs (values vs) n p e =
     let v = mapped_in (λ (v : ℤ × List ℕ). v.1) vs n (among_contains n (map (λ v. v.1) vs) e) in
-    (v.0.0, subst (λ (m : List ℕ). IsAbove fs (value v.0.0 m)) v.2 (value_above fs vs p v.0 v.1))
+    (v.0.0, subst (λ (m : List ℕ). IsEarlierInPart fs (value v.0.0 m)) v.2 (value_above fs vs p v.0 v.1))
 value_before_said fs (fields ns) n p e = absurd cc
 value_before_said fs nothing n p e = absurd cc
 
-pub said_value_before : (fs : List Form) (part : OpenNames) (w : Whole) (z : ℤ) (n : List ℕ) → PartIs fs part
-    → IsAbove fs (value z n) → (value_falls part w n ≡ true) ⊎ (is_value_before part n ≡ true)
+pub said_value_before : (fs : List TableLineForm) (part : OpenNames) (w : EnumNumber) (z : ℤ) (n : List ℕ) → PartIs fs part
+    → IsEarlierInPart fs (value z n) → (is_value_out_of_order part w n ≡ true) ⊎ (is_value_before part n ≡ true)
 said_value_before fs (values vs) w z n p above = elim (of_enum fs vs p (value z n) above) [
   | the_enum same ↦ absurd cc
   | a_value v c same ↦
@@ -259,7 +259,7 @@ said_value_before fs (values vs) w z n p above = elim (of_enum fs vs p (value z 
 said_value_before fs (fields ns) w z n p above = inl refl
 said_value_before fs nothing w z n p above = inl refl
 
-pub field_before_said : (fs : List Form) (part : OpenNames) (n : List ℕ) → PartIs fs part → is_field_before part n ≡ true → (q : Parts) × (q.name ≡ n) × IsAbove fs (field_form q)
+pub field_before_said : (fs : List TableLineForm) (part : OpenNames) (n : List ℕ) → PartIs fs part → is_field_before part n ≡ true → (q : Parts) × (q.name ≡ n) × IsEarlierInPart fs (field_form q)
 field_before_said fs (fields ns) n p e =
     let key = mapped_in (λ (f : ℕ × List ℕ). f.1) ns n (among_contains n (map (λ f. f.1) ns) e) in
     let q = mapped_in field_key p.parts key.0 (subst (λ (xs : List (ℕ × List ℕ)). Contains xs key.0) (sym p.keys) key.1) in
@@ -270,8 +270,8 @@ field_before_said fs nothing n p e = absurd cc
 same_field_name : (q r : Parts) → field_form q ≡ field_form r → q.name ≡ r.name
 same_field_name q r e = cc
 
-pub said_field_before : (fs : List Form) (part : OpenNames) (o : Option ℕ) (r : Parts) → PartIs fs part
-    → IsAbove fs (field_form r) → (field_falls part o ≡ true) ⊎ (is_field_before part r.name ≡ true)
+pub said_field_before : (fs : List TableLineForm) (part : OpenNames) (o : Option ℕ) (r : Parts) → PartIs fs part
+    → IsEarlierInPart fs (field_form r) → (is_field_out_of_order part o ≡ true) ⊎ (is_field_before part r.name ≡ true)
 said_field_before fs (fields ns) o r p above = elim (of_message fs ns p (field_form r) above) [
   | the_message same ↦ absurd cc
   | a_field q c same ↦
@@ -282,7 +282,7 @@ said_field_before fs (fields ns) o r p above = elim (of_message fs ns p (field_f
 said_field_before fs (values vs) o r p above = inl refl
 said_field_before fs nothing o r p above = inl refl
 
-pub repeats_said : (fs : List Form) (part : OpenNames) (n : ℕ) → PartIs fs part → repeats_number part (in_32_bits n) ≡ true → (q : Parts) × (q.number ≡ n) × IsLast fs (field_form q)
+pub repeats_said : (fs : List TableLineForm) (part : OpenNames) (n : ℕ) → PartIs fs part → repeats_number part (in_32_bits n) ≡ true → (q : Parts) × (q.number ≡ n) × IsPreviousLine fs (field_form q)
 repeats_said fs (fields ns) n p e = elim (message_ends fs ns p) [
   | at_message none last ↦
       let no_keys : ns ≡ [] = sym p.keys ∙ ap (map field_key) none in
@@ -301,7 +301,7 @@ repeats_said fs (fields ns) n p e = elim (message_ends fs ns p) [
 repeats_said fs (values vs) n p e = absurd cc
 repeats_said fs nothing n p e = absurd cc
 
-pub said_repeats : (fs : List Form) (part : OpenNames) (r : Parts) → PartIs fs part → IsLast fs (field_form r) → repeats_number part (in_32_bits r.number) ≡ true
+pub said_repeats : (fs : List TableLineForm) (part : OpenNames) (r : Parts) → PartIs fs part → IsPreviousLine fs (field_form r) → repeats_number part (in_32_bits r.number) ≡ true
 said_repeats fs part r p last = go part p (last_of_message fs part p (field_form r) last refl)
   where
     go : (part : OpenNames) → PartIs fs part → (ns : List (ℕ × List ℕ)) × (part ≡ fields ns) → repeats_number part (in_32_bits r.number) ≡ true
@@ -321,7 +321,7 @@ said_repeats fs part r p last = go part p (last_of_message fs part p (field_form
 
 -- ---- how many values or fields there are
 
-pub many_said : (fs : List Form) (part : OpenNames) (most : ℕ) → 0 < most → PartIs fs part → nat_le most (open_count part) ≡ true → AreInner fs most
+pub many_said : (fs : List TableLineForm) (part : OpenNames) (most : ℕ) → 0 < most → PartIs fs part → nat_le most (open_count part) ≡ true → AreInner fs most
 many_said fs (values vs) most some p e = record {
   front = p.front ++ enum p.name ∷ [];
   inner = map value_form vs;
@@ -338,7 +338,7 @@ many_said fs (fields ns) most some p e = record {
 }
 many_said fs nothing most some p e = let le : most ≤ 0 = leb-true most 0 e in absurd (omega (arith, some, le))
 
-pub said_many : (fs : List Form) (part : OpenNames) (most : ℕ) → 0 < most → PartIs fs part → AreInner fs most → nat_le most (open_count part) ≡ true
+pub said_many : (fs : List TableLineForm) (part : OpenNames) (most : ℕ) → 0 < most → PartIs fs part → AreInner fs most → nat_le most (open_count part) ≡ true
 said_many fs (values vs) most some p a =
     let few = no_longer p.front a.front (enum p.name) (map value_form vs) a.inner (sym p.is ∙ a.before_is) refl a.each in
     le-leb most (length vs) (omega (arith, few, a.many, length-map vs value_form))
@@ -360,21 +360,21 @@ no_messages : (ps : List Parts) → filter_map message_name (map field_form ps) 
 no_messages [] = refl
 no_messages (p ∷ ps) = no_messages ps
 
-enums_end : (fs : List Form) (vs : List (ℤ × List ℕ)) (p : InEnum fs vs) → filter_map enum_name fs ≡ filter_map enum_name p.front ++ p.name ∷ []
+enums_end : (fs : List TableLineForm) (vs : List (ℤ × List ℕ)) (p : InEnum fs vs) → filter_map enum_name fs ≡ filter_map enum_name p.front ++ p.name ∷ []
 enums_end fs vs p =
     ap (filter_map enum_name) p.is ∙ filter_map-append enum_name p.front (enum p.name ∷ map value_form vs)
     ∙ ap (λ (ns : List (List ℕ)). filter_map enum_name p.front ++ p.name ∷ ns) (no_enums vs)
 
-messages_end : (fs : List Form) (ns : List (ℕ × List ℕ)) (p : InMessage fs ns) → filter_map message_name fs ≡ filter_map message_name p.front ++ p.name ∷ []
+messages_end : (fs : List TableLineForm) (ns : List (ℕ × List ℕ)) (p : InMessage fs ns) → filter_map message_name fs ≡ filter_map message_name p.front ++ p.name ∷ []
 messages_end fs ns p =
     ap (filter_map message_name) p.is ∙ filter_map-append message_name p.front (message p.name ∷ map field_form p.parts)
     ∙ ap (λ (ns : List (List ℕ)). filter_map message_name p.front ++ p.name ∷ ns) (no_messages p.parts)
 
-pub enum_falls_said : (fs : List Form) (es ms ks : List (List ℕ)) (part : OpenNames) (n : List ℕ)
+pub enum_falls_said : (fs : List TableLineForm) (es ms ks : List (List ℕ)) (part : OpenNames) (n : List ℕ)
     → filter_map enum_name fs ≡ es → filter_map message_name fs ≡ ms → IsOrdered part fs ms ks → PartIs fs part
-    → ms ≡ [] → ks ≡ [] → falls n es ≡ true → (other : List ℕ) × IsAbove fs (enum other) × IsBelow n other
+    → ms ≡ [] → ks ≡ [] → is_below_last n es ≡ true → (other : List ℕ) × IsEarlierInPart fs (enum other) × IsBelow n other
 enum_falls_said fs es ms ks (values vs) n enums messages ordered p no_ms no_ks e =
-    let last : falls n es ≡ is_below n p.name = falls_at n es (filter_map enum_name p.front) p.name (sym enums ∙ enums_end fs vs p) in (
+    let last : is_below_last n es ≡ is_below n p.name = falls_at n es (filter_map enum_name p.front) p.name (sym enums ∙ enums_end fs vs p) in (
       p.name,
       record { front = p.front; between = map value_form vs; before_is = p.is; inner = values_go vs },
       below_said n p.name (sym last ∙ e),
@@ -383,23 +383,23 @@ enum_falls_said fs es ms ks (fields ns) n enums messages ordered p no_ms no_ks e
     absurd (none_last (filter_map message_name p.front) p.name (sym no_ms ∙ sym messages ∙ messages_end fs ns p))
 enum_falls_said fs es ms ks nothing n enums messages ordered p no_ms no_ks e =
     let none : es ≡ [] = sym enums ∙ ap (filter_map enum_name) (ordered no_ks) in
-    let given : false ≡ true = ap (falls n) (sym none) ∙ e in absurd cc
+    let given : false ≡ true = ap (is_below_last n) (sym none) ∙ e in absurd cc
 
-pub message_falls_said : (fs : List Form) (ms ks : List (List ℕ)) (part : OpenNames) (n : List ℕ) → filter_map message_name fs ≡ ms → IsOrdered part fs ms ks → PartIs fs part
-    → ks ≡ [] → falls n ms ≡ true → (other : List ℕ) × IsAbove fs (message other) × IsBelow n other
+pub message_falls_said : (fs : List TableLineForm) (ms ks : List (List ℕ)) (part : OpenNames) (n : List ℕ) → filter_map message_name fs ≡ ms → IsOrdered part fs ms ks → PartIs fs part
+    → ks ≡ [] → is_below_last n ms ≡ true → (other : List ℕ) × IsEarlierInPart fs (message other) × IsBelow n other
 message_falls_said fs ms ks (fields ns) n messages ordered p no_ks e =
-    let last : falls n ms ≡ is_below n p.name = falls_at n ms (filter_map message_name p.front) p.name (sym messages ∙ messages_end fs ns p) in (
+    let last : is_below_last n ms ≡ is_below n p.name = falls_at n ms (filter_map message_name p.front) p.name (sym messages ∙ messages_end fs ns p) in (
       p.name,
       record { front = p.front; between = map field_form p.parts; before_is = p.is; inner = fields_go p.parts },
       below_said n p.name (sym last ∙ e),
     )
-message_falls_said fs ms ks (values vs) n messages ordered p no_ks e = let given : false ≡ true = ap (falls n) (sym ordered.0) ∙ e in absurd cc
+message_falls_said fs ms ks (values vs) n messages ordered p no_ks e = let given : false ≡ true = ap (is_below_last n) (sym ordered.0) ∙ e in absurd cc
 message_falls_said fs ms ks nothing n messages ordered p no_ks e =
     let none : ms ≡ [] = sym messages ∙ ap (filter_map message_name) (ordered no_ks) in
-    let given : false ≡ true = ap (falls n) (sym none) ∙ e in absurd cc
+    let given : false ≡ true = ap (is_below_last n) (sym none) ∙ e in absurd cc
 
-pub said_enum_falls : (fs : List Form) (es : List (List ℕ)) (part : OpenNames) (n other : List ℕ)
-    → filter_map enum_name fs ≡ es → PartIs fs part → IsAbove fs (enum other) → IsBelow n other → falls n es ≡ true
+pub said_enum_falls : (fs : List TableLineForm) (es : List (List ℕ)) (part : OpenNames) (n other : List ℕ)
+    → filter_map enum_name fs ≡ es → PartIs fs part → IsEarlierInPart fs (enum other) → IsBelow n other → is_below_last n es ≡ true
 said_enum_falls fs es (values vs) n other enums p above less = elim (of_enum fs vs p (enum other) above) [
   | the_enum same ↦
       let name : p.name ≡ other = same_enum p.name other same in
@@ -407,11 +407,11 @@ said_enum_falls fs es (values vs) n other enums p above less = elim (of_enum fs 
   | a_value v c same ↦ absurd cc
 ]
 said_enum_falls fs es (fields ns) n other enums p above less = elim (of_message fs ns p (enum other) above) [ the_message same ↦ absurd cc | a_field q c same ↦ absurd cc ]
-said_enum_falls fs es nothing n other enums p above less = let wrong : is_method (enum other) ≡ true = of_nothing fs p (enum other) above in absurd cc
+said_enum_falls fs es nothing n other enums p above less = let wrong : is_method_line (enum other) ≡ true = of_nothing fs p (enum other) above in absurd cc
 
-pub said_message_falls : (fs : List Form) (ms : List (List ℕ)) (part : OpenNames) (n other : List ℕ)
-    → filter_map message_name fs ≡ ms → PartIs fs part → IsAbove fs (message other) → IsBelow n other
-    → falls n ms ≡ true
+pub said_message_falls : (fs : List TableLineForm) (ms : List (List ℕ)) (part : OpenNames) (n other : List ℕ)
+    → filter_map message_name fs ≡ ms → PartIs fs part → IsEarlierInPart fs (message other) → IsBelow n other
+    → is_below_last n ms ≡ true
 said_message_falls fs ms (fields ns) n other messages p above less = elim (of_message fs ns p (message other) above) [
   | the_message same ↦
       let name : p.name ≡ other = same_message p.name other same in
@@ -419,4 +419,4 @@ said_message_falls fs ms (fields ns) n other messages p above less = elim (of_me
   | a_field q c same ↦ absurd cc
 ]
 said_message_falls fs ms (values vs) n other messages p above less = elim (of_enum fs vs p (message other) above) [ the_enum same ↦ absurd cc | a_value v c same ↦ absurd cc ]
-said_message_falls fs ms nothing n other messages p above less = let wrong : is_method (message other) ≡ true = of_nothing fs p (message other) above in absurd cc
+said_message_falls fs ms nothing n other messages p above less = let wrong : is_method_line (message other) ≡ true = of_nothing fs p (message other) above in absurd cc

@@ -4,13 +4,13 @@ use Rattle.std.proofs.Common.{drop, sum, Option, Some, None, refl, ap, sym, subs
 use Rattle.std.specs.Prelude.{slice_get, unwrap_or}
 use Rattle.std.specs.List.{fold}
 use Rattle.std.specs.Option.{option_map_or}
-use Rattle.mrpc_table.specs.Lines.{pieces_of, whole_lines, rest_of}
+use Rattle.mrpc_table.specs.Lines.{pieces_of, whole_lines, remainder_of}
 use Rattle.table_text.specs.Lines.{line_of}
-use Rattle.table_text.specs.Faults.{bytes_of}
-use Rattle.table_text.specs.Judged.{Types, types_of, before_of, after_line, line_fault, end_fault, fault_behind}
-use Rattle.table_text.specs.Drafts.{before, added_line, draft_of, empty_draft}
-use Rattle.table_text.specs.declared.draft.Draft.{Draft}
-use Rattle.table_text.specs.declared.line.Line.{Line}
+use Rattle.table_text.specs.Faults.{bytes_of_lines}
+use Rattle.table_text.specs.LineTests.{TypeNames, types_of, names_in_lines, names_after_line, line_fault, end_fault, fault_after_lines}
+use Rattle.table_text.specs.Drafts.{names_before_line, with_parsed_line, table_draft_of, empty_draft}
+use Rattle.table_text.specs.declared.draft.TableDraft.{TableDraft}
+use Rattle.table_text.specs.declared.line.TableLine.{TableLine}
 use Rattle.table_text.proofs.KeptLemmas.{before_added, map_push}
 use Rattle.table_text.proofs.ListLemmas.{has_part}
 
@@ -32,7 +32,7 @@ lines_first text line others e =
     let P : List (List ℕ) → Type 0 = λ ps. take (length (line ∷ ps) - 1) (line ∷ ps) ≡ line ∷ take (length ps - 1) ps in
     ap (λ (ps : List (List ℕ)). take (length ps - 1) ps) e ∙ subst P (sym more) (init_first line part.0 part.1)
 
-pub rest_first : (text line others : List ℕ) → pieces_of text ≡ line ∷ pieces_of others → rest_of text ≡ rest_of others
+pub rest_first : (text line others : List ℕ) → pieces_of text ≡ line ∷ pieces_of others → remainder_of text ≡ remainder_of others
 rest_first text line others e =
     let part = has_part 10 others in
     let more : pieces_of others ≡ part.0 ∷ part.1 = part.2 in
@@ -42,7 +42,7 @@ rest_first text line others e =
 pub lines_end : (text : List ℕ) → pieces_of text ≡ text ∷ [] → whole_lines text ≡ []
 lines_end text e = ap (λ (ps : List (List ℕ)). take (length ps - 1) ps) e
 
-pub rest_end : (text : List ℕ) → pieces_of text ≡ text ∷ [] → rest_of text ≡ text
+pub rest_end : (text : List ℕ) → pieces_of text ≡ text ∷ [] → remainder_of text ≡ text
 rest_end text e = ap (λ (ps : List (List ℕ)). unwrap_or (slice_get ps (length ps - 1)) []) e
 
 -- ---- suffixes of lists
@@ -74,33 +74,33 @@ get_end [] k le = refl
 get_end (x ∷ xs) zero le = absurd (omega arith)
 get_end (x ∷ xs) (suc k) le = get_end xs k (omega arith)
 
-pub bytes_push : (ls : List (List ℕ)) (l : List ℕ) → bytes_of (ls ++ l ∷ []) ≡ bytes_of ls + length l + 1
+pub bytes_push : (ls : List (List ℕ)) (l : List ℕ) → bytes_of_lines (ls ++ l ∷ []) ≡ bytes_of_lines ls + length l + 1
 bytes_push ls l =
-    let last : bytes_of ls + (length l + 1) ≡ bytes_of ls + length l + 1 = omega arith in
+    let last : bytes_of_lines ls + (length l + 1) ≡ bytes_of_lines ls + length l + 1 = omega arith in
     ap sum (map_push (λ (line : List ℕ). length line + 1) ls l) ∙ fold_push ◌+◌ 0 (map (λ (line : List ℕ). length line + 1) ls) (length l + 1) ∙ last
 
 -- ---- the lines so far
 
-pub before_line : (t : Types) (d : Draft) (o : Option Line) → before (added_line t d o) ≡ after_line (before d) o
+pub before_line : (t : TypeNames) (d : TableDraft) (o : Option TableLine) → names_before_line (with_parsed_line t d o) ≡ names_after_line (names_before_line d) o
 before_line t d None = refl
 before_line t d (Some l) = before_added t d l
 
-before_fold : (t : Types) (d : Draft) (ls : List (List ℕ)) → before (fold (λ d line. added_line t d (line_of line)) d ls) ≡ fold (λ b line. after_line b (line_of line)) (before d) ls
+before_fold : (t : TypeNames) (d : TableDraft) (ls : List (List ℕ)) → names_before_line (fold (λ d line. with_parsed_line t d (line_of line)) d ls) ≡ fold (λ b line. names_after_line b (line_of line)) (names_before_line d) ls
 before_fold t d [] = refl
-before_fold t d (l ∷ ls) = before_fold t (added_line t d (line_of l)) ls ∙ ap (λ b. fold (λ b line. after_line b (line_of line)) b ls) (before_line t d (line_of l))
+before_fold t d (l ∷ ls) = before_fold t (with_parsed_line t d (line_of l)) ls ∙ ap (λ b. fold (λ b line. names_after_line b (line_of line)) b ls) (before_line t d (line_of l))
 
-pub before_draft : (t : Types) (ls : List (List ℕ)) → before (draft_of t ls) ≡ before_of ls
+pub before_draft : (t : TypeNames) (ls : List (List ℕ)) → names_before_line (table_draft_of t ls) ≡ names_in_lines ls
 before_draft t ls = before_fold t empty_draft ls
 
 pub here_is : (ls : List (List ℕ)) (tail : List ℕ) (k : ℕ) (l : List ℕ) (more : List (List ℕ)) → drop k ls ≡ l ∷ more
-    → fault_behind ls tail k ≡ line_fault (types_of ls) (before_of (take k ls)) (bytes_of (take k ls) + length l + 1)
+    → fault_after_lines ls tail k ≡ line_fault (types_of ls) (names_in_lines (take k ls)) (bytes_of_lines (take k ls) + length l + 1)
     (line_of l)
 here_is ls tail k l more e =
     let next : k + 1 ≡ suc k = omega arith in
-    let bytes : bytes_of (take (k + 1) ls) ≡ bytes_of (take k ls) + length l + 1 =
-    ap (λ (n : ℕ). bytes_of (take n ls)) next ∙ ap bytes_of (take_drop ls k l more e)
+    let bytes : bytes_of_lines (take (k + 1) ls) ≡ bytes_of_lines (take k ls) + length l + 1 =
+    ap (λ (n : ℕ). bytes_of_lines (take n ls)) next ∙ ap bytes_of_lines (take_drop ls k l more e)
     ∙ bytes_push (take k ls) l in
     ap (λ (o : Option (List ℕ)). option_map_or
-    (λ x. line_fault (types_of ls) (before_of (take k ls)) (bytes_of (take (k + 1) ls)) (line_of x)) o
-    (cond (k == length ls) (end_fault (before_of ls) tail) None)) (get_drop ls k l more e)
-    ∙ ap (λ (n : ℕ). line_fault (types_of ls) (before_of (take k ls)) n (line_of l)) bytes
+    (λ x. line_fault (types_of ls) (names_in_lines (take k ls)) (bytes_of_lines (take (k + 1) ls)) (line_of x)) o
+    (cond (k == length ls) (end_fault (names_in_lines ls) tail) None)) (get_drop ls k l more e)
+    ∙ ap (λ (n : ℕ). line_fault (types_of ls) (names_in_lines (take k ls)) n (line_of l)) bytes

@@ -4,23 +4,23 @@ use Rattle.std.specs.Prelude.{option_to_list}
 use Rattle.std.specs.List.{filter_map, cons_option}
 use Rattle.std.proofs.lemmas.List.{append-nil}
 use Rattle.mrpc_table.specs.Lines.{pieces_of, whole_lines}
-use Rattle.table_text.specs.Places.{Holds}
-use Rattle.table_text.specs.declared.places.Places.{Places}
+use Rattle.table_text.specs.NameIndex.{AreNames}
+use Rattle.table_text.specs.declared.name_index.NameIndex.{NameIndex}
 use Rattle.table_text.proofs.LineLemmas.{lines_first, lines_end}
 
 -- the names to start with, those of the lines so far, and those of the remaining lines
-pub record NamesSoFar (of_lines : List (List ℕ) → List (List ℕ)) (start : List (List ℕ)) (text rest : List ℕ) (names : Places) : Type 0 where
+pub record NamesSoFar (of_lines : List (List ℕ) → List (List ℕ)) (start : List (List ℕ)) (text rest : List ℕ) (names : NameIndex) : Type 0 where
   pub done : List (List ℕ)
-  pub holds : Holds names done
+  pub holds : AreNames names done
   pub all : done ++ of_lines (whole_lines rest) ≡ start ++ of_lines (whole_lines text)
 
-pub names_none : (of_lines : List (List ℕ) → List (List ℕ)) (start : List (List ℕ)) (text : List ℕ) (names : Places)
-    → Holds names start → NamesSoFar of_lines start text text names
+pub names_none : (of_lines : List (List ℕ) → List (List ℕ)) (start : List (List ℕ)) (text : List ℕ) (names : NameIndex)
+    → AreNames names start → NamesSoFar of_lines start text text names
 names_none of_lines start text names h = record { done = start; holds = h; all = refl }
 
 pub names_first : (of_lines : List (List ℕ) → List (List ℕ)) (start : List (List ℕ)) (text rest line others : List ℕ)
-    (old new : Places) (more : List (List ℕ)) → pieces_of rest ≡ line ∷ pieces_of others
-    → of_lines (line ∷ whole_lines others) ≡ more ++ of_lines (whole_lines others) → ((names : List (List ℕ)) → Holds old names → Holds new (names ++ more))
+    (old new : NameIndex) (more : List (List ℕ)) → pieces_of rest ≡ line ∷ pieces_of others
+    → of_lines (line ∷ whole_lines others) ≡ more ++ of_lines (whole_lines others) → ((names : List (List ℕ)) → AreNames old names → AreNames new (names ++ more))
     → NamesSoFar of_lines start text rest old → NamesSoFar of_lines start text others new
 names_first of_lines start text rest line others old new more e step added s = record {
   done = s.done ++ more;
@@ -30,10 +30,10 @@ names_first of_lines start text rest line others old new more e step added s = r
       ∙ s.all;
 }
 
-pub names_end : (of_lines : List (List ℕ) → List (List ℕ)) (start : List (List ℕ)) (text rest : List ℕ) (names : Places) → pieces_of rest ≡ rest ∷ [] → of_lines [] ≡ []
-    → NamesSoFar of_lines start text rest names → Holds names (start ++ of_lines (whole_lines text))
+pub names_end : (of_lines : List (List ℕ) → List (List ℕ)) (start : List (List ℕ)) (text rest : List ℕ) (names : NameIndex) → pieces_of rest ≡ rest ∷ [] → of_lines [] ≡ []
+    → NamesSoFar of_lines start text rest names → AreNames names (start ++ of_lines (whole_lines text))
 names_end of_lines start text rest names e none s =
-    subst (Holds names) (sym (append-nil s.done) ∙ ap (λ (xs : List (List ℕ)). s.done ++ xs) (sym none ∙ sym (ap of_lines (lines_end rest e))) ∙ s.all) s.holds
+    subst (AreNames names) (sym (append-nil s.done) ∙ ap (λ (xs : List (List ℕ)). s.done ++ xs) (sym none ∙ sym (ap of_lines (lines_end rest e))) ∙ s.all) s.holds
 
 cons_is : {X : Type 0} (o : Option X) (xs : List X) → cons_option o xs ≡ option_to_list o ++ xs
 cons_is None xs = refl

@@ -15,9 +15,9 @@ use Rattle.std.proofs.lemmas.Map.Text.{is_eq-slice_cmp}
 use Rattle.std.proofs.lemmas.Int.{ints}
 use Rattle.std.proofs.lemmas.Option.{slice_get_within, get_or_from_slice_get}
 use Rattle.std.proofs.lemmas.List.Elements.{Contains-append_right, Contains-push_cases}
-use Rattle.mrpc_table.specs.Valid.{Ascends, AreDistinct, IsBelow, IsValueBelow}
-use Rattle.table_text.specs.Judged.{is_below, is_among, falls, last_of, is_value_below}
-use Rattle.table_text.specs.declared.line.Whole.TheVariants.{Within}
+use Rattle.mrpc_table.specs.Valid.{IsAscendingBy, AreDistinct, IsBelow, IsValueBelow}
+use Rattle.table_text.specs.LineTests.{is_below, is_among, is_below_last, last_of, is_value_below}
+use Rattle.table_text.specs.declared.line.EnumNumber.TheVariants.{Within}
 use Rattle.table_text.proofs.Clean.{left_no, right_no}
 use Rattle.table_text.proofs.PlaceLemmas.{same_bytes, bytes_same}
 
@@ -37,22 +37,22 @@ last_push (y ∷ z ∷ zs) x = last_later y z (zs ++ x ∷ []) ∙ last_push (z 
 
 -- ---- order
 
-pub ascends_push : {X : Type 0} (R : X → X → Type 0) (xs : List X) (y : X) → Ascends R xs → ((x : X) → last_of xs ≡ Some x → R x y) → Ascends R (xs ++ y ∷ [])
+pub ascends_push : {X : Type 0} (R : X → X → Type 0) (xs : List X) (y : X) → IsAscendingBy R xs → ((x : X) → last_of xs ≡ Some x → R x y) → IsAscendingBy R (xs ++ y ∷ [])
 ascends_push R [] y up last = tt
 ascends_push R (x ∷ []) y up last = (last x refl, tt)
 ascends_push R (x ∷ z ∷ zs) y up last = (up.0, ascends_push R (z ∷ zs) y up.1 (λ w e. last w (last_later x z zs ∙ e)))
 
-pub ascends_split : {X : Type 0} (R : X → X → Type 0) (xs : List X) (y : X) (ys : List X) → Ascends R (xs ++ y ∷ ys) → (x : X) → last_of xs ≡ Some x → R x y
+pub ascends_split : {X : Type 0} (R : X → X → Type 0) (xs : List X) (y : X) (ys : List X) → IsAscendingBy R (xs ++ y ∷ ys) → (x : X) → last_of xs ≡ Some x → R x y
 ascends_split R [] y ys up x e = absurd cc
 ascends_split R (w ∷ []) y ys up x e = let same : w ≡ x = cc in subst (λ v. R v y) same up.0
 ascends_split R (w ∷ z ∷ zs) y ys up x e = ascends_split R (z ∷ zs) y ys up.1 x (sym (last_later w z zs) ∙ e)
 
-pub ascends_map : {X Y : Type 0} (R : Y → Y → Type 0) (f : X → Y) (xs : List X) → Ascends R (map f xs) → Ascends (λ a b. R (f a) (f b)) xs
+pub ascends_map : {X Y : Type 0} (R : Y → Y → Type 0) (f : X → Y) (xs : List X) → IsAscendingBy R (map f xs) → IsAscendingBy (λ a b. R (f a) (f b)) xs
 ascends_map R f [] up = tt
 ascends_map R f (x ∷ []) up = tt
 ascends_map R f (x ∷ y ∷ ys) up = (up.0, ascends_map R f (y ∷ ys) up.1)
 
-pub map_ascends : {X Y : Type 0} (R : Y → Y → Type 0) (f : X → Y) (xs : List X) → Ascends (λ a b. R (f a) (f b)) xs → Ascends R (map f xs)
+pub map_ascends : {X Y : Type 0} (R : Y → Y → Type 0) (f : X → Y) (xs : List X) → IsAscendingBy (λ a b. R (f a) (f b)) xs → IsAscendingBy R (map f xs)
 map_ascends R f [] up = tt
 map_ascends R f (x ∷ []) up = tt
 map_ascends R f (x ∷ y ∷ ys) up = (up.0, map_ascends R f (y ∷ ys) up.1)
@@ -140,13 +140,13 @@ last_contained : {X : Type 0} (xs : List X) (x : X) → last_of xs ≡ Some x �
 last_contained xs x e = (length xs - 1, slice_get_within xs (length xs - 1) x e, get_or_from_slice_get xs (length xs - 1) x x e)
 
 -- a name that isn't below the last one and is new is above it
-pub falls_not : (n : List ℕ) (ns : List (List ℕ)) → falls n ns ≡ false → is_among n ns ≡ false → (m : List ℕ) → last_of ns ≡ Some m → IsBelow m n
+pub falls_not : (n : List ℕ) (ns : List (List ℕ)) → is_below_last n ns ≡ false → is_among n ns ≡ false → (m : List ℕ) → last_of ns ≡ Some m → IsBelow m n
 falls_not n ns e new m last =
     let below : is_below n m ≡ false = ap (λ (o : Option (List ℕ)). option_map_or (λ (l : List ℕ). is_below n l) o false) (sym last) ∙ e in
     let other : bytes_eq n m ≡ false = false_or (bytes_eq n m) (λ same. not_among n ns new (subst (λ v. Contains ns v) (sym (same_bytes n m same)) (last_contained ns m last))) in
     is_above n m below other
 
-pub not_falls : (n : List ℕ) (ns : List (List ℕ)) → ((m : List ℕ) → last_of ns ≡ Some m → IsBelow m n) → falls n ns ≡ false
+pub not_falls : (n : List ℕ) (ns : List (List ℕ)) → ((m : List ℕ) → last_of ns ≡ Some m → IsBelow m n) → is_below_last n ns ≡ false
 not_falls n ns up = go (last_of ns) refl
   where
     go : (o : Option (List ℕ)) → last_of ns ≡ o → option_map_or (λ (l : List ℕ). is_below n l) (last_of ns) false ≡ false

@@ -20,11 +20,11 @@ use Rattle.std.proofs.lemmas.Bool.Decides.{eqb_tells, leb_tells}
 use Rattle.std.proofs.lemmas.Bool.{cases_lt, eq-eqb, eqb-true, ne_eqb, lt-ltb, le-ltb, le-leb}
 use Rattle.std.proofs.lemmas.Str.Parse.{IsNumeralModel, numerals_by_value}
 use Rattle.std.proofs.lemmas.Fmt.{decimal-digits_value, digits_decimal, digits_value-decimal, decimal_nonempty, first_decimal, decimal_digit}
-use Rattle.table_text.specs.declared.line.Whole.{Whole}
-use Rattle.table_text.specs.declared.line.Whole.TheVariants.{Low, Within, High}
+use Rattle.table_text.specs.declared.line.EnumNumber.{EnumNumber}
+use Rattle.table_text.specs.declared.line.EnumNumber.TheVariants.{Low, Within, High}
 use Rattle.mrpc_table.specs.Names.{is_name_form, is_full_form}
 use Rattle.mrpc_table.specs.Lines.{is_decimal, number_of}
-use Rattle.table_text.specs.Lines.{whole_of, negative, not_negative, name_of, full_name_of, behind}
+use Rattle.table_text.specs.Lines.{enum_number_of, negative, not_negative, name_of, full_name_of, without_prefix}
 use Rattle.table_text.proofs.PlaceLemmas.{same_bytes}
 use Rattle.table_text.proofs.TableFacts.{both_left, both_right}
 
@@ -105,7 +105,7 @@ number_of-decimal n small =
         ]
 
 -- the text of a number, in its range
-abbrev pub WholeIs : List ℕ → Whole → Type 0
+abbrev pub WholeIs : List ℕ → EnumNumber → Type 0
 WholeIs w (Within z) = (w ≡ signed_decimal z) × FitsSigned w32 z
 WholeIs w Low = ⊥
 WholeIs w High = ⊥
@@ -132,7 +132,7 @@ not_negative_is n z e =
       | inr ge ↦ let one : High ≡ Within z = rw ge.0 at e in absurd cc
     ]
 
-pub whole_is : (w : List ℕ) (z : ℤ) → whole_of w ≡ Some (Within z) → WholeIs w (Within z)
+pub whole_is : (w : List ℕ) (z : ℤ) → enum_number_of w ≡ Some (Within z) → WholeIs w (Within z)
 whole_is [] z e = absurd cc
 whole_is (c ∷ cs) z e =
     elim (eqb_tells c 45) [
@@ -152,14 +152,14 @@ whole_is (c ∷ cs) z e =
           subst (λ (y : ℤ). WholeIs (c ∷ cs) (Within y)) is.0 high
     ]
 
-pub first_digit : (w : List ℕ) → list_all is_ascii_digit w ≡ true → 0 < length w → whole_of w ≡ option_map not_negative (number_of w)
+pub first_digit : (w : List ℕ) → list_all is_ascii_digit w ≡ true → 0 < length w → enum_number_of w ≡ option_map not_negative (number_of w)
 first_digit [] digits some = absurd (omega arith)
 first_digit (c ∷ cs) digits some =
     let d : is_ascii_digit c ≡ true = both_left (is_ascii_digit c) (list_all is_ascii_digit cs) digits in
     let no_minus : (c == 45) ≡ false = grind (arith, common_steps) in
     rw no_minus refl
 
-pub whole_of-text : (z : ℤ) → FitsSigned w32 z → whole_of (signed_decimal z) ≡ Some (Within z)
+pub whole_of-text : (z : ℤ) → FitsSigned w32 z → enum_number_of (signed_decimal z) ≡ Some (Within z)
 whole_of-text (pos n) fits =
     let below : n < 2 ^ 31 = omega (arith, ints, fits) in
     let small : n < 2 ^ 64 = omega arith in
@@ -187,7 +187,7 @@ full_is w n e =
 
 -- ---- kinds and labels
 
-pub behind_is : (prefix w n : List ℕ) → behind prefix w ≡ Some n → w ≡ prefix ++ n
+pub behind_is : (prefix w n : List ℕ) → without_prefix prefix w ≡ Some n → w ≡ prefix ++ n
 behind_is prefix w n e =
     let h = if_true (bytes_eq (take (length prefix) w) prefix) (drop (length prefix) w) n e in
     sym (take-append-drop (length prefix) w) ∙ ap (λ (front : List ℕ). front ++ drop (length prefix) w)

@@ -14,29 +14,29 @@ use Rattle.std.specs.Map.{lookup}
 use Rattle.std.specs.BTreeMap.{is_at, insert_entry}
 use Rattle.std.proofs.lemmas.Map.Text.{is_eq-slice_cmp}
 use Rattle.std.proofs.lemmas.Slice.Eq.{bytes_eq-Decides}
-use Rattle.table_text.specs.Judged.{is_among}
-use Rattle.table_text.specs.Places.{place_from, in_range, place_in, Holds}
-use Rattle.table_text.specs.declared.places.Places.{Places}
+use Rattle.table_text.specs.LineTests.{is_among}
+use Rattle.table_text.specs.NameIndex.{index_from, capped_index, index_in, AreNames}
+use Rattle.table_text.specs.declared.name_index.NameIndex.{NameIndex}
 
-pub among_from : (k : ℕ) (name : List ℕ) (names : List (List ℕ)) → is_some (option_map in_range (place_from k name names)) ≡ is_among name names
+pub among_from : (k : ℕ) (name : List ℕ) (names : List (List ℕ)) → is_some (option_map capped_index (index_from k name names)) ≡ is_among name names
 among_from k name [] = refl
 among_from k name (n ∷ ns) =
-    elim (bytes_eq name n) as (λ (b : Bool). is_some (option_map in_range (cond b (Some k) (place_from (k + 1) name ns))) ≡ (b || list_any (λ other. bytes_eq name other) ns)) [
+    elim (bytes_eq name n) as (λ (b : Bool). is_some (option_map capped_index (cond b (Some k) (index_from (k + 1) name ns))) ≡ (b || list_any (λ other. bytes_eq name other) ns)) [
       | true ↦ refl
       | false ↦ among_from (k + 1) name ns
     ]
 
 pub place_push : (k : ℕ) (name : List ℕ) (names : List (List ℕ)) (last : List ℕ)
-    → place_from k name (names ++ last ∷ []) ≡ option_or (place_from k name names)
+    → index_from k name (names ++ last ∷ []) ≡ option_or (index_from k name names)
     (cond (bytes_eq name last) (Some (k + length names)) None)
 place_push k name [] last = let e : k ≡ k + 0 = omega arith in ap (λ (j : ℕ). cond (bytes_eq name last) (Some j) None) e
 place_push k name (n ∷ ns) last =
     let e : k + 1 + length ns ≡ k + suc (length ns) = omega arith in
-    elim (bytes_eq name n) as (λ (b : Bool). cond b (Some k) (place_from (k + 1) name (ns ++ last ∷ []))
-    ≡ option_or (cond b (Some k) (place_from (k + 1) name ns))
+    elim (bytes_eq name n) as (λ (b : Bool). cond b (Some k) (index_from (k + 1) name (ns ++ last ∷ []))
+    ≡ option_or (cond b (Some k) (index_from (k + 1) name ns))
     (cond (bytes_eq name last) (Some (k + suc (length ns))) None)) [
       | true ↦ refl
-      | false ↦ place_push (k + 1) name ns last ∙ ap (λ (j : ℕ). option_or (place_from (k + 1) name ns) (cond (bytes_eq name last) (Some j) None)) e
+      | false ↦ place_push (k + 1) name ns last ∙ ap (λ (j : ℕ). option_or (index_from (k + 1) name ns) (cond (bytes_eq name last) (Some j) None)) e
     ]
 
 -- ---- the map
@@ -92,19 +92,19 @@ kept (Some x) new true n first none same e = let clash : Some x ≡ None = same 
 kept None new false n first none same e = e
 kept (Some x) new false n first none same e = e
 
-joined : (old place : Option ℕ) (b : Bool) (n len : ℕ) → old ≡ option_map in_range place → n ≡ in_range len
-    → option_or old (cond b (Some n) None) ≡ option_map in_range (option_or place (cond b (Some (0 + len)) None))
-joined old None true n len e m = let z : n ≡ in_range (0 + len) = m ∙ ap in_range (sym (zero-add len)) in rw e (ap Some z)
+joined : (old place : Option ℕ) (b : Bool) (n len : ℕ) → old ≡ option_map capped_index place → n ≡ capped_index len
+    → option_or old (cond b (Some n) None) ≡ option_map capped_index (option_or place (cond b (Some (0 + len)) None))
+joined old None true n len e m = let z : n ≡ capped_index (0 + len) = m ∙ ap capped_index (sym (zero-add len)) in rw e (ap Some z)
 joined old None false n len e m = rw e refl
 joined old (Some p) b n len e m = rw e refl
 
 -- one more name
-pub holds_push : (old new : Places) (names : List (List ℕ)) (name : List ℕ)
-    → ((q : List ℕ) → place_in new q ≡ option_or (place_in old q) (cond (bytes_eq q name) (Some old.count) None))
+pub holds_push : (old new : NameIndex) (names : List (List ℕ)) (name : List ℕ)
+    → ((q : List ℕ) → index_in new q ≡ option_or (index_in old q) (cond (bytes_eq q name) (Some old.count) None))
     → new.count ≡ min (old.count + 1) (2 ^ 32 - 1)
-    → Holds old names → Holds new (names ++ name ∷ [])
+    → AreNames old names → AreNames new (names ++ name ∷ [])
 holds_push old new names name added more h = record {
-  found = λ q. added q ∙ joined (place_in old q) (place_from 0 q names) (bytes_eq q name) old.count (length names)
-      (h.found q) h.count ∙ ap (option_map in_range) (sym (place_push 0 q names name));
+  found = λ q. added q ∙ joined (index_in old q) (index_from 0 q names) (bytes_eq q name) old.count (length names)
+      (h.found q) h.count ∙ ap (option_map capped_index) (sym (place_push 0 q names name));
   count = omega (arith, more, h.count, length-append names (name ∷ []));
 }

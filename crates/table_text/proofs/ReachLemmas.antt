@@ -11,22 +11,22 @@ use Rattle.std.proofs.lemmas.List.{append-nil, length-take-le, take_all}
 use Rattle.std.proofs.lemmas.List.Elements.{filter_map-append}
 use Rattle.std.proofs.lemmas.List.Folds.{list_any-append}
 use Rattle.std.proofs.lemmas.List.Sums.{sum-map, sum_by-cons}
-use Rattle.mrpc_table.specs.Lines.{pieces_of, whole_lines, rest_of}
-use Rattle.table_text.specs.Faults.{bytes_of}
-use Rattle.table_text.specs.Judged.{Types, Before, types_of, before_of, line_fault, is_among, is_empty, is_syntax}
-use Rattle.table_text.specs.Judged.{is_number, is_duplicate, is_unknown, is_unknown_kind, is_unknown_label}
-use Rattle.table_text.specs.Judged.{is_map_key, is_limit}
-use Rattle.table_text.specs.Lines.{behind, line_of}
-use Rattle.table_text.specs.Places.{Holds}
-use Rattle.table_text.specs.Reach.{used_by_kind, used_by_label, used_by, used_by_line, used_in, used_behind, types_near, AreLongParts, IsReached, Serves}
+use Rattle.mrpc_table.specs.Lines.{pieces_of, whole_lines, remainder_of}
+use Rattle.table_text.specs.Faults.{bytes_of_lines}
+use Rattle.table_text.specs.LineTests.{TypeNames, NamesBefore, types_of, names_in_lines, line_fault, is_among, is_empty, has_syntax_fault}
+use Rattle.table_text.specs.LineTests.{has_number_fault, has_duplicate, has_unknown_type, is_unknown_kind, is_unknown_label}
+use Rattle.table_text.specs.LineTests.{has_map_key_fault, exceeds_limit}
+use Rattle.table_text.specs.Lines.{without_prefix, line_of}
+use Rattle.table_text.specs.NameIndex.{AreNames}
+use Rattle.table_text.specs.Reach.{used_by_kind, used_by_label, used_by, used_by_line, used_in, used_with_prefix, types_near, AreLongParts, HasNoFaultBefore, IsSufficient}
 use Rattle.table_text.specs.declared.fault.TableReason.TheVariants.{Syntax, Number, Duplicate, UnknownType, MapKey, Limit}
-use Rattle.table_text.specs.declared.places.Places.{Places}
+use Rattle.table_text.specs.declared.name_index.NameIndex.{NameIndex}
 use Rattle.table_text.specs.declared.line.KindWord.{KindWord}
 use Rattle.table_text.specs.declared.line.KindWord.TheVariants as kinds
 use Rattle.table_text.specs.declared.line.LabelWord.{LabelWord}
 use Rattle.table_text.specs.declared.line.LabelWord.TheVariants as labels
-use Rattle.table_text.specs.declared.line.Line.{Line}
-use Rattle.table_text.specs.declared.line.Line.TheVariants.{Enum, Value, Message, Field, Method}
+use Rattle.table_text.specs.declared.line.TableLine.{TableLine}
+use Rattle.table_text.specs.declared.line.TableLine.TheVariants.{Enum, Value, Message, Field, Method}
 use Rattle.table_text.proofs.Accepts.{few_bytes, some_line}
 use Rattle.table_text.proofs.LineLemmas.{init_first, here_is, take_drop, bytes_push}
 use Rattle.table_text.proofs.OrderLemmas.{or_true}
@@ -67,24 +67,24 @@ lines_append x y =
 abbrev line_bytes : List ℕ → ℕ
 line_bytes l = length l + 1
 
-bytes_cons : (l : List ℕ) (ls : List (List ℕ)) → bytes_of (l ∷ ls) ≡ length l + 1 + bytes_of ls
+bytes_cons : (l : List ℕ) (ls : List (List ℕ)) → bytes_of_lines (l ∷ ls) ≡ length l + 1 + bytes_of_lines ls
 bytes_cons l ls = sum-map line_bytes (l ∷ ls) ∙ sum_by-cons line_bytes l ls ∙ ap (λ (n : ℕ). length l + 1 + n) (sym (sum-map line_bytes ls))
 
-bytes_onto : (c : ℕ) (ps : List (List ℕ)) → HasPart ps → bytes_of (onto_first c ps) ≡ 1 + bytes_of ps
+bytes_onto : (c : ℕ) (ps : List (List ℕ)) → HasPart ps → bytes_of_lines (onto_first c ps) ≡ 1 + bytes_of_lines ps
 bytes_onto c [] some = let clash : [] ≡ some.0 ∷ some.1 = some.2 in absurd cc
 bytes_onto c (p ∷ ps) some = omega (arith, bytes_cons (c ∷ p) ps, bytes_cons p ps)
 
-bytes_pieces : (x : List ℕ) → bytes_of (pieces_of x) ≡ length x + 1
+bytes_pieces : (x : List ℕ) → bytes_of_lines (pieces_of x) ≡ length x + 1
 bytes_pieces [] = refl
 bytes_pieces (c ∷ cs) =
-    elim (c == 10) as (λ (b : Bool). bytes_of (cond b ([] ∷ pieces_of cs) (onto_first c (pieces_of cs))) ≡ suc (length cs) + 1) [
+    elim (c == 10) as (λ (b : Bool). bytes_of_lines (cond b ([] ∷ pieces_of cs) (onto_first c (pieces_of cs))) ≡ suc (length cs) + 1) [
       | true ↦ omega (arith, bytes_cons [] (pieces_of cs), bytes_pieces cs)
       | false ↦ omega (arith, bytes_onto c (pieces_of cs) (has_part 10 cs), bytes_pieces cs)
     ]
 
 -- a text that is split at the first line feed after its first m bytes
 pub cut_parts : (m : ℕ) (text line far : List ℕ) → m ≤ length text → pieces_of (take (length text - m) (drop m text)) ≡ line ∷ pieces_of far
-    → (whole_lines text ≡ whole_lines (take (length text - length far) text) ++ whole_lines far) × (m < bytes_of (whole_lines (take (length text - length far) text)))
+    → (whole_lines text ≡ whole_lines (take (length text - length far) text) ++ whole_lines far) × (m < bytes_of_lines (whole_lines (take (length text - length far) text)))
 cut_parts m text line far le e =
     let x = take m text ++ line in
     let fed = x ++ 10 ∷ [] in
@@ -97,7 +97,7 @@ cut_parts m text line far le e =
     let near : take (length text - length far) text ≡ fed = ap (λ (n : ℕ). take n text) count ∙ ap (take (length fed)) fed_is ∙ take-append_seam fed far in
     let lines : whole_lines (take (length text - length far) text) ≡ pieces_of x = ap whole_lines near ∙ lines_append x [] ∙ append-nil (pieces_of x) in
     let size : length (take m text) ≡ m = length-take-le m text le in
-    let bytes : bytes_of (whole_lines (take (length text - length far) text)) ≡ length x + 1 = ap bytes_of lines ∙ bytes_pieces x in (
+    let bytes : bytes_of_lines (whole_lines (take (length text - length far) text)) ≡ length x + 1 = ap bytes_of_lines lines ∙ bytes_pieces x in (
       ap whole_lines is ∙ lines_append x far ∙ ap (λ (ps : List (List ℕ)). ps ++ whole_lines far) (sym lines),
       omega (arith, bytes, length-append (take m text) line, size),
     )
@@ -128,40 +128,40 @@ chosen n m wanted xs ys false is in_it same = same ∙ sym (ap (λ (b : Bool). b
 
 -- a wanted name is among the kept ones exactly if it is among all
 kept_far : (n : List ℕ) (wanted : List (List ℕ)) (prefix : List ℕ) → is_among n wanted ≡ true → (far : List (List ℕ))
-    → is_among n (filter_map (used_behind wanted prefix) far) ≡ is_among n (filter_map (behind prefix) far)
+    → is_among n (filter_map (used_with_prefix wanted prefix) far) ≡ is_among n (filter_map (without_prefix prefix) far)
 kept_far n wanted prefix in_it [] = refl
-kept_far n wanted prefix in_it (l ∷ ls) = step (behind prefix l) (kept_far n wanted prefix in_it ls)
+kept_far n wanted prefix in_it (l ∷ ls) = step (without_prefix prefix l) (kept_far n wanted prefix in_it ls)
   where
-    step : (o : Option (List ℕ)) → is_among n (filter_map (used_behind wanted prefix) ls)
-        ≡ is_among n (filter_map (behind prefix) ls)
+    step : (o : Option (List ℕ)) → is_among n (filter_map (used_with_prefix wanted prefix) ls)
+        ≡ is_among n (filter_map (without_prefix prefix) ls)
         → is_among n (cons_option (option_and_then (λ m. cond (is_among m wanted) (Some m) None) o)
-        (filter_map (used_behind wanted prefix) ls)) ≡ is_among n (cons_option o (filter_map (behind prefix) ls))
+        (filter_map (used_with_prefix wanted prefix) ls)) ≡ is_among n (cons_option o (filter_map (without_prefix prefix) ls))
     step None same = same
-    step (Some m) same = chosen n m wanted (filter_map (used_behind wanted prefix) ls) (filter_map (behind prefix) ls) (is_among m wanted) refl in_it same
+    step (Some m) same = chosen n m wanted (filter_map (used_with_prefix wanted prefix) ls) (filter_map (without_prefix prefix) ls) (is_among m wanted) refl in_it same
 
 names_agree : (n : List ℕ) (wanted : List (List ℕ)) (prefix : List ℕ) (near far : List (List ℕ)) → is_among n wanted ≡ true
-    → is_among n (filter_map (behind prefix) near ++ filter_map (used_behind wanted prefix) far) ≡ is_among n (filter_map (behind prefix) (near ++ far))
+    → is_among n (filter_map (without_prefix prefix) near ++ filter_map (used_with_prefix wanted prefix) far) ≡ is_among n (filter_map (without_prefix prefix) (near ++ far))
 names_agree n wanted prefix near far in_it =
-    let mine = filter_map (behind prefix) near in
-    list_any-append (λ other. bytes_eq n other) mine (filter_map (used_behind wanted prefix) far)
+    let mine = filter_map (without_prefix prefix) near in
+    list_any-append (λ other. bytes_eq n other) mine (filter_map (used_with_prefix wanted prefix) far)
     ∙ ap (λ (b : Bool). is_among n mine || b) (kept_far n wanted prefix in_it far)
-    ∙ sym (list_any-append (λ other. bytes_eq n other) mine (filter_map (behind prefix) far))
-    ∙ sym (ap (is_among n) (filter_map-append (behind prefix) near far))
+    ∙ sym (list_any-append (λ other. bytes_eq n other) mine (filter_map (without_prefix prefix) far))
+    ∙ sym (ap (is_among n) (filter_map-append (without_prefix prefix) near far))
 
 -- no name is wanted, so none is kept
-pub none_kept : (prefix : List ℕ) (far : List (List ℕ)) → filter_map (used_behind [] prefix) far ≡ []
+pub none_kept : (prefix : List ℕ) (far : List (List ℕ)) → filter_map (used_with_prefix [] prefix) far ≡ []
 none_kept prefix [] = refl
-none_kept prefix (l ∷ ls) = step (behind prefix l) (none_kept prefix ls)
+none_kept prefix (l ∷ ls) = step (without_prefix prefix l) (none_kept prefix ls)
   where
-    step : (o : Option (List ℕ)) → filter_map (used_behind [] prefix) ls ≡ []
+    step : (o : Option (List ℕ)) → filter_map (used_with_prefix [] prefix) ls ≡ []
         → cons_option (option_and_then (λ m. cond (is_among m []) (Some m) None) o)
-        (filter_map (used_behind [] prefix) ls) ≡ []
+        (filter_map (used_with_prefix [] prefix) ls) ≡ []
     step None none = none
     step (Some m) none = none
 
-pub nothing_kept : (prefix : List ℕ) (names : Places) (start wanted far : List (List ℕ)) → true ≡ is_empty wanted
-    → Holds names start → Holds names (start ++ filter_map (used_behind wanted prefix) far)
-nothing_kept prefix names start [] far e h = subst (Holds names) (sym (ap (λ (xs : List (List ℕ)). start ++ xs) (none_kept prefix far) ∙ append-nil start)) h
+pub nothing_kept : (prefix : List ℕ) (names : NameIndex) (start wanted far : List (List ℕ)) → true ≡ is_empty wanted
+    → AreNames names start → AreNames names (start ++ filter_map (used_with_prefix wanted prefix) far)
+nothing_kept prefix names start [] far e h = subst (AreNames names) (sym (ap (λ (xs : List (List ℕ)). start ++ xs) (none_kept prefix far) ∙ append-nil start)) h
 nothing_kept prefix names start (w ∷ ws) far e h = absurd (false≢true (sym (e ∙ ne_eqb (suc (length ws)) 0 (λ none. absurd (omega arith)))))
 
 -- ---- types that agree
@@ -182,7 +182,7 @@ label_agrees near far labels.Packed used = refl
 label_agrees near far (labels.Map key) used = kind_agrees near far key used
 label_agrees near far (labels.Member name) used = refl
 
-line_agrees : (near far : List (List ℕ)) (l : Line) → AreUsed (used_by l) near → is_unknown (types_near near far) l ≡ is_unknown (types_of (near ++ far)) l
+line_agrees : (near far : List (List ℕ)) (l : TableLine) → AreUsed (used_by l) near → has_unknown_type (types_near near far) l ≡ has_unknown_type (types_of (near ++ far)) l
 line_agrees near far (Enum name) used = refl
 line_agrees near far (Value z name) used = refl
 line_agrees near far (Message name) used = refl
@@ -205,36 +205,36 @@ used_at n (l ∷ ls) zero line get h =
     in_first n (used_by_line (line_of l)) (used_in ls) (ap (λ (x : List ℕ). is_among n (used_by_line (line_of x))) same ∙ h)
 used_at n (l ∷ ls) (suc i) line get h = in_second n (used_by_line (line_of l)) (used_in ls) (used_at n ls i line get h)
 
-fault_agrees : (t u : Types) (b : Before) (bytes : ℕ) (o : Option Line)
-    → ((l : Line) → o ≡ Some l → is_unknown t l ≡ is_unknown u l) → line_fault t b bytes o ≡ line_fault u b bytes o
+fault_agrees : (t u : TypeNames) (b : NamesBefore) (bytes : ℕ) (o : Option TableLine)
+    → ((l : TableLine) → o ≡ Some l → has_unknown_type t l ≡ has_unknown_type u l) → line_fault t b bytes o ≡ line_fault u b bytes o
 fault_agrees t u b bytes None agrees = refl
 fault_agrees t u b bytes (Some l) agrees =
-    ap (λ (x : Bool). cond (is_syntax b l) (Some Syntax)
-    (cond (is_number b l) (Some Number)
-    (cond (is_duplicate b l) (Some Duplicate)
+    ap (λ (x : Bool). cond (has_syntax_fault b l) (Some Syntax)
+    (cond (has_number_fault b l) (Some Number)
+    (cond (has_duplicate b l) (Some Duplicate)
     (cond x (Some UnknownType)
-    (cond (is_map_key l) (Some MapKey) (cond (is_limit b bytes l) (Some Limit) None)))))) (agrees l refl)
+    (cond (has_map_key_fault l) (Some MapKey) (cond (exceeds_limit b bytes l) (Some Limit) None)))))) (agrees l refl)
 
-near_judges : (near far : List (List ℕ)) (i : ℕ) (line : List ℕ) (b : Before) (bytes : ℕ)
+near_judges : (near far : List (List ℕ)) (i : ℕ) (line : List ℕ) (b : NamesBefore) (bytes : ℕ)
     → slice_get near i ≡ Some line → line_fault (types_near near far) b bytes (line_of line)
     ≡ line_fault (types_of (near ++ far)) b bytes (line_of line)
 near_judges near far i line b bytes get =
     fault_agrees (types_near near far) (types_of (near ++ far)) b bytes (line_of line)
-    (λ l is. line_agrees near far l (λ n h. used_at n near i line get (ap (λ (o : Option Line). is_among n (used_by_line o)) is ∙ h)))
+    (λ l is. line_agrees near far l (λ n h. used_at n near i line get (ap (λ (o : Option TableLine). is_among n (used_by_line o)) is ∙ h)))
 
 -- ---- no line after the near ones is reached
 
-few_to : (text : List ℕ) (k : ℕ) → k ≤ length (whole_lines text) → IsReached text k → bytes_of (take k (whole_lines text)) ≤ 65536
+few_to : (text : List ℕ) (k : ℕ) → k ≤ length (whole_lines text) → HasNoFaultBefore text k → bytes_of_lines (take k (whole_lines text)) ≤ 65536
 few_to text zero within clean = omega arith
 few_to text (suc k) within clean =
     let ls = whole_lines text in
     let at = some_line text k (omega arith) in
-    let bytes = bytes_of (take k ls) + length at.0 + 1 in
-    let none = sym (here_is ls (rest_of text) k at.0 at.1 at.2) ∙ clean k (omega arith) in
-    let few : bytes ≤ 65536 = few_bytes (types_of ls) (before_of (take k ls)) bytes (line_of at.0) none in
-    omega (arith, few, ap bytes_of (take_drop ls k at.0 at.1 at.2), bytes_push (take k ls) at.0)
+    let bytes = bytes_of_lines (take k ls) + length at.0 + 1 in
+    let none = sym (here_is ls (remainder_of text) k at.0 at.1 at.2) ∙ clean k (omega arith) in
+    let few : bytes ≤ 65536 = few_bytes (types_of ls) (names_in_lines (take k ls)) bytes (line_of at.0) none in
+    omega (arith, few, ap bytes_of_lines (take_drop ls k at.0 at.1 at.2), bytes_push (take k ls) at.0)
 
-past_near : (text near far : List ℕ) → AreLongParts text near far → (k : ℕ) → length (whole_lines near) ≤ k → IsReached text k → ⊥
+past_near : (text near far : List ℕ) → AreLongParts text near far → (k : ℕ) → length (whole_lines near) ≤ k → HasNoFaultBefore text k → ⊥
 past_near text near far long k le clean =
     let front : take (length (whole_lines near)) (whole_lines text) ≡ whole_lines near =
     ap (take (length (whole_lines near))) long.lines ∙ take-append_seam (whole_lines near) (whole_lines far) in
@@ -242,14 +242,14 @@ past_near text near far long k le clean =
     (omega (arith, ap (length {A = List ℕ}) long.lines, length-append (whole_lines near) (whole_lines far)))
     (λ j less. clean j (omega arith)) in
     let passes = long.passes in
-    absurd (omega (arith, few, ap bytes_of front, passes))
+    absurd (omega (arith, few, ap bytes_of_lines front, passes))
 
 get_front : {X : Type 0} (xs ys : List X) (i : ℕ) (x : X) → i < length xs → slice_get (xs ++ ys) i ≡ Some x → slice_get xs i ≡ Some x
 get_front [] ys i x less get = absurd (omega arith)
 get_front (z ∷ zs) ys zero x less get = get
 get_front (z ∷ zs) ys (suc i) x less get = get_front zs ys i x (omega arith) get
 
-pub near_serves : (text near far : List ℕ) → AreLongParts text near far → Serves (types_near (whole_lines near) (whole_lines far)) text
+pub near_serves : (text near far : List ℕ) → AreLongParts text near far → IsSufficient (types_near (whole_lines near) (whole_lines far)) text
 near_serves text near far long = record {
   judges = λ i line b bytes reached get. elim (cases_lt i (length (whole_lines near))) [
     | inl within ↦
@@ -260,5 +260,5 @@ near_serves text near far long = record {
   whole = λ clean. absurd (past_near text near far long (length (whole_lines near)) (omega arith) (λ j less. clean j));
 }
 
-pub all_serve : (text : List ℕ) → Serves (types_of (whole_lines text)) text
+pub all_serve : (text : List ℕ) → IsSufficient (types_of (whole_lines text)) text
 all_serve text = record { judges = λ i line b bytes reached get. refl; whole = λ clean. refl }

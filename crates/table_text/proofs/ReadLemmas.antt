@@ -3,8 +3,8 @@ use Rattle.std.proofs.Common.{◌≡◌, ℕ, ◌-◌, List, Some, None, Result,
 use Rattle.std.specs.Prelude.{IfOk, IfErr, OnOk, MatchResult}
 use Rattle.mrpc_table.specs.Lines.{whole_lines}
 use Rattle.mrpc_table.specs.Text.{table_text}
-use Rattle.mrpc_table.specs.Valid.{IsValid, HaveOneTextEach}
-use Rattle.table_text.specs.Judged.{IsJudgedOf}
+use Rattle.mrpc_table.specs.Valid.{IsValid, HasUniqueTexts}
+use Rattle.table_text.specs.LineTests.{IsFaultFound}
 use Rattle.table_text.specs.Drafts.{table_in}
 use Rattle.mrpc_table.specs.declared.table.Table.{Table}
 use Rattle.table_text.specs.declared.fault.TableFault.{TableFault}
@@ -18,12 +18,12 @@ is_accepted text (Ok t) is clean = subst (λ (u : Table). IsValid u × (text ≡
 is_accepted text (Err e) is clean = tt
 
 pub is_only : (text : List ℕ) (r : Result Table TableFault) → IfOk r (λ t. t ≡ table_in (whole_lines text))
-    → IfErr r (λ e. IsJudgedOf text e) → (t : Table) → IsValid t → text ≡ table_text t
+    → IfErr r (λ e. IsFaultFound text e) → (t : Table) → IsValid t → text ≡ table_text t
     → MatchResult r (λ u. u ≡ t) (λ e. e ≡ fault.Memory)
 is_only text (Ok u) is faults t valid e = is ∙ (complete t text valid e).1
 is_only text (Err (fault.At line reason)) is faults t valid e =
     let clash : None ≡ Some reason = sym ((complete t text valid e).0 (line - 1)) ∙ faults.here in absurd cc
 is_only text (Err fault.Memory) is faults t valid e = refl
 
-pub one_each : HaveOneTextEach
+pub one_each : HasUniqueTexts
 one_each T U valid_T valid_U e = sym (complete T (table_text T) valid_T refl).1 ∙ (complete U (table_text T) valid_U e).1

@@ -14,19 +14,19 @@ use Rattle.std.proofs.lemmas.Bool.{leb-true, leb-false, ltb-true, ltb-false, eqb
 use Rattle.mrpc_table.specs.Names.{is_name_form, is_full_form, is_short, is_short_full, IsName, IsFullName}
 use Rattle.mrpc_table.specs.Words.{is_numeric, is_key}
 use Rattle.mrpc_table.specs.declared.limits.TheConstants.{MAX_FIELD_NUMBER, FIRST_RESERVED_NUMBER, LAST_RESERVED_NUMBER}
-use Rattle.mrpc_table.specs.Valid.{Ascends, AreDistinct, IsBelow, IsValueBelow, IsFieldNumber, IsKnown, IsMessageKind, GoesWith, Joins, OneofsFollow, IsField, IsMessage, IsEnum, IsMethod}
-use Rattle.table_text.specs.Judged as faults
+use Rattle.mrpc_table.specs.Valid.{IsAscendingBy, AreDistinct, IsBelow, IsValueBelow, IsFieldNumber, IsKnown, IsMessageKind, IsLabelFor, IsNextOneof, AreOneofsInOrder, IsField, IsMessage, IsEnum, IsMethod}
+use Rattle.table_text.specs.LineTests as faults
 use Rattle.table_text.proofs.TableFacts.{follow_le}
 use Rattle.table_text.proofs.TableFacts.{both_left, both_right}
-use Rattle.table_text.specs.Faults.{is_packable, is_key_kind}
-use Rattle.table_text.specs.Judged.{fields, method_key, field_falls, is_field_below, repeats_number, is_field_before}
-use Rattle.table_text.specs.Judged.{open_count, Types, Before, is_among, is_empty, is_value_below, falls, last_of}
-use Rattle.table_text.specs.Judged.{lacks_value, lacks_zero, has_field_number, is_index, clashes}
-use Rattle.table_text.specs.Judged.{is_message_word, is_unknown_kind, is_unknown_label}
-use Rattle.table_text.specs.Judged.{is_map_key_label, is_short_kind, is_short_label}
-use Rattle.table_text.specs.Places.{place}
-use Rattle.table_text.specs.Drafts.{open_part, enum_names, message_names, method_names, before, resolved, labeled}
-use Rattle.table_text.specs.Drafts.{new_oneof, joined_with, field_of, method_of, with_enum, with_message, with_field}
+use Rattle.table_text.specs.Faults.{is_packable_word, is_key_kind}
+use Rattle.table_text.specs.LineTests.{fields, method_key, is_field_out_of_order, is_field_below, repeats_number, is_field_before}
+use Rattle.table_text.specs.LineTests.{open_count, TypeNames, NamesBefore, is_among, is_empty, is_value_below, is_below_last, last_of}
+use Rattle.table_text.specs.LineTests.{lacks_value, lacks_zero, has_field_number, is_index, clashes}
+use Rattle.table_text.specs.LineTests.{is_message_word, is_unknown_kind, is_unknown_label}
+use Rattle.table_text.specs.LineTests.{is_map_key_label, is_short_kind, is_short_label}
+use Rattle.table_text.specs.NameIndex.{index_or_next}
+use Rattle.table_text.specs.Drafts.{open_part, enum_names, message_names, method_names, names_before_line, resolved, labeled}
+use Rattle.table_text.specs.Drafts.{new_oneof, joined_with, resolved_field, resolved_method, with_enum, with_message, with_field_line}
 use Rattle.table_text.specs.Drafts.{with_part, added_enum, added_message, added_method}
 use Rattle.mrpc_table.specs.declared.table.Kind.{Kind}
 use Rattle.mrpc_table.specs.declared.table.Kind.TheVariants.{Int32, Int64, Uint32, Uint64, Sint32, Sint64}
@@ -44,13 +44,13 @@ use Rattle.table_text.specs.declared.line.KindWord.{KindWord}
 use Rattle.table_text.specs.declared.line.KindWord.TheVariants as kinds
 use Rattle.table_text.specs.declared.line.LabelWord.{LabelWord}
 use Rattle.table_text.specs.declared.line.LabelWord.TheVariants as labels
-use Rattle.table_text.specs.declared.line.Whole.TheVariants.{Within}
+use Rattle.table_text.specs.declared.line.EnumNumber.TheVariants.{Within}
 use Rattle.table_text.specs.declared.line.FieldLine.{FieldLine}
 use Rattle.table_text.specs.declared.line.MethodLine.{MethodLine}
-use Rattle.table_text.specs.declared.line.Line.TheVariants.{Enum, Value, Message, Field, Method}
-use Rattle.table_text.specs.declared.draft.Open.{Open}
-use Rattle.table_text.specs.declared.draft.Open.TheVariants as open_parts
-use Rattle.table_text.specs.declared.draft.Draft.{Draft}
+use Rattle.table_text.specs.declared.line.TableLine.TheVariants.{Enum, Value, Message, Field, Method}
+use Rattle.table_text.specs.declared.draft.OpenPart.{OpenPart}
+use Rattle.table_text.specs.declared.draft.OpenPart.TheVariants as open_parts
+use Rattle.table_text.specs.declared.draft.TableDraft.{TableDraft}
 use Rattle.table_text.proofs.KeptLemmas.{map_push, closed_enums, closed_messages, numbered}
 use Rattle.table_text.proofs.LastLemmas.{last-map}
 use Rattle.table_text.proofs.OrderLemmas.{ascends_push, distinct_push, contains_first, contains_later, not_among, falls_not, value_not_below, int_equal, other_name}
@@ -66,22 +66,22 @@ pub record IsGrowing (c : Choices) : Type 0 where
   pub few : length c.values ≤ 1024
   pub numbers : All (λ v. FitsSigned w32 v.0) c.values
   pub each_name : All (λ v. IsName v.1) c.values
-  pub ascend : Ascends IsValueBelow c.values
+  pub ascend : IsAscendingBy IsValueBelow c.values
   pub names : AreDistinct (map (λ v. v.1) c.values)
 
-abbrev pub IsPart : Types → Open → Type 0
+abbrev pub IsPart : TypeNames → OpenPart → Type 0
 IsPart t (open_parts.Enum c) = IsGrowing c
 IsPart t (open_parts.Message m) = IsMessage (names_table t) m
 IsPart t open_parts.Nothing = Unit {0}
 
-abbrev pub IsOrdered : Open → Draft → Type 0
+abbrev pub IsOrdered : OpenPart → TableDraft → Type 0
 IsOrdered (open_parts.Enum c) d = (d.messages ≡ []) × (d.methods ≡ [])
 IsOrdered (open_parts.Message m) d = d.methods ≡ []
 IsOrdered open_parts.Nothing d = Unit {0}
 
-pub record IsSound (t : Types) (d : Draft) : Type 0 where
-  pub enums_up : Ascends IsBelow (enum_names d)
-  pub messages_up : Ascends IsBelow (message_names d)
+pub record IsSound (t : TypeNames) (d : TableDraft) : Type 0 where
+  pub enums_up : IsAscendingBy IsBelow (enum_names d)
+  pub messages_up : IsAscendingBy IsBelow (message_names d)
   pub distinct : AreDistinct (enum_names d ++ message_names d)
   pub methods_distinct : AreDistinct (method_names d)
   pub few_enums : length (enum_names d) ≤ 256
@@ -108,7 +108,7 @@ zero_contained (v ∷ vs) e =
     ] refl e
 
 -- the open part as a finished one
-pub whole_enums : (t : Types) (o : Open) (es : List Choices) → IsPart t o → lacks_value (open_part o) ≡ false
+pub whole_enums : (t : TypeNames) (o : OpenPart) (es : List Choices) → IsPart t o → lacks_value (open_part o) ≡ false
     → lacks_zero (open_part o) ≡ false → All IsEnum es → All IsEnum (with_enum o es)
 whole_enums t (open_parts.Enum c) es part some zero_in all =
     All-push IsEnum es c all (record {
@@ -123,7 +123,7 @@ whole_enums t (open_parts.Enum c) es part some zero_in all =
 whole_enums t (open_parts.Message m) es part some zero_in all = all
 whole_enums t open_parts.Nothing es part some zero_in all = all
 
-pub whole_messages : (t : Types) (o : Open) (ms : List TheMessage) → IsPart t o → All (IsMessage (names_table t)) ms → All (IsMessage (names_table t)) (with_message o ms)
+pub whole_messages : (t : TypeNames) (o : OpenPart) (ms : List TheMessage) → IsPart t o → All (IsMessage (names_table t)) ms → All (IsMessage (names_table t)) (with_message o ms)
 whole_messages t (open_parts.Message m) ms part all = All-push (IsMessage (names_table t)) ms m all part
 whole_messages t (open_parts.Enum c) ms part all = all
 whole_messages t open_parts.Nothing ms part all = all
@@ -151,13 +151,13 @@ distinct_message es ms n d new_enum new_message =
           new_message b
     ]))
 
-pub sound_enum : (t : Types) (d : Draft) (bytes : ℕ) (n : List ℕ) → IsSound t d → IsTrue (is_full_form n) → IsClean t (before d) bytes (Enum n) → IsSound t (added_enum d n)
+pub sound_enum : (t : TypeNames) (d : TableDraft) (bytes : ℕ) (n : List ℕ) → IsSound t d → IsTrue (is_full_form n) → IsClean t (names_before_line d) bytes (Enum n) → IsSound t (added_enum d n)
 sound_enum t d bytes n s form h =
     let o = d.open_part in
     let es = with_enum o d.enums in
     let ms = with_message o d.messages in
-    let front = left_no ((lacks_value (open_part o) || not (is_empty (message_names d))) || not (is_empty (method_names d))) (falls n (enum_names d)) h.syntax in
-    let falls_none = right_no ((lacks_value (open_part o) || not (is_empty (message_names d))) || not (is_empty (method_names d))) (falls n (enum_names d)) h.syntax in
+    let front = left_no ((lacks_value (open_part o) || not (is_empty (message_names d))) || not (is_empty (method_names d))) (is_below_last n (enum_names d)) h.syntax in
+    let falls_none = right_no ((lacks_value (open_part o) || not (is_empty (message_names d))) || not (is_empty (method_names d))) (is_below_last n (enum_names d)) h.syntax in
     let parts = left_no (lacks_value (open_part o) || not (is_empty (message_names d))) (not (is_empty (method_names d))) front in
     let no_methods : method_names d ≡ [] = empty_is (method_names d) (right_no (lacks_value (open_part o) || not (is_empty (message_names d))) (not (is_empty (method_names d))) front) in
     let no_messages : message_names d ≡ [] = empty_is (message_names d) (right_no (lacks_value (open_part o)) (not (is_empty (message_names d))) parts) in
@@ -173,8 +173,8 @@ sound_enum t d bytes n s form h =
     let none_whole : ms ≡ [] = no_names (λ m. m.name) ms (closed_messages o d.messages ∙ no_messages) in
     let none_methods : d.methods ≡ [] = no_names (λ m. m.service ++ 32 ∷ m.name) d.methods no_methods in
     record {
-      enums_up = subst (Ascends IsBelow) (sym names) (ascends_push IsBelow (enum_names d) n s.enums_up (falls_not n (enum_names d) falls_none new_enum));
-      messages_up = subst (Ascends IsBelow) (sym messages) s.messages_up;
+      enums_up = subst (IsAscendingBy IsBelow) (sym names) (ascends_push IsBelow (enum_names d) n s.enums_up (falls_not n (enum_names d) falls_none new_enum));
+      messages_up = subst (IsAscendingBy IsBelow) (sym messages) s.messages_up;
       distinct = subst AreDistinct
           (sym (ap (λ (xs : List (List ℕ)). xs ++ (map (λ m. m.name) ms ++ [])) names
           ∙ ap (λ (xs : List (List ℕ)). (enum_names d ++ n ∷ []) ++ xs) messages))
@@ -197,14 +197,14 @@ sound_enum t d bytes n s form h =
       ordered = (none_whole, none_methods);
     }
 
-pub sound_message : (t : Types) (d : Draft) (bytes : ℕ) (n : List ℕ) → IsSound t d → IsTrue (is_full_form n)
-    → IsClean t (before d) bytes (Message n) → IsSound t (added_message d n)
+pub sound_message : (t : TypeNames) (d : TableDraft) (bytes : ℕ) (n : List ℕ) → IsSound t d → IsTrue (is_full_form n)
+    → IsClean t (names_before_line d) bytes (Message n) → IsSound t (added_message d n)
 sound_message t d bytes n s form h =
     let o = d.open_part in
     let es = with_enum o d.enums in
     let ms = with_message o d.messages in
-    let front = left_no (lacks_value (open_part o) || not (is_empty (method_names d))) (falls n (message_names d)) h.syntax in
-    let falls_none = right_no (lacks_value (open_part o) || not (is_empty (method_names d))) (falls n (message_names d)) h.syntax in
+    let front = left_no (lacks_value (open_part o) || not (is_empty (method_names d))) (is_below_last n (message_names d)) h.syntax in
+    let falls_none = right_no (lacks_value (open_part o) || not (is_empty (method_names d))) (is_below_last n (message_names d)) h.syntax in
     let no_methods : method_names d ≡ [] = empty_is (method_names d) (right_no (lacks_value (open_part o)) (not (is_empty (method_names d))) front) in
     let some = left_no (lacks_value (open_part o)) (not (is_empty (method_names d))) front in
     let new_enum = left_no (is_among n (enum_names d)) (is_among n (message_names d)) h.duplicate in
@@ -218,8 +218,8 @@ sound_message t d bytes n s form h =
     let names : map (λ m. m.name) ms ++ n ∷ [] ≡ message_names d ++ n ∷ [] = ap (λ (xs : List (List ℕ)). xs ++ n ∷ []) (closed_messages o d.messages) in
     let none_methods : d.methods ≡ [] = no_names (λ m. m.service ++ 32 ∷ m.name) d.methods no_methods in
     record {
-      enums_up = subst (Ascends IsBelow) (sym enums) s.enums_up;
-      messages_up = subst (Ascends IsBelow) (sym names) (ascends_push IsBelow (message_names d) n s.messages_up (falls_not n (message_names d) falls_none new_message));
+      enums_up = subst (IsAscendingBy IsBelow) (sym enums) s.enums_up;
+      messages_up = subst (IsAscendingBy IsBelow) (sym names) (ascends_push IsBelow (message_names d) n s.messages_up (falls_not n (message_names d) falls_none new_message));
       distinct = subst AreDistinct
           (sym (ap (λ (xs : List (List ℕ)). xs ++ (map (λ m. m.name) ms ++ n ∷ [])) enums
           ∙ ap (λ (xs : List (List ℕ)). enum_names d ++ xs) names))
@@ -264,9 +264,9 @@ grown c z n g fits name few up new = record {
       (distinct_push (map (λ v. v.1) c.values) n g.names (not_among n (map (λ v. v.1) c.values) new));
 }
 
-pub sound_value : (t : Types) (d : Draft) (c : Choices) (bytes : ℕ) (z : ℤ) (n : List ℕ)
+pub sound_value : (t : TypeNames) (d : TableDraft) (c : Choices) (bytes : ℕ) (z : ℤ) (n : List ℕ)
     → IsSound t (with_part d (open_parts.Enum c)) → FitsSigned w32 z → IsTrue (is_name_form n)
-    → IsClean t (before (with_part d (open_parts.Enum c))) bytes (Value (Within z) n)
+    → IsClean t (names_before_line (with_part d (open_parts.Enum c))) bytes (Value (Within z) n)
     → IsSound t (with_part d (open_parts.Enum (record { name = c.name; values = c.values ++ (z, n) ∷ [] })))
 sound_value t d c bytes z n s fits form h = record {
   enums_up = s.enums_up;
@@ -290,7 +290,7 @@ sound_value t d c bytes z n s fits form h = record {
 
 -- ---- oneofs that grow
 
-joins_map : (met : ℕ) (l : Label) (A B C D : Type 0) → (A → C) → (B → D) → Joins met l A B → Joins met l C D
+joins_map : (met : ℕ) (l : Label) (A B C D : Type 0) → (A → C) → (B → D) → IsNextOneof met l A B → IsNextOneof met l C D
 joins_map met Plain A B C D f g h = f h
 joins_map met Optional A B C D f g h = f h
 joins_map met Repeated A B C D f g h = f h
@@ -298,35 +298,35 @@ joins_map met Packed A B C D f g h = f h
 joins_map met (Map k) A B C D f g h = f h
 joins_map met (Member o) A B C D f g h = elim h [ inl old ↦ inl (old.0, f old.1) | inr new ↦ inr (new.0, g new.1) ]
 
-follow_same : (met all : ℕ) (fs : List TheField) (f : TheField) → Joins all f.label (all ≡ all) (all + 1 ≡ all) → OneofsFollow met all fs → OneofsFollow met all (fs ++ f ∷ [])
-follow_same met all [] f last h = subst (λ (k : ℕ). Joins k f.label (k ≡ all) (k + 1 ≡ all)) (sym h) last
+follow_same : (met all : ℕ) (fs : List TheField) (f : TheField) → IsNextOneof all f.label (all ≡ all) (all + 1 ≡ all) → AreOneofsInOrder met all fs → AreOneofsInOrder met all (fs ++ f ∷ [])
+follow_same met all [] f last h = subst (λ (k : ℕ). IsNextOneof k f.label (k ≡ all) (k + 1 ≡ all)) (sym h) last
 follow_same met all (g ∷ gs) f last h =
-    joins_map met g.label (OneofsFollow met all gs) (OneofsFollow (met + 1) all gs)
-    (OneofsFollow met all (gs ++ f ∷ [])) (OneofsFollow (met + 1) all (gs ++ f ∷ [])) (follow_same met all gs f last)
+    joins_map met g.label (AreOneofsInOrder met all gs) (AreOneofsInOrder (met + 1) all gs)
+    (AreOneofsInOrder met all (gs ++ f ∷ [])) (AreOneofsInOrder (met + 1) all (gs ++ f ∷ [])) (follow_same met all gs f last)
     (follow_same (met + 1) all gs f last) h
 
-follow_new : (met all : ℕ) (fs : List TheField) (f : TheField) → Joins all f.label (all ≡ all + 1) (all + 1 ≡ all + 1)
-    → OneofsFollow met all fs → OneofsFollow met (all + 1) (fs ++ f ∷ [])
-follow_new met all [] f last h = subst (λ (k : ℕ). Joins k f.label (k ≡ all + 1) (k + 1 ≡ all + 1)) (sym h) last
-follow_new met all (g ∷ gs) f last h = joins_map met g.label (OneofsFollow met all gs) (OneofsFollow (met + 1) all gs)
-    (OneofsFollow met (all + 1) (gs ++ f ∷ [])) (OneofsFollow (met + 1) (all + 1) (gs ++ f ∷ []))
+follow_new : (met all : ℕ) (fs : List TheField) (f : TheField) → IsNextOneof all f.label (all ≡ all + 1) (all + 1 ≡ all + 1)
+    → AreOneofsInOrder met all fs → AreOneofsInOrder met (all + 1) (fs ++ f ∷ [])
+follow_new met all [] f last h = subst (λ (k : ℕ). IsNextOneof k f.label (k ≡ all + 1) (k + 1 ≡ all + 1)) (sym h) last
+follow_new met all (g ∷ gs) f last h = joins_map met g.label (AreOneofsInOrder met all gs) (AreOneofsInOrder (met + 1) all gs)
+    (AreOneofsInOrder met (all + 1) (gs ++ f ∷ [])) (AreOneofsInOrder (met + 1) (all + 1) (gs ++ f ∷ []))
     (follow_new met all gs f last) (follow_new (met + 1) all gs f last) h
 
 record OneofsGrown (oneofs more : List (List ℕ)) (fs : List TheField) : Type 0 where
   names : All IsName more
   distinct : AreDistinct more
-  follow : OneofsFollow 0 (length more) fs
+  follow : AreOneofsInOrder 0 (length more) fs
   longer : length oneofs ≤ length more
 
-oneofs_grown : (t : Types) (oneofs : List (List ℕ)) (fs : List TheField) (f : TheField) (l : LabelWord) (w : List ℕ)
+oneofs_grown : (t : TypeNames) (oneofs : List (List ℕ)) (fs : List TheField) (f : TheField) (l : LabelWord) (w : List ℕ)
     → f.label ≡ labeled t oneofs l → length oneofs ≤ 128 → LabelIs w l → is_short_label l ≡ true
-    → All IsName oneofs → AreDistinct oneofs → OneofsFollow 0 (length oneofs) fs → OneofsGrown oneofs (joined_with oneofs (new_oneof oneofs l)) (fs ++ f ∷ [])
+    → All IsName oneofs → AreDistinct oneofs → AreOneofsInOrder 0 (length oneofs) fs → OneofsGrown oneofs (joined_with oneofs (new_oneof oneofs l)) (fs ++ f ∷ [])
 oneofs_grown t oneofs fs f labels.Plain w is few h short names distinct follow =
     record {
       names = names;
       distinct = distinct;
       follow = follow_same 0 (length oneofs) fs f
-          (subst (λ (l : Label). Joins (length oneofs) l (length oneofs ≡ length oneofs)
+          (subst (λ (l : Label). IsNextOneof (length oneofs) l (length oneofs ≡ length oneofs)
           (length oneofs + 1 ≡ length oneofs)) (sym is) refl) follow;
       longer = omega arith;
     }
@@ -335,7 +335,7 @@ oneofs_grown t oneofs fs f labels.Optional w is few h short names distinct follo
       names = names;
       distinct = distinct;
       follow = follow_same 0 (length oneofs) fs f
-          (subst (λ (l : Label). Joins (length oneofs) l (length oneofs ≡ length oneofs)
+          (subst (λ (l : Label). IsNextOneof (length oneofs) l (length oneofs ≡ length oneofs)
           (length oneofs + 1 ≡ length oneofs)) (sym is) refl) follow;
       longer = omega arith;
     }
@@ -344,7 +344,7 @@ oneofs_grown t oneofs fs f labels.Repeated w is few h short names distinct follo
       names = names;
       distinct = distinct;
       follow = follow_same 0 (length oneofs) fs f
-          (subst (λ (l : Label). Joins (length oneofs) l (length oneofs ≡ length oneofs)
+          (subst (λ (l : Label). IsNextOneof (length oneofs) l (length oneofs ≡ length oneofs)
           (length oneofs + 1 ≡ length oneofs)) (sym is) refl) follow;
       longer = omega arith;
     }
@@ -353,7 +353,7 @@ oneofs_grown t oneofs fs f labels.Packed w is few h short names distinct follow 
       names = names;
       distinct = distinct;
       follow = follow_same 0 (length oneofs) fs f
-          (subst (λ (l : Label). Joins (length oneofs) l (length oneofs ≡ length oneofs)
+          (subst (λ (l : Label). IsNextOneof (length oneofs) l (length oneofs ≡ length oneofs)
           (length oneofs + 1 ≡ length oneofs)) (sym is) refl) follow;
       longer = omega arith;
     }
@@ -362,7 +362,7 @@ oneofs_grown t oneofs fs f (labels.Map k) w is few h short names distinct follow
       names = names;
       distinct = distinct;
       follow = follow_same 0 (length oneofs) fs f
-          (subst (λ (l : Label). Joins (length oneofs) l (length oneofs ≡ length oneofs)
+          (subst (λ (l : Label). IsNextOneof (length oneofs) l (length oneofs ≡ length oneofs)
           (length oneofs + 1 ≡ length oneofs)) (sym is) refl) follow;
       longer = omega arith;
     }
@@ -374,19 +374,19 @@ oneofs_grown t oneofs fs f (labels.Member n) w is few h short names distinct fol
             names = names;
             distinct = distinct;
             follow = follow_same 0 (length oneofs) fs f
-                (subst (λ (l : Label). Joins (length oneofs) l (length oneofs ≡ length oneofs)
+                (subst (λ (l : Label). IsNextOneof (length oneofs) l (length oneofs ≡ length oneofs)
                 (length oneofs + 1 ≡ length oneofs)) (sym is) (inl (p.0, refl))) follow;
             longer = omega arith;
           }
       | false ↦ λ new.
-          let at : place n oneofs ≡ length oneofs = member_new n oneofs few new in
+          let at : index_or_next n oneofs ≡ length oneofs = member_new n oneofs few new in
           let more : length (oneofs ++ n ∷ []) ≡ length oneofs + 1 = length_push oneofs n in
           record {
             names = All-push IsName oneofs n names (record { form = h.1; short = leb-true (length n) 64 short });
             distinct = distinct_push oneofs n distinct (not_among n oneofs new);
-            follow = subst (λ (k : ℕ). OneofsFollow 0 k (fs ++ f ∷ [])) (sym more)
+            follow = subst (λ (k : ℕ). AreOneofsInOrder 0 k (fs ++ f ∷ [])) (sym more)
                 (follow_new 0 (length oneofs) fs f
-                (subst (λ (l : Label). Joins (length oneofs) l (length oneofs ≡ length oneofs + 1)
+                (subst (λ (l : Label). IsNextOneof (length oneofs) l (length oneofs ≡ length oneofs + 1)
                 (length oneofs + 1 ≡ length oneofs + 1)) (sym is) (inr (at, refl))) follow);
             longer = omega (arith, more);
           }
@@ -394,7 +394,7 @@ oneofs_grown t oneofs fs f (labels.Member n) w is few h short names distinct fol
 
 -- ---- a field of known types
 
-kind_known : (t : Types) (w : List ℕ) (k : KindWord) → IsSmall t → KindIs w k → is_unknown_kind t k ≡ false → IsKnown (names_table t) (resolved t k)
+kind_known : (t : TypeNames) (w : List ℕ) (k : KindWord) → IsSmall t → KindIs w k → is_unknown_kind t k ≡ false → IsKnown (names_table t) (resolved t k)
 kind_known t w (kinds.Scalar Int32) small h known = tt
 kind_known t w (kinds.Scalar Int64) small h known = tt
 kind_known t w (kinds.Scalar Uint32) small h known = tt
@@ -438,44 +438,44 @@ not_message Double h m = m
 not_message Text h m = m
 not_message Octets h m = m
 
-optional_goes : (t : Types) (w : List ℕ) (k : KindWord) → KindIs w k → is_message_word k ≡ false → IsMessageKind (resolved t k) → ⊥
+optional_goes : (t : TypeNames) (w : List ℕ) (k : KindWord) → KindIs w k → is_message_word k ≡ false → IsMessageKind (resolved t k) → ⊥
 optional_goes t w (kinds.Scalar k) h e m = not_message k h.1 m
 optional_goes t w (kinds.Message n) h e m = absurd cc
 optional_goes t w (kinds.Choice n) h e m = m
 
-packed_goes : (t : Types) (k : KindWord) → is_packable k ≡ true → IsTrue (is_numeric (resolved t k))
+packed_goes : (t : TypeNames) (k : KindWord) → is_packable_word k ≡ true → IsTrue (is_numeric (resolved t k))
 packed_goes t (kinds.Scalar k) e = e
 packed_goes t (kinds.Message n) e = absurd cc
 packed_goes t (kinds.Choice n) e = refl
 
-key_goes : (t : Types) (k : KindWord) → is_key_kind k ≡ true → IsTrue (is_key (resolved t k))
+key_goes : (t : TypeNames) (k : KindWord) → is_key_kind k ≡ true → IsTrue (is_key (resolved t k))
 key_goes t (kinds.Scalar k) e = e
 key_goes t (kinds.Message n) e = absurd cc
 key_goes t (kinds.Choice n) e = absurd cc
 
-label_goes : (t : Types) (oneofs : List (List ℕ)) (l : LabelWord) (k : KindWord) (kw : List ℕ) → length oneofs ≤ 128
+label_goes : (t : TypeNames) (oneofs : List (List ℕ)) (l : LabelWord) (k : KindWord) (kw : List ℕ) → length oneofs ≤ 128
     → KindIs kw k → clashes l k ≡ false → is_map_key_label l ≡ false
-    → GoesWith (length (joined_with oneofs (new_oneof oneofs l))) (labeled t oneofs l) (resolved t k)
+    → IsLabelFor (length (joined_with oneofs (new_oneof oneofs l))) (labeled t oneofs l) (resolved t k)
 label_goes t oneofs labels.Plain k kw few h clash key = tt
 label_goes t oneofs labels.Optional k kw few h clash key = optional_goes t kw k h clash
 label_goes t oneofs labels.Repeated k kw few h clash key = tt
-label_goes t oneofs labels.Packed k kw few h clash key = packed_goes t k (not_no (is_packable k) clash)
+label_goes t oneofs labels.Packed k kw few h clash key = packed_goes t k (not_no (is_packable_word k) clash)
 label_goes t oneofs (labels.Map j) k kw few h clash key = key_goes t j (not_no (is_key_kind j) key)
 label_goes t oneofs (labels.Member n) k kw few h clash key =
-    elim (is_among n oneofs) as (λ (b : Bool). is_among n oneofs ≡ b → place n oneofs < length (joined_with oneofs (cond b None (Some n)))) [
+    elim (is_among n oneofs) as (λ (b : Bool). is_among n oneofs ≡ b → index_or_next n oneofs < length (joined_with oneofs (cond b None (Some n)))) [
       | true ↦ λ known. (place_known n oneofs (omega arith) known).0
       | false ↦ λ new. omega (arith, member_new n oneofs few new, length_push oneofs n)
     ] refl
 
-last_below : (fs : List TheField) (n : ℕ) (last : TheField) → field_falls (fields (map numbered fs)) (Some n) ≡ false
+last_below : (fs : List TheField) (n : ℕ) (last : TheField) → is_field_out_of_order (fields (map numbered fs)) (Some n) ≡ false
     → repeats_number (fields (map numbered fs)) (Some n) ≡ false → last_of fs ≡ Some last → last.number < n
-last_below fs n last falls repeats e =
+last_below fs n last is_below_last repeats e =
     let at : last_of (map numbered fs) ≡ Some (numbered last) = last-map numbered fs ∙ ap (option_map numbered) e in
-    let below : nat_lt n last.number ≡ false = at_last (is_field_below (Some n)) (map numbered fs) (numbered last) falls at in
+    let below : nat_lt n last.number ≡ false = at_last (is_field_below (Some n)) (map numbered fs) (numbered last) is_below_last at in
     let other : (n == last.number) ≡ false = at_last (λ (l : ℕ × List ℕ). is_index (Some n) l.0) (map numbered fs) (numbered last) repeats at in
     omega (arith, ltb-false n last.number below, eqb-false n last.number other)
 
-goes_more : (a b : ℕ) (l : Label) (k : Kind) → a ≤ b → GoesWith a l k → GoesWith b l k
+goes_more : (a b : ℕ) (l : Label) (k : Kind) → a ≤ b → IsLabelFor a l k → IsLabelFor b l k
 goes_more a b Plain k le h = tt
 goes_more a b Optional k le h = h
 goes_more a b Repeated k le h = tt
@@ -483,7 +483,7 @@ goes_more a b Packed k le h = h
 goes_more a b (Map j) k le h = h
 goes_more a b (Member o) k le h = omega (arith, h)
 
-goes_placed : (a : ℕ) (l : Label) (k : Kind) → GoesWith a l k → LabelPlaced a l
+goes_placed : (a : ℕ) (l : Label) (k : Kind) → IsLabelFor a l k → LabelPlaced a l
 goes_placed a Plain k h = tt
 goes_placed a Optional k h = tt
 goes_placed a Repeated k h = tt
@@ -523,25 +523,25 @@ placed_all N m h = recursion_from_All (λ (f : TheField). LabelPlaced (length m.
 pub few_oneofs : (N : Table) (m : TheMessage) → IsMessage N m → length m.oneofs ≤ 128
 few_oneofs N m h = omega (arith, follow_le 0 (length m.oneofs) m.fields h.oneof_order, h.few)
 
-message_grown : (t : Types) (m : TheMessage) (n : ℕ) (f : FieldLine) (lw kw : List ℕ) (bytes : ℕ) (b : Before)
+message_grown : (t : TypeNames) (m : TheMessage) (n : ℕ) (f : FieldLine) (lw kw : List ℕ) (bytes : ℕ) (b : NamesBefore)
     → b.open_part ≡ open_part (open_parts.Message m) → IsSmall t → IsMessage (names_table t) m → f.number ≡ Some n
     → LabelIs lw f.label → KindIs kw f.kind → IsTrue (is_name_form f.name)
     → IsClean t b bytes (Field f)
     → IsMessage (names_table t) (record {
       name = m.name;
-      fields = m.fields ++ field_of t m.oneofs n f ∷ [];
+      fields = m.fields ++ resolved_field t m.oneofs n f ∷ [];
       oneofs = joined_with m.oneofs (new_oneof m.oneofs f.label);
     })
 message_grown t m n f lw kw bytes b part small ok number label kind form h =
     let N = names_table t in
-    let g = field_of t m.oneofs n f in
+    let g = resolved_field t m.oneofs n f in
     let here = map numbered m.fields in
     let few = few_oneofs N m ok in
-    let clash = left_no (clashes f.label f.kind) (field_falls b.open_part f.number) h.syntax in
-    let falls : field_falls (fields here) (Some n) ≡ false =
-    subst (λ (o : Option ℕ). field_falls (fields here) o ≡ false) number
-    (subst (λ (p : faults.OpenNames). field_falls p f.number ≡ false) part
-    (right_no (clashes f.label f.kind) (field_falls b.open_part f.number) h.syntax)) in
+    let clash = left_no (clashes f.label f.kind) (is_field_out_of_order b.open_part f.number) h.syntax in
+    let is_below_last : is_field_out_of_order (fields here) (Some n) ≡ false =
+    subst (λ (o : Option ℕ). is_field_out_of_order (fields here) o ≡ false) number
+    (subst (λ (p : faults.OpenNames). is_field_out_of_order p f.number ≡ false) part
+    (right_no (clashes f.label f.kind) (is_field_out_of_order b.open_part f.number) h.syntax)) in
     let repeats : repeats_number (fields here) (Some n) ≡ false =
     subst (λ (o : Option ℕ). repeats_number (fields here) o ≡ false) number
     (subst (λ (p : faults.OpenNames). repeats_number p f.number ≡ false) part
@@ -575,7 +575,7 @@ message_grown t m n f lw kw bytes b part small ok number label kind form h =
             label = label_goes t m.oneofs f.label f.kind kw few kind clash h.map_key;
             kind = kind_known t kw f.kind small kind unknown_kind;
           });
-      ascend = ascends_push (λ (f g : TheField). f.number < g.number) m.fields g ok.ascend (λ last e. last_below m.fields n last falls repeats e);
+      ascend = ascends_push (λ (f g : TheField). f.number < g.number) m.fields g ok.ascend (λ last e. last_below m.fields n last is_below_last repeats e);
       names = subst AreDistinct (sym (map_push (λ (f : TheField). f.name) m.fields g))
           (distinct_push (map (λ f. f.name) m.fields) f.name ok.names
           (not_among f.name (map (λ f. f.name) m.fields) new));
@@ -584,10 +584,10 @@ message_grown t m n f lw kw bytes b part small ok number label kind form h =
       oneof_order = grow.follow;
     }
 
-pub sound_field : (t : Types) (d : Draft) (m : TheMessage) (bytes n : ℕ) (f : FieldLine) (lw kw : List ℕ)
+pub sound_field : (t : TypeNames) (d : TableDraft) (m : TheMessage) (bytes n : ℕ) (f : FieldLine) (lw kw : List ℕ)
     → IsSound t (with_part d (open_parts.Message m)) → IsSmall t → f.number ≡ Some n → LabelIs lw f.label
     → KindIs kw f.kind → IsTrue (is_name_form f.name)
-    → IsClean t (before (with_part d (open_parts.Message m))) bytes (Field f) → IsSound t (with_part d (with_field t (open_parts.Message m) (Some n) f))
+    → IsClean t (names_before_line (with_part d (open_parts.Message m))) bytes (Field f) → IsSound t (with_part d (with_field_line t (open_parts.Message m) (Some n) f))
 sound_field t d m bytes n f lw kw s small number label kind form h = record {
   enums_up = s.enums_up;
   messages_up = s.messages_up;
@@ -599,12 +599,12 @@ sound_field t d m bytes n f lw kw s small number label kind form h = record {
   enums = s.enums;
   messages = s.messages;
   methods = s.methods;
-  part = message_grown t m n f lw kw bytes (before (with_part d (open_parts.Message m))) refl small s.part number label kind form h;
+  part = message_grown t m n f lw kw bytes (names_before_line (with_part d (open_parts.Message m))) refl small s.part number label kind form h;
   ordered = s.ordered;
 }
 
-pub sound_method : (t : Types) (d : Draft) (bytes : ℕ) (m : MethodLine) → IsSound t d → IsSmall t
-    → IsTrue (is_full_form m.service) → IsTrue (is_name_form m.name) → IsClean t (before d) bytes (Method m)
+pub sound_method : (t : TypeNames) (d : TableDraft) (bytes : ℕ) (m : MethodLine) → IsSound t d → IsSmall t
+    → IsTrue (is_full_form m.service) → IsTrue (is_name_form m.name) → IsClean t (names_before_line d) bytes (Method m)
     → IsSound t (added_method t d m)
 sound_method t d bytes m s small service name h =
     let o = d.open_part in
@@ -633,21 +633,21 @@ sound_method t d bytes m s small service name h =
     (not_no (is_among m.output t.messages)
     (right_no (not (is_among m.input t.messages)) (not (is_among m.output t.messages)) h.unknown)) in
     record {
-      enums_up = subst (Ascends IsBelow) (sym enums) s.enums_up;
-      messages_up = subst (Ascends IsBelow) (sym messages) s.messages_up;
+      enums_up = subst (IsAscendingBy IsBelow) (sym enums) s.enums_up;
+      messages_up = subst (IsAscendingBy IsBelow) (sym messages) s.messages_up;
       distinct = subst AreDistinct
           (sym (ap (λ (xs : List (List ℕ)). xs ++ (map (λ m. m.name) ms ++ [])) enums
           ∙ ap (λ (xs : List (List ℕ)). enum_names d ++ xs) messages)) s.distinct;
       methods_distinct =
-          subst AreDistinct (sym (map_push (λ (m : TheMethod). m.service ++ 32 ∷ m.name) d.methods (method_of t m)))
+          subst AreDistinct (sym (map_push (λ (m : TheMethod). m.service ++ 32 ∷ m.name) d.methods (resolved_method t m)))
           (distinct_push (method_names d) (method_key m) s.methods_distinct
           (not_among (method_key m) (method_names d) h.duplicate));
       few_enums = omega (arith, ap length enums, s.few_enums);
       few_messages = omega (arith, ap length messages, s.few_messages);
-      few_methods = omega (arith, length_push d.methods (method_of t m), length-map d.methods (λ (m : TheMethod). m.service ++ 32 ∷ m.name), room);
+      few_methods = omega (arith, length_push d.methods (resolved_method t m), length-map d.methods (λ (m : TheMethod). m.service ++ 32 ∷ m.name), room);
       enums = whole_enums t o d.enums s.part h.syntax lacks s.enums;
       messages = whole_messages t o d.messages s.part s.messages;
-      methods = All-push (IsMethod (names_table t)) d.methods (method_of t m) s.methods (record {
+      methods = All-push (IsMethod (names_table t)) d.methods (resolved_method t m) s.methods (record {
         service = record { form = service; short = both_left (is_short_full m.service) (is_short m.name) short_names };
         name = record { form = name; short = leb-true (length m.name) 64 (both_right (is_short_full m.service) (is_short m.name) short_names) };
         input = omega (arith, input.0, length-map t.messages named_message);

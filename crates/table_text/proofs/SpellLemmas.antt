@@ -17,11 +17,11 @@ use Rattle.std.proofs.lemmas.Grind.{common_steps}
 use Rattle.mrpc_table.specs.Names.{is_name_start, is_name_byte, is_name_form, is_full_form, parts_of}
 use Rattle.mrpc_table.specs.Lines.{words_of, number_of}
 use Rattle.mrpc_table.specs.Scalars.{no_table, scalar_names, scalar_of}
-use Rattle.table_text.specs.Lines.{in_32_bits, whole_of, name_of, full_name_of, behind, kind_of, label_names}
-use Rattle.table_text.specs.Lines.{label_of, enum_of, value_of, message_of, field_of, method_of, line_of_words}
+use Rattle.table_text.specs.Lines.{in_32_bits, enum_number_of, name_of, full_name_of, without_prefix, kind_of, label_names}
+use Rattle.table_text.specs.Lines.{label_of, enum_line_of, value_line_of, message_line_of, field_line_of, method_line_of, line_of_words}
 use Rattle.table_text.specs.Lines.{line_of}
 use Rattle.mrpc_table.specs.Text.{kind_text, spaced}
-use Rattle.table_text.specs.Judged.{is_within}
+use Rattle.table_text.specs.LineTests.{is_enum_number}
 use Rattle.mrpc_table.specs.declared.table.Kind.{Kind}
 use Rattle.mrpc_table.specs.declared.table.Kind.TheVariants.{Int32, Int64, Uint32, Uint64, Sint32, Sint64}
 use Rattle.mrpc_table.specs.declared.table.Kind.TheVariants.{Bool as TheBool, Fixed32, Fixed64, Sfixed32, Sfixed64}
@@ -32,10 +32,10 @@ use Rattle.table_text.specs.declared.line.KindWord.{KindWord}
 use Rattle.table_text.specs.declared.line.KindWord.TheVariants as kinds
 use Rattle.table_text.specs.declared.line.LabelWord.{LabelWord}
 use Rattle.table_text.specs.declared.line.LabelWord.TheVariants as labels
-use Rattle.table_text.specs.declared.line.Whole.{Whole}
-use Rattle.table_text.specs.declared.line.Whole.TheVariants.{Low, Within, High}
-use Rattle.table_text.specs.declared.line.Line.{Line}
-use Rattle.table_text.specs.declared.line.Line.TheVariants.{Enum, Value, Message, Field, Method}
+use Rattle.table_text.specs.declared.line.EnumNumber.{EnumNumber}
+use Rattle.table_text.specs.declared.line.EnumNumber.TheVariants.{Low, Within, High}
+use Rattle.table_text.specs.declared.line.TableLine.{TableLine}
+use Rattle.table_text.specs.declared.line.TableLine.TheVariants.{Enum, Value, Message, Field, Method}
 use Rattle.table_text.proofs.PlaceLemmas.{same_bytes}
 use Rattle.table_text.proofs.TableFacts.{both, both_left, both_right}
 use Rattle.table_text.proofs.ParseLemmas.{if_true, mapped, chained, either, number_is, number_of-decimal, WholeIs}
@@ -69,8 +69,8 @@ NumberIs w None = ⊥
 pub kind_is : (w : List ℕ) (k : KindWord) → kind_of w ≡ Some k → KindIs w k
 kind_is w k e =
     elim (either (option_map kinds.Scalar (scalar_of w))
-    (option_or (option_map kinds.Message (option_and_then full_name_of (behind (codes "message:") w)))
-    (option_map kinds.Choice (option_and_then full_name_of (behind (codes "enum:") w)))) k e) [
+    (option_or (option_map kinds.Message (option_and_then full_name_of (without_prefix (codes "message:") w)))
+    (option_map kinds.Choice (option_and_then full_name_of (without_prefix (codes "enum:") w)))) k e) [
       | inl scalar ↦
           let m = mapped kinds.Scalar (scalar_of w) k scalar in
           let all : AllByRecursion (λ (r : List ℕ × Kind). ((T : Table) → r.0 ≡ kind_text T r.1) × IsScalar r.1)
@@ -110,16 +110,16 @@ kind_is w k e =
           ) in
           subst (KindIs w) m.2 (in_words w scalar_names m.0 m.1 (λ v j. ((T : Table) → v ≡ kind_text T j) × IsScalar j) all)
       | inr named ↦ elim
-          (either (option_map kinds.Message (option_and_then full_name_of (behind (codes "message:") w)))
-          (option_map kinds.Choice (option_and_then full_name_of (behind (codes "enum:") w))) k named.1) [
+          (either (option_map kinds.Message (option_and_then full_name_of (without_prefix (codes "message:") w)))
+          (option_map kinds.Choice (option_and_then full_name_of (without_prefix (codes "enum:") w))) k named.1) [
             | inl message ↦
-                let m = mapped kinds.Message (option_and_then full_name_of (behind (codes "message:") w)) k message in
-                let n = chained full_name_of (behind (codes "message:") w) m.0 m.1 in
+                let m = mapped kinds.Message (option_and_then full_name_of (without_prefix (codes "message:") w)) k message in
+                let n = chained full_name_of (without_prefix (codes "message:") w) m.0 m.1 in
                 let full = full_is n.0 m.0 n.2 in
                 subst (KindIs w) m.2 (behind_is (codes "message:") w n.0 n.1 ∙ ap (λ (t : List ℕ). codes "message:" ++ t) full.0, full.1)
             | inr other ↦
-                let m = mapped kinds.Choice (option_and_then full_name_of (behind (codes "enum:") w)) k other.1 in
-                let n = chained full_name_of (behind (codes "enum:") w) m.0 m.1 in
+                let m = mapped kinds.Choice (option_and_then full_name_of (without_prefix (codes "enum:") w)) k other.1 in
+                let n = chained full_name_of (without_prefix (codes "enum:") w) m.0 m.1 in
                 let full = full_is n.0 m.0 n.2 in
                 subst (KindIs w) m.2 (behind_is (codes "enum:") w n.0 n.1 ∙ ap (λ (t : List ℕ). codes "enum:" ++ t) full.0, full.1)
           ]
@@ -128,18 +128,18 @@ kind_is w k e =
 pub label_is : (w : List ℕ) (l : LabelWord) → label_of w ≡ Some l → LabelIs w l
 label_is w l e =
     elim (either (option_map (λ e. e.1) (find (λ e. bytes_eq w e.0) label_names))
-    (option_or (option_map labels.Map (option_and_then kind_of (behind (codes "map:") w)))
-    (option_map labels.Member (option_and_then name_of (behind (codes "oneof:") w)))) l e) [
+    (option_or (option_map labels.Map (option_and_then kind_of (without_prefix (codes "map:") w)))
+    (option_map labels.Member (option_and_then name_of (without_prefix (codes "oneof:") w)))) l e) [
       | inl plain ↦ in_words w label_names l plain LabelIs (refl, (refl, (refl, (refl, tt))))
-      | inr named ↦ elim (either (option_map labels.Map (option_and_then kind_of (behind (codes "map:") w)))
-          (option_map labels.Member (option_and_then name_of (behind (codes "oneof:") w))) l named.1) [
+      | inr named ↦ elim (either (option_map labels.Map (option_and_then kind_of (without_prefix (codes "map:") w)))
+          (option_map labels.Member (option_and_then name_of (without_prefix (codes "oneof:") w))) l named.1) [
             | inl map ↦
-                let m = mapped labels.Map (option_and_then kind_of (behind (codes "map:") w)) l map in
-                let n = chained kind_of (behind (codes "map:") w) m.0 m.1 in
+                let m = mapped labels.Map (option_and_then kind_of (without_prefix (codes "map:") w)) l map in
+                let n = chained kind_of (without_prefix (codes "map:") w) m.0 m.1 in
                 subst (LabelIs w) m.2 (n.0, behind_is (codes "map:") w n.0 n.1, kind_is n.0 m.0 n.2)
             | inr other ↦
-                let m = mapped labels.Member (option_and_then name_of (behind (codes "oneof:") w)) l other.1 in
-                let n = chained name_of (behind (codes "oneof:") w) m.0 m.1 in
+                let m = mapped labels.Member (option_and_then name_of (without_prefix (codes "oneof:") w)) l other.1 in
+                let n = chained name_of (without_prefix (codes "oneof:") w) m.0 m.1 in
                 let name = name_is n.0 m.0 n.2 in
                 subst (LabelIs w) m.2 (behind_is (codes "oneof:") w n.0 n.1 ∙ ap (λ (t : List ℕ). codes "oneof:" ++ t) name.0, name.1)
           ]
@@ -193,7 +193,7 @@ number_read w m h =
 -- ---- the meaning of a line
 
 -- a line of these words, in which each number is in its range
-abbrev pub LineIs : List (List ℕ) → Line → Type 0
+abbrev pub LineIs : List (List ℕ) → TableLine → Type 0
 LineIs ws (Enum n) = (ws ≡ codes "enum" ∷ n ∷ []) × IsTrue (is_full_form n)
 LineIs ws (Value z n) = (w : List ℕ) × (ws ≡ codes "value" ∷ w ∷ n ∷ []) × WholeIs w z × IsTrue (is_name_form n)
 LineIs ws (Message n) = (ws ≡ codes "message" ∷ n ∷ []) × IsTrue (is_full_form n)
@@ -203,13 +203,13 @@ LineIs ws (Method m) = (i : List ℕ) × (ws ≡ codes "method" ∷ i ∷ m.serv
     × NumberIs i m.index × IsTrue (is_full_form m.service) × IsTrue (is_name_form m.name)
     × IsTrue (is_full_form m.input) × IsTrue (is_full_form m.output)
 
-abbrev pub InRange : Line → Type 0
-InRange (Value z n) = is_within z ≡ true
+abbrev pub InRange : TableLine → Type 0
+InRange (Value z n) = is_enum_number z ≡ true
 InRange (Field f) = is_some f.number ≡ true
 InRange (Method m) = is_some m.index ≡ true
 InRange _ = Unit {0}
 
-enum_is : (ws : List (List ℕ)) (l : Line) → enum_of ws ≡ Some l → LineIs (codes "enum" ∷ ws) l
+enum_is : (ws : List (List ℕ)) (l : TableLine) → enum_line_of ws ≡ Some l → LineIs (codes "enum" ∷ ws) l
 enum_is [] l e = absurd cc
 enum_is (n ∷ []) l e =
     let m = mapped Enum (full_name_of n) l e in
@@ -217,7 +217,7 @@ enum_is (n ∷ []) l e =
     subst (LineIs (codes "enum" ∷ n ∷ [])) m.2 (ap (λ (t : List ℕ). codes "enum" ∷ t ∷ []) full.0, full.1)
 enum_is (n ∷ m ∷ ws) l e = absurd cc
 
-message_is : (ws : List (List ℕ)) (l : Line) → message_of ws ≡ Some l → LineIs (codes "message" ∷ ws) l
+message_is : (ws : List (List ℕ)) (l : TableLine) → message_line_of ws ≡ Some l → LineIs (codes "message" ∷ ws) l
 message_is [] l e = absurd cc
 message_is (n ∷ []) l e =
     let m = mapped Message (full_name_of n) l e in
@@ -225,19 +225,19 @@ message_is (n ∷ []) l e =
     subst (LineIs (codes "message" ∷ n ∷ [])) m.2 (ap (λ (t : List ℕ). codes "message" ∷ t ∷ []) full.0, full.1)
 message_is (n ∷ m ∷ ws) l e = absurd cc
 
-whole_within : (w : List ℕ) (z : Whole) → whole_of w ≡ Some z → is_within z ≡ true → WholeIs w z
+whole_within : (w : List ℕ) (z : EnumNumber) → enum_number_of w ≡ Some z → is_enum_number z ≡ true → WholeIs w z
 whole_within w (Within z) e h = whole_is w z e
 whole_within w Low e h = absurd cc
 whole_within w High e h = absurd cc
 
-value_is : (ws : List (List ℕ)) (l : Line) → value_of ws ≡ Some l → InRange l → LineIs (codes "value" ∷ ws) l
+value_is : (ws : List (List ℕ)) (l : TableLine) → value_line_of ws ≡ Some l → InRange l → LineIs (codes "value" ∷ ws) l
 value_is [] l e range = absurd cc
 value_is (w ∷ []) l e range = absurd cc
 value_is (w ∷ n ∷ []) l e range =
-    let z = chained (λ z. option_map (λ n. Value z n) (name_of n)) (whole_of w) l e in
+    let z = chained (λ z. option_map (λ n. Value z n) (name_of n)) (enum_number_of w) l e in
     let m = mapped (Value z.0) (name_of n) l z.2 in
     let name = name_is n m.0 m.1 in
-    let within : is_within z.0 ≡ true = subst InRange (sym m.2) range in
+    let within : is_enum_number z.0 ≡ true = subst InRange (sym m.2) range in
     subst (LineIs (codes "value" ∷ w ∷ n ∷ [])) m.2 (w, ap (λ (t : List ℕ). codes "value" ∷ w ∷ t ∷ []) name.0, whole_within w z.0 z.1 within, name.1)
 value_is (w ∷ n ∷ m ∷ ws) l e range = absurd cc
 
@@ -245,7 +245,7 @@ number_within : (w : List ℕ) (n : ℕ) (o : Option ℕ) → number_of w ≡ So
 number_within w n None e f h = absurd cc
 number_within w n (Some m) e f h = in_32_is w n m e f
 
-field_is : (ws : List (List ℕ)) (l : Line) → field_of ws ≡ Some l → InRange l → LineIs (codes "field" ∷ ws) l
+field_is : (ws : List (List ℕ)) (l : TableLine) → field_line_of ws ≡ Some l → InRange l → LineIs (codes "field" ∷ ws) l
 field_is [] l e range = absurd cc
 field_is (w ∷ []) l e range = absurd cc
 field_is (w ∷ lw ∷ []) l e range = absurd cc
@@ -276,7 +276,7 @@ field_is (w ∷ lw ∷ kw ∷ nw ∷ []) l e range =
     )
 field_is (w ∷ lw ∷ kw ∷ nw ∷ x ∷ ws) l e range = absurd cc
 
-method_is : (ws : List (List ℕ)) (l : Line) → method_of ws ≡ Some l → InRange l → LineIs (codes "method" ∷ ws) l
+method_is : (ws : List (List ℕ)) (l : TableLine) → method_line_of ws ≡ Some l → InRange l → LineIs (codes "method" ∷ ws) l
 method_is [] l e range = absurd cc
 method_is (iw ∷ []) l e range = absurd cc
 method_is (iw ∷ sw ∷ []) l e range = absurd cc
@@ -316,29 +316,29 @@ method_is (iw ∷ sw ∷ nw ∷ aw ∷ bw ∷ []) l e range =
     )
 method_is (iw ∷ sw ∷ nw ∷ aw ∷ bw ∷ x ∷ ws) l e range = absurd cc
 
-first_is : (w : List ℕ) (text : List ℕ) (ws : List (List ℕ)) (l : Line) → bytes_eq w text ≡ true → LineIs (text ∷ ws) l → LineIs (w ∷ ws) l
+first_is : (w : List ℕ) (text : List ℕ) (ws : List (List ℕ)) (l : TableLine) → bytes_eq w text ≡ true → LineIs (text ∷ ws) l → LineIs (w ∷ ws) l
 first_is w text ws l e h = subst (λ (v : List ℕ). LineIs (v ∷ ws) l) (sym (same_bytes w text e)) h
 
 pub chosen : {X : Type 0} (b : Bool) (x y z : X) → cond b x y ≡ z → ((b ≡ true) × (x ≡ z)) ⊎ (y ≡ z)
 chosen true x y z e = inl (refl, e)
 chosen false x y z e = inr e
 
-words_are : (ws : List (List ℕ)) (l : Line) → line_of_words ws ≡ Some l → InRange l → LineIs ws l
+words_are : (ws : List (List ℕ)) (l : TableLine) → line_of_words ws ≡ Some l → InRange l → LineIs ws l
 words_are [] l e range = absurd cc
 words_are (w ∷ ws) l e range =
-    let rest4 = cond (bytes_eq w (codes "method")) (method_of ws) None in
-    let rest3 = cond (bytes_eq w (codes "field")) (field_of ws) rest4 in
-    let rest2 = cond (bytes_eq w (codes "message")) (message_of ws) rest3 in
-    let rest1 = cond (bytes_eq w (codes "value")) (value_of ws) rest2 in
-    elim (chosen (bytes_eq w (codes "enum")) (enum_of ws) rest1 (Some l) e) [
+    let rest4 = cond (bytes_eq w (codes "method")) (method_line_of ws) None in
+    let rest3 = cond (bytes_eq w (codes "field")) (field_line_of ws) rest4 in
+    let rest2 = cond (bytes_eq w (codes "message")) (message_line_of ws) rest3 in
+    let rest1 = cond (bytes_eq w (codes "value")) (value_line_of ws) rest2 in
+    elim (chosen (bytes_eq w (codes "enum")) (enum_line_of ws) rest1 (Some l) e) [
       | inl h ↦ first_is w (codes "enum") ws l h.0 (enum_is ws l h.1)
-      | inr e1 ↦ elim (chosen (bytes_eq w (codes "value")) (value_of ws) rest2 (Some l) e1) [
+      | inr e1 ↦ elim (chosen (bytes_eq w (codes "value")) (value_line_of ws) rest2 (Some l) e1) [
         | inl h ↦ first_is w (codes "value") ws l h.0 (value_is ws l h.1 range)
-        | inr e2 ↦ elim (chosen (bytes_eq w (codes "message")) (message_of ws) rest3 (Some l) e2) [
+        | inr e2 ↦ elim (chosen (bytes_eq w (codes "message")) (message_line_of ws) rest3 (Some l) e2) [
           | inl h ↦ first_is w (codes "message") ws l h.0 (message_is ws l h.1)
-          | inr e3 ↦ elim (chosen (bytes_eq w (codes "field")) (field_of ws) rest4 (Some l) e3) [
+          | inr e3 ↦ elim (chosen (bytes_eq w (codes "field")) (field_line_of ws) rest4 (Some l) e3) [
             | inl h ↦ first_is w (codes "field") ws l h.0 (field_is ws l h.1 range)
-            | inr e4 ↦ elim (chosen (bytes_eq w (codes "method")) (method_of ws) None (Some l) e4) [
+            | inr e4 ↦ elim (chosen (bytes_eq w (codes "method")) (method_line_of ws) None (Some l) e4) [
               | inl h ↦ first_is w (codes "method") ws l h.0 (method_is ws l h.1 range)
               | inr e5 ↦ absurd cc
             ]
@@ -348,7 +348,7 @@ words_are (w ∷ ws) l e range =
     ]
 
 -- a line that is read has these words
-pub line_is : (text : List ℕ) (l : Line) → line_of text ≡ Some l → InRange l → LineIs (words_of text) l
+pub line_is : (text : List ℕ) (l : TableLine) → line_of text ≡ Some l → InRange l → LineIs (words_of text) l
 unfolding line_of
 line_is text l e range = words_are (words_of text) l e range
 
@@ -360,11 +360,11 @@ number_any w (Some m) h = let r = number_read w m h in (m, r.0, r.1)
 number_any w None h = absurd h
 
 -- a line of these words is read
-words_read : (ws : List (List ℕ)) (l : Line) → LineIs ws l → line_of_words ws ≡ Some l
+words_read : (ws : List (List ℕ)) (l : TableLine) → LineIs ws l → line_of_words ws ≡ Some l
 words_read ws (Enum n) h = let form = h.1 in ap line_of_words h.0 ∙ rw form refl
 words_read ws (Value (Within z) n) h =
     let form = h.3 in
-    let whole : whole_of h.0 ≡ Some (Within z) = ap whole_of h.2.0 ∙ whole_of-text z h.2.1 in
+    let whole : enum_number_of h.0 ≡ Some (Within z) = ap enum_number_of h.2.0 ∙ whole_of-text z h.2.1 in
     ap line_of_words h.1 ∙ rw (whole, form) refl
 words_read ws (Value Low n) h = absurd h.2
 words_read ws (Value High n) h = absurd h.2
@@ -456,7 +456,7 @@ signed_dark : (z : ℤ) → FitsSigned w32 z → dark (signed_decimal z) ≡ tru
 signed_dark (pos n) fits = decimal_dark n (omega (arith, ints, fits))
 signed_dark (negsuc n) fits = decimal_dark (suc n) (omega (arith, ints, fits))
 
-whole_dark : (w : List ℕ) (z : Whole) → WholeIs w z → dark w ≡ true
+whole_dark : (w : List ℕ) (z : EnumNumber) → WholeIs w z → dark w ≡ true
 whole_dark w (Within z) h = ap dark h.0 ∙ signed_dark z h.1
 whole_dark w Low h = absurd h
 whole_dark w High h = absurd h
@@ -493,7 +493,7 @@ label_dark w labels.Packed h = ap dark h
 label_dark w (labels.Map k) h = ap dark h.1 ∙ all-append (λ c. nat_lt 32 c) (codes "map:") h.0 refl (kind_dark h.0 k h.2)
 label_dark w (labels.Member n) h = ap dark h.0 ∙ all-append (λ c. nat_lt 32 c) (codes "oneof:") n refl (name_dark n h.1)
 
-pub words_dark : (ws : List (List ℕ)) (l : Line) → LineIs ws l → AllDark ws
+pub words_dark : (ws : List (List ℕ)) (l : TableLine) → LineIs ws l → AllDark ws
 words_dark ws (Enum n) h = subst AllDark (sym h.0) (refl, (full_dark n h.1, tt))
 words_dark ws (Value z n) h = subst AllDark (sym h.1) (refl, (whole_dark h.0 z h.2, (name_dark n h.3, tt)))
 words_dark ws (Message n) h = subst AllDark (sym h.0) (refl, (full_dark n h.1, tt))
@@ -533,7 +533,7 @@ pub words_of-spaced : (ws : List (List ℕ)) → ws ≢ [] → AllDark ws → wo
 words_of-spaced [] some h = absurd (some refl)
 words_of-spaced (w ∷ ws) some h = spaced_words w ws h
 
-pub some_words : (ws : List (List ℕ)) (l : Line) → LineIs ws l → ws ≢ []
+pub some_words : (ws : List (List ℕ)) (l : TableLine) → LineIs ws l → ws ≢ []
 some_words ws (Enum n) h e = let clash = sym h.0 ∙ e in cc
 some_words ws (Value z n) h e = let clash = sym h.1 ∙ e in cc
 some_words ws (Message n) h e = let clash = sym h.0 ∙ e in cc
@@ -541,6 +541,6 @@ some_words ws (Field f) h e = let clash = sym h.3 ∙ e in cc
 some_words ws (Method m) h e = let clash = sym h.1 ∙ e in cc
 
 -- a line of this spelling is parsed
-pub line_read : (ws : List (List ℕ)) (l : Line) → LineIs ws l → line_of (spaced ws) ≡ Some l
+pub line_read : (ws : List (List ℕ)) (l : TableLine) → LineIs ws l → line_of (spaced ws) ≡ Some l
 unfolding line_of
 line_read ws l h = ap line_of_words (words_of-spaced ws (some_words ws l h) (words_dark ws l h)) ∙ words_read ws l h

@@ -15,7 +15,7 @@ use Rattle.std.proofs.lemmas.List.Splits.{slice_split_at, join_with_byte-slice_s
 use Rattle.std.proofs.lemmas.Option.{some_pair_parts}
 use Rattle.std.proofs.lemmas.Slice.Eq.{bytes_eq-Decides}
 use Rattle.mrpc_table.specs.Lines.{pieces_of}
-use Rattle.table_text.specs.TableText.{HasTableBehind}
+use Rattle.table_text.specs.TableText.{HasTableAfter}
 use Rattle.table_text.proofs.ListLemmas.{has_part}
 
 -- ---- lines and their pieces
@@ -119,7 +119,7 @@ good_before : (ls : List (List ℕ)) → AreTableLines ls → AllByRecursion (λ
 good_before [] h = tt
 good_before (l ∷ ls) h = (h.0.1, good_before ls h.1)
 
-pub cut_from : (head text body table rest : List ℕ) → text ≡ head ++ body → HasTableBehind head text table rest → Cut body table rest
+pub cut_from : (head text body table rest : List ℕ) → text ≡ head ++ body → HasTableAfter head text table rest → Cut body table rest
 cut_from head text body table rest e h = record {
   lines = h.lines;
   good = good_from h.lines (recursion_from_All (λ l. Contains l 10 → ⊥) h.lines h.whole) (recursion_from_All (λ l. l ≢ codes "end") h.lines h.before_end);
@@ -127,7 +127,7 @@ cut_from head text body table rest e h = record {
   text_is = append_cancel_left head body (table ++ (codes "end\n" ++ rest)) (sym e ∙ h.text_is) ∙ ap (λ (t : List ℕ). t ++ (codes "end\n" ++ rest)) h.table_is;
 }
 
-pub cut_to : (head text body table rest : List ℕ) → text ≡ head ++ body → Cut body table rest → HasTableBehind head text table rest
+pub cut_to : (head text body table rest : List ℕ) → text ≡ head ++ body → Cut body table rest → HasTableAfter head text table rest
 cut_to head text body table rest e c = record {
   lines = c.lines;
   table_is = c.table_is;
@@ -162,7 +162,7 @@ one_cut text table rest other more c d =
     let parts = some_pair_parts d.lines c.lines (pieces_of more) (pieces_of rest) (sym (cut_ends text other more d) ∙ cut_ends text table rest c) in
     (d.table_is ∙ ap (flat_map fed) parts.0 ∙ sym c.table_is, same_pieces more rest parts.1)
 
-pub one_behind : (head text table rest other more : List ℕ) → HasTableBehind head text table rest → HasTableBehind head text other more → (other ≡ table) × (more ≡ rest)
+pub one_behind : (head text table rest other more : List ℕ) → HasTableAfter head text table rest → HasTableAfter head text other more → (other ≡ table) × (more ≡ rest)
 one_behind head text table rest other more h k =
     let body : List ℕ = table ++ (codes "end\n" ++ rest) in
     one_cut body table rest other more (cut_from head text body table rest h.text_is h) (cut_from head text body other more h.text_is k)
@@ -249,7 +249,7 @@ cut_nowhere text rest table more p none c =
     none_is (ended_at (pieces_of text)) (c.lines, pieces_of more) unended (cut_ends text table more c)
 
 pub some_behind : (head text body : List ℕ) (r : Option (Bor (List ℕ) × Bor (List ℕ))) → text ≡ head ++ body
-    → IfSome r (λ p. HasTableBehind [] body p.0.now p.1.now)
-    → IfSome r (λ p. HasTableBehind head text p.0.now p.1.now)
+    → IfSome r (λ p. HasTableAfter [] body p.0.now p.1.now)
+    → IfSome r (λ p. HasTableAfter head text p.0.now p.1.now)
 some_behind head text body None e h = tt
 some_behind head text body (Some p) e h = cut_to head text body p.0.now p.1.now e (cut_from [] body body p.0.now p.1.now refl h)

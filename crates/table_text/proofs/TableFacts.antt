@@ -1,7 +1,7 @@
 -- Facts about parts of a valid table, and about tests.
 use Rattle.std.proofs.Common.{◌≡◌, ℕ, suc, ◌+◌, ◌≤◌, ◌&&◌, Bool, true, false, List, [], ◌∷◌, length, refl, arith, inl, inr, IsTrue}
 use Rattle.mrpc_table.specs.Words.{is_key}
-use Rattle.mrpc_table.specs.Valid.{IsKnown, Joins, OneofsFollow}
+use Rattle.mrpc_table.specs.Valid.{IsKnown, IsNextOneof, AreOneofsInOrder}
 use Rattle.mrpc_table.specs.declared.table.Kind.{Kind}
 use Rattle.mrpc_table.specs.declared.table.Kind.TheVariants.{Int32, Int64, Uint32, Uint64, Sint32, Sint64}
 use Rattle.mrpc_table.specs.declared.table.Kind.TheVariants.{Bool as TheBool, Fixed32, Fixed64, Sfixed32, Sfixed64}
@@ -44,7 +44,7 @@ key_known T Octets h = tt
 key_known T (OfMessage i) h = absurd cc
 key_known T (Choice i) h = absurd cc
 
-joined_le : (met all n : ℕ) (l : Label) (Same Next : Type 0) → (Same → all ≤ met + n) → (Next → all ≤ met + 1 + n) → Joins met l Same Next → all ≤ met + suc n
+joined_le : (met all n : ℕ) (l : Label) (Same Next : Type 0) → (Same → all ≤ met + n) → (Next → all ≤ met + 1 + n) → IsNextOneof met l Same Next → all ≤ met + suc n
 joined_le met all n Plain Same Next same next h = omega (arith, same h)
 joined_le met all n Optional Same Next same next h = omega (arith, same h)
 joined_le met all n Repeated Same Next same next h = omega (arith, same h)
@@ -52,6 +52,6 @@ joined_le met all n Packed Same Next same next h = omega (arith, same h)
 joined_le met all n (Map k) Same Next same next h = omega (arith, same h)
 joined_le met all n (Member o) Same Next same next h = elim h [ inl old ↦ omega (arith, same old.1) | inr new ↦ omega (arith, next new.1) ]
 
-pub follow_le : (met all : ℕ) (fs : List Field) → OneofsFollow met all fs → all ≤ met + length fs
+pub follow_le : (met all : ℕ) (fs : List Field) → AreOneofsInOrder met all fs → all ≤ met + length fs
 follow_le met all [] h = omega (arith, h)
-follow_le met all (f ∷ fs) h = joined_le met all (length fs) f.label (OneofsFollow met all fs) (OneofsFollow (met + 1) all fs) (follow_le met all fs) (follow_le (met + 1) all fs) h
+follow_le met all (f ∷ fs) h = joined_le met all (length fs) f.label (AreOneofsInOrder met all fs) (AreOneofsInOrder (met + 1) all fs) (follow_le met all fs) (follow_le (met + 1) all fs) h

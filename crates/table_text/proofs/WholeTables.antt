@@ -10,14 +10,14 @@ use Rattle.std.proofs.lemmas.List.{append-nil, nil_from_length}
 use Rattle.std.proofs.lemmas.List.Elements.{All-from_recursion, recursion_from_All, All-take}
 use Rattle.std.proofs.lemmas.List.Splits.{join_with_byte-slice_split}
 use Rattle.std.proofs.lemmas.Option.{slice_get-get_or, slice_get_past}
-use Rattle.mrpc_table.specs.Lines.{pieces_of, whole_lines, rest_of}
+use Rattle.mrpc_table.specs.Lines.{pieces_of, whole_lines, remainder_of}
 use Rattle.mrpc_table.specs.Text.{table_text}
 use Rattle.mrpc_table.specs.Valid.{IsValid}
 use Rattle.mrpc_table.specs.declared.table.Table.{Table}
 use Rattle.table_text.specs.Lines.{line_of}
-use Rattle.table_text.specs.Judged.{IsFirstJudged, fault_at, end_fault, before_of, is_empty, lacks_value}
+use Rattle.table_text.specs.LineTests.{IsFirstFaultFound, fault_at_line, end_fault, names_in_lines, is_empty, lacks_value}
 use Rattle.table_text.specs.Drafts.{table_in}
-use Rattle.table_text.specs.TableText.{HasTableBehind, IsEndless}
+use Rattle.table_text.specs.TableText.{HasTableAfter, IsEndless}
 use Rattle.table_text.specs.declared.fault.TableReason.{TableReason}
 use Rattle.table_text.specs.declared.fault.TableReason.TheVariants.{Syntax}
 use Rattle.table_text.proofs.Accepts.{IsFaultless, accepted, text_lines}
@@ -26,13 +26,13 @@ use Rattle.table_text.proofs.TableCuts.{fed, IsOneLine, one_line_each, ended_at,
 
 -- ---- the canonical text of a table
 
-faulty_end : (text l : List ℕ) (k : ℕ) → slice_get (whole_lines text) k ≡ Some l → l ≡ codes "end" → fault_at text k ≡ Some Syntax
+faulty_end : (text l : List ℕ) (k : ℕ) → slice_get (whole_lines text) k ≡ Some l → l ≡ codes "end" → fault_at_line text k ≡ Some Syntax
 unfolding line_of
 faulty_end text l k here e = rw (here, e) refl
 
 no_end_line : (text : List ℕ) → IsFaultless text → All (λ l. l ≢ codes "end") (whole_lines text)
 no_end_line text clean k d within same =
-    none_is (fault_at text k) Syntax (clean k) (faulty_end text (get_or (whole_lines text) k d) k (slice_get-get_or (whole_lines text) k d within) same)
+    none_is (fault_at_line text k) Syntax (clean k) (faulty_end text (get_or (whole_lines text) k d) k (slice_get-get_or (whole_lines text) k d within) same)
 
 some_rest : (b : Bool) (l : Bool) (r : Option TableReason) → cond (not b || l) (Some Syntax) r ≡ None → b ≡ true
 some_rest true l r e = refl
@@ -41,13 +41,13 @@ some_rest false l r e = absurd cc
 nothing_is : (xs : List ℕ) → is_empty xs ≡ true → xs ≡ []
 nothing_is xs e = nil_from_length xs (eqb-true (length xs) 0 e)
 
-no_rest : (text : List ℕ) → IsFaultless text → rest_of text ≡ []
+no_rest : (text : List ℕ) → IsFaultless text → remainder_of text ≡ []
 no_rest text clean =
     let ls = whole_lines text in
     let past : slice_get ls (length ls) ≡ None = slice_get_past ls (length ls) (omega arith) in
     let at_end : (length ls == length ls) ≡ true = eq-eqb (length ls) (length ls) refl in
-    let here : fault_at text (length ls) ≡ end_fault (before_of ls) (rest_of text) = rw (past, at_end) refl in
-    nothing_is (rest_of text) (some_rest (is_empty (rest_of text)) (lacks_value (before_of ls).open_part) _ (sym here ∙ clean (length ls)))
+    let here : fault_at_line text (length ls) ≡ end_fault (names_in_lines ls) (remainder_of text) = rw (past, at_end) refl in
+    nothing_is (remainder_of text) (some_rest (is_empty (remainder_of text)) (lacks_value (names_in_lines ls).open_part) _ (sym here ∙ clean (length ls)))
 
 both : (ls : List (List ℕ)) → AllByRecursion IsOneLine ls → AllByRecursion (λ l. l ≢ codes "end") ls → AreTableLines ls
 both [] one others = tt
@@ -67,7 +67,7 @@ whole_table t valid =
       text_is = text_lines text ∙ ap (λ (r : List ℕ). flat_map fed ls ++ r) (no_rest text clean);
     }
 
-pub canonical_behind : (head rest : List ℕ) (t : Table) → IsValid t → HasTableBehind head (head ++ (table_text t ++ (codes "end\n" ++ rest))) (table_text t) rest
+pub canonical_behind : (head rest : List ℕ) (t : Table) → IsValid t → HasTableAfter head (head ++ (table_text t ++ (codes "end\n" ++ rest))) (table_text t) rest
 canonical_behind head rest t valid =
     let p = whole_table t valid in
     let whole : table_text t ≡ flat_map fed p.lines = p.text_is ∙ append-nil (flat_map fed p.lines) in
@@ -88,7 +88,7 @@ canonical_endless head t valid = record {
 -- ---- a line `end` follows, or none does
 
 behind_by : (head body : List ℕ) (o : Option (List (List ℕ) × List (List ℕ))) → ended_at (pieces_of body) ≡ o
-    → ((table : List ℕ) × (rest : List ℕ) × HasTableBehind head (head ++ body) table rest) ⊎ IsEndless head (head ++ body) body
+    → ((table : List ℕ) × (rest : List ℕ) × HasTableAfter head (head ++ body) table rest) ⊎ IsEndless head (head ++ body) body
 behind_by head body (Some p) e =
     let parts = ended_parts (pieces_of body) p.0 p.1 e (one_line_each body) in
     inl (
@@ -108,16 +108,16 @@ behind_by head body None e = inr (record {
       none_is (ended_at (pieces_of body)) (c.lines, pieces_of rest) e (cut_ends body other rest c);
 })
 
-pub behind_or_endless : (head body : List ℕ) → ((table : List ℕ) × (rest : List ℕ) × HasTableBehind head (head ++ body) table rest) ⊎ IsEndless head (head ++ body) body
+pub behind_or_endless : (head body : List ℕ) → ((table : List ℕ) × (rest : List ℕ) × HasTableAfter head (head ++ body) table rest) ⊎ IsEndless head (head ++ body) body
 behind_or_endless head body = behind_by head body (ended_at (pieces_of body)) refl
 
 -- ---- a table or a fault
 
-here_by : (text : List ℕ) (n : ℕ) → ((i : ℕ) → i < n → fault_at text i ≡ None) → (o : Option TableReason) → fault_at text n ≡ o
-    → ((i : ℕ) → i < suc n → fault_at text i ≡ None) ⊎ ((line : ℕ) × (reason : TableReason) × IsFirstJudged text line reason)
+here_by : (text : List ℕ) (n : ℕ) → ((i : ℕ) → i < n → fault_at_line text i ≡ None) → (o : Option TableReason) → fault_at_line text n ≡ o
+    → ((i : ℕ) → i < suc n → fault_at_line text i ≡ None) ⊎ ((line : ℕ) × (reason : TableReason) × IsFirstFaultFound text line reason)
 here_by text n none None e = inl (λ i below. elim (cases_lt i n) [
   | inl before ↦ none i before
-  | inr from ↦ let same : n ≡ i = omega (arith, below, from) in subst (λ (k : ℕ). fault_at text k ≡ None) same e
+  | inr from ↦ let same : n ≡ i = omega (arith, below, from) in subst (λ (k : ℕ). fault_at_line text k ≡ None) same e
 ])
 here_by text n none (Some reason) e =
     let at : n + 1 - 1 ≡ n = omega arith in
@@ -126,28 +126,28 @@ here_by text n none (Some reason) e =
       reason,
       record {
         counted = omega arith;
-        here = ap (fault_at text) at ∙ e;
+        here = ap (fault_at_line text) at ∙ e;
         none_before = λ i before. none i (omega (arith, before));
       },
     )
 
 -- the first n lines have no fault, or there is a first one
-search_up : (text : List ℕ) (n : ℕ) → ((i : ℕ) → i < n → fault_at text i ≡ None) ⊎ ((line : ℕ) × (reason : TableReason) × IsFirstJudged text line reason)
+search_up : (text : List ℕ) (n : ℕ) → ((i : ℕ) → i < n → fault_at_line text i ≡ None) ⊎ ((line : ℕ) × (reason : TableReason) × IsFirstFaultFound text line reason)
 search_up text zero = inl (λ i below. absurd (omega (arith, below)))
 search_up text (suc n) =
     elim (search_up text n) [
       | inr found ↦ inr found
-      | inl none ↦ here_by text n none (fault_at text n) refl
+      | inl none ↦ here_by text n none (fault_at_line text n) refl
     ]
 
-past_end : (text : List ℕ) (i : ℕ) → length (whole_lines text) + 1 ≤ i → fault_at text i ≡ None
+past_end : (text : List ℕ) (i : ℕ) → length (whole_lines text) + 1 ≤ i → fault_at_line text i ≡ None
 past_end text i past =
     let ls = whole_lines text in
     let no_line : slice_get ls i ≡ None = slice_get_past ls i (omega arith) in
     let not_end : (i == length ls) ≡ false = ne_eqb i (length ls) (λ same. omega arith) in
     rw (no_line, not_end) refl
 
-pub table_or_first : (text : List ℕ) → ((t : Table) × IsValid t × (text ≡ table_text t)) ⊎ ((line : ℕ) × (reason : TableReason) × IsFirstJudged text line reason)
+pub table_or_first : (text : List ℕ) → ((t : Table) × IsValid t × (text ≡ table_text t)) ⊎ ((line : ℕ) × (reason : TableReason) × IsFirstFaultFound text line reason)
 table_or_first text =
     let n = length (whole_lines text) + 1 in
     elim (search_up text n) [

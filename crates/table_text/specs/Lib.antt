@@ -1,9 +1,9 @@
 pub mod Drafts
 pub mod Faults
 pub mod Forms
-pub mod Judged
+pub mod LineTests
 pub mod Lines
-pub mod Places
+pub mod NameIndex
 pub mod Reach
 pub mod Readers
 pub mod Reason

@@ -10,26 +10,26 @@ use Rattle.table_text.specs.declared.line.KindWord.{KindWord}
 use Rattle.table_text.specs.declared.line.KindWord.TheVariants as kinds
 use Rattle.table_text.specs.declared.line.LabelWord.{LabelWord}
 use Rattle.table_text.specs.declared.line.LabelWord.TheVariants as labels
-use Rattle.table_text.specs.declared.line.Whole.{Whole}
-use Rattle.table_text.specs.declared.line.Whole.TheVariants.{Low, Within, High}
-use Rattle.table_text.specs.declared.line.Line.{Line}
-use Rattle.table_text.specs.declared.line.Line.TheVariants.{Enum, Value, Message, Field, Method}
+use Rattle.table_text.specs.declared.line.EnumNumber.{EnumNumber}
+use Rattle.table_text.specs.declared.line.EnumNumber.TheVariants.{Low, Within, High}
+use Rattle.table_text.specs.declared.line.TableLine.{TableLine}
+use Rattle.table_text.specs.declared.line.TableLine.TheVariants.{Enum, Value, Message, Field, Method}
 
 -- a number of at most 32 bits, or a larger one
 abbrev pub in_32_bits : ℕ → Option ℕ
 in_32_bits n = if nat_lt n (2 ^ 32) then Some n else None
 
 -- the number itself, and its negative; 0 has no negative
-abbrev pub not_negative : ℕ → Whole
+abbrev pub not_negative : ℕ → EnumNumber
 not_negative n = if nat_lt n (2 ^ 31) then Within (pos n) else High
 
-abbrev pub negative : ℕ → Option Whole
+abbrev pub negative : ℕ → Option EnumNumber
 negative n = if n == 0 then None else Some (if nat_le n (2 ^ 31) then Within (negsuc (n - 1)) else Low)
 
 -- digits, or a `-` and digits
-abbrev pub whole_of : List ℕ → Option Whole
-whole_of [] = None
-whole_of (c ∷ cs) =
+abbrev pub enum_number_of : List ℕ → Option EnumNumber
+enum_number_of [] = None
+enum_number_of (c ∷ cs) =
     if c == 45 then option_and_then negative (number_of cs) else option_map not_negative (number_of (c ∷ cs))
 
 -- the word, if it is a name, or a full name
@@ -40,14 +40,14 @@ abbrev pub full_name_of : List ℕ → Option (List ℕ)
 full_name_of word = if is_full_form word then Some word else None
 
 -- the suffix after a prefix
-abbrev pub behind : List ℕ → List ℕ → Option (List ℕ)
-behind prefix word = if bytes_eq (take (length prefix) word) prefix then Some (drop (length prefix) word) else None
+abbrev pub without_prefix : List ℕ → List ℕ → Option (List ℕ)
+without_prefix prefix word = if bytes_eq (take (length prefix) word) prefix then Some (drop (length prefix) word) else None
 
 abbrev pub kind_of : List ℕ → Option KindWord
 kind_of word =
     option_or (option_map kinds.Scalar (scalar_of word))
-    (option_or (option_map kinds.Message (option_and_then full_name_of (behind (codes "message:") word)))
-    (option_map kinds.Choice (option_and_then full_name_of (behind (codes "enum:") word))))
+    (option_or (option_map kinds.Message (option_and_then full_name_of (without_prefix (codes "message:") word)))
+    (option_map kinds.Choice (option_and_then full_name_of (without_prefix (codes "enum:") word))))
 
 abbrev pub label_names : List (List ℕ × LabelWord)
 label_names =
@@ -57,46 +57,46 @@ label_names =
 abbrev pub label_of : List ℕ → Option LabelWord
 label_of word =
     option_or (option_map (λ e. e.1) (find (λ e. bytes_eq word e.0) label_names))
-    (option_or (option_map labels.Map (option_and_then kind_of (behind (codes "map:") word)))
-    (option_map labels.Member (option_and_then name_of (behind (codes "oneof:") word))))
+    (option_or (option_map labels.Map (option_and_then kind_of (without_prefix (codes "map:") word)))
+    (option_map labels.Member (option_and_then name_of (without_prefix (codes "oneof:") word))))
 
 -- the line of each kind, by the words after the first
-abbrev pub enum_of : List (List ℕ) → Option Line
-enum_of (name ∷ []) = option_map Enum (full_name_of name)
-enum_of _ = None
+abbrev pub enum_line_of : List (List ℕ) → Option TableLine
+enum_line_of (name ∷ []) = option_map Enum (full_name_of name)
+enum_line_of _ = None
 
-abbrev pub value_of : List (List ℕ) → Option Line
-value_of (number ∷ name ∷ []) = option_and_then (λ z. option_map (λ n. Value z n) (name_of name)) (whole_of number)
-value_of _ = None
+abbrev pub value_line_of : List (List ℕ) → Option TableLine
+value_line_of (number ∷ name ∷ []) = option_and_then (λ z. option_map (λ n. Value z n) (name_of name)) (enum_number_of number)
+value_line_of _ = None
 
-abbrev pub message_of : List (List ℕ) → Option Line
-message_of (name ∷ []) = option_map Message (full_name_of name)
-message_of _ = None
+abbrev pub message_line_of : List (List ℕ) → Option TableLine
+message_line_of (name ∷ []) = option_map Message (full_name_of name)
+message_line_of _ = None
 
-abbrev pub field_of : List (List ℕ) → Option Line
-field_of (number ∷ label ∷ kind ∷ name ∷ []) =
+abbrev pub field_line_of : List (List ℕ) → Option TableLine
+field_line_of (number ∷ label ∷ kind ∷ name ∷ []) =
     option_and_then (λ n. option_and_then (λ l. option_and_then (λ k. option_map (λ m.
     Field (record { number = in_32_bits n; label = l; kind = k; name = m }))
     (name_of name)) (kind_of kind)) (label_of label)) (number_of number)
-field_of _ = None
+field_line_of _ = None
 
-abbrev pub method_of : List (List ℕ) → Option Line
-method_of (index ∷ service ∷ name ∷ input ∷ output ∷ []) =
+abbrev pub method_line_of : List (List ℕ) → Option TableLine
+method_line_of (index ∷ service ∷ name ∷ input ∷ output ∷ []) =
     option_and_then (λ i. option_and_then (λ s. option_and_then (λ n. option_and_then (λ a. option_map (λ b.
     Method (record { index = in_32_bits i; service = s; name = n; input = a; output = b }))
     (full_name_of output)) (full_name_of input)) (name_of name)) (full_name_of service)) (number_of index)
-method_of _ = None
+method_line_of _ = None
 
 -- a line by its words, if it has the right form
-abbrev pub line_of_words : List (List ℕ) → Option Line
+abbrev pub line_of_words : List (List ℕ) → Option TableLine
 line_of_words [] = None
 line_of_words (first ∷ words) =
-    if bytes_eq first (codes "enum") then enum_of words
-    else if bytes_eq first (codes "value") then value_of words
-    else if bytes_eq first (codes "message") then message_of words
-    else if bytes_eq first (codes "field") then field_of words
-    else if bytes_eq first (codes "method") then method_of words
+    if bytes_eq first (codes "enum") then enum_line_of words
+    else if bytes_eq first (codes "value") then value_line_of words
+    else if bytes_eq first (codes "message") then message_line_of words
+    else if bytes_eq first (codes "field") then field_line_of words
+    else if bytes_eq first (codes "method") then method_line_of words
     else None
 
-unfoldable pub line_of : List ℕ → Option Line
+unfoldable pub line_of : List ℕ → Option TableLine
 line_of text = line_of_words (words_of text)

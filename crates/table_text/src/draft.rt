@@ -5,11 +5,11 @@ ghost use Rattle.std.specs.Prelude.{pos};
 ghost use Rattle.std.specs.Ordering.{int_eq};
 ghost use Rattle.std.specs.List.{list_any};
 ghost use Rattle.std.specs.Option.{option_copied};
-ghost use Rattle.table_text.specs.Judged.{is_below, is_empty, falls, is_value_below, lacks_value, lacks_zero, value_falls, field_falls, open_count, repeats_number};
-ghost use Rattle.table_text.specs.declared.line.Whole.TheVariants.{Within};
-ghost use Rattle.table_text.specs.Drafts.{open_part, enum_names, message_names, with_enum, with_message, with_value, joined_parts, with_parts, closed, table_of, empty_draft};
+ghost use Rattle.table_text.specs.LineTests.{is_below, is_empty, is_below_last, is_value_below, lacks_value, lacks_zero, is_value_out_of_order, is_field_out_of_order, open_count, repeats_number};
+ghost use Rattle.table_text.specs.declared.line.EnumNumber.TheVariants.{Within};
+ghost use Rattle.table_text.specs.Drafts.{open_part, enum_names, message_names, with_enum, with_message, with_value, joined_parts, with_parts, with_part_closed, table_of_draft, empty_draft};
 
-use crate::Whole;
+use crate::EnumNumber;
 use mrpc_table::{
     Choices, Enums, Field, MAX_ENUMS, MAX_MESSAGES, Memory, Message, Messages, Methods, Name,
     Sequence, Table,
@@ -19,33 +19,33 @@ use std::cmp::Ordering;
 use std::mem;
 
 // The enum or message that a line may extend.
-pub(crate) enum Open {
+pub(crate) enum OpenPart {
     Nothing,
     Enum(Choices),
     Message(Message),
 }
 
 // The finished parts, and the open one.
-pub(crate) struct Draft {
+pub(crate) struct TableDraft {
     pub enums: Enums,
     pub messages: Messages,
     pub methods: Methods,
-    pub open_part: Open,
+    pub open_part: OpenPart,
 }
 
-impl Drop for Open {
+impl Drop for OpenPart {
     fn drop(self) {
         match self {
-            Open::Nothing => {}
-            Open::Enum(_choices) => {}
-            Open::Message(_message) => {}
+            OpenPart::Nothing => {}
+            OpenPart::Enum(_choices) => {}
+            OpenPart::Message(_message) => {}
         }
     }
 }
 
-impl Drop for Draft {
+impl Drop for TableDraft {
     fn drop(self) {
-        let Draft {
+        let TableDraft {
             enums: _enums,
             messages: _messages,
             methods: _methods,
@@ -71,15 +71,15 @@ fn is_below<'a>(name: &'a [u8], other: &'a [u8]) -> bool
     matches!(name.cmp(&other), Ordering::Less)
 }
 
-fn is_value_below(number: Whole, name: &[u8], last: &(i32, Name)) -> bool
+fn is_value_below(number: EnumNumber, name: &[u8], last: &(i32, Name)) -> bool
     ensures { result ≡ is_value_below number name.now last.now }
 {
     match number {
-        Whole::Low => true,
-        Whole::Within(number) => {
+        EnumNumber::Low => true,
+        EnumNumber::Within(number) => {
             number < last.0 || (number == last.0 && is_below(name, last.1.as_slice()))
         }
-        Whole::High => false,
+        EnumNumber::High => false,
     }
 }
 
@@ -95,7 +95,7 @@ fn has_zero(values: &[(i32, Name)]) -> bool
 }
 
 fn is_below_last_enum(name: &[u8], enums: &[Choices]) -> bool
-    ensures { result ≡ falls name.now (map (λ e. e.name) enums.now ++ []) }
+    ensures { result ≡ is_below_last name.now (map (λ e. e.name) enums.now ++ []) }
 {
     match enums.last() {
         Some(last) => is_below(name, last.name.as_slice()),
@@ -104,7 +104,7 @@ fn is_below_last_enum(name: &[u8], enums: &[Choices]) -> bool
 }
 
 fn is_below_last_message(name: &[u8], messages: &[Message]) -> bool
-    ensures { result ≡ falls name.now (map (λ m. m.name) messages.now ++ []) }
+    ensures { result ≡ is_below_last name.now (map (λ m. m.name) messages.now ++ []) }
 {
     match messages.last() {
         Some(last) => is_below(name, last.name.as_slice()),
@@ -112,13 +112,13 @@ fn is_below_last_message(name: &[u8], messages: &[Message]) -> bool
     }
 }
 
-impl Open {
+impl OpenPart {
     // Whether this is an enum without a value.
     pub(crate) fn lacks_value(&self) -> bool
         ensures { result ≡ lacks_value (open_part self.now) }
     {
         match self {
-            Open::Enum(choices) => choices.values.is_empty(),
+            OpenPart::Enum(choices) => choices.values.is_empty(),
             _ => false,
         }
     }
@@ -128,17 +128,17 @@ impl Open {
         ensures { result ≡ lacks_zero (open_part self.now) }
     {
         match self {
-            Open::Enum(choices) => !has_zero(choices.values.as_slice()),
+            OpenPart::Enum(choices) => !has_zero(choices.values.as_slice()),
             _ => false,
         }
     }
 
     // Whether a value can't follow: no enum is open, or it is below the enum's last value.
-    pub(crate) fn value_falls(&self, number: Whole, name: &[u8]) -> bool
-        ensures { result ≡ value_falls (open_part self.now) number name.now }
+    pub(crate) fn is_value_out_of_order(&self, number: EnumNumber, name: &[u8]) -> bool
+        ensures { result ≡ is_value_out_of_order (open_part self.now) number name.now }
     {
         match self {
-            Open::Enum(choices) => match choices.values.as_slice().last() {
+            OpenPart::Enum(choices) => match choices.values.as_slice().last() {
                 Some(last) => is_value_below(number, name, last),
                 None => false,
             },
@@ -147,11 +147,11 @@ impl Open {
     }
 
     // Whether a field can't follow: no message is open, or its number is below that of the last field.
-    pub(crate) fn field_falls(&self, number: Option<u32>) -> bool
-        ensures { result ≡ field_falls (open_part self.now) number }
+    pub(crate) fn is_field_out_of_order(&self, number: Option<u32>) -> bool
+        ensures { result ≡ is_field_out_of_order (open_part self.now) number }
     {
         match self {
-            Open::Message(message) => match (message.fields.as_slice().last(), number) {
+            OpenPart::Message(message) => match (message.fields.as_slice().last(), number) {
                 (Some(last), Some(number)) => number < last.number,
                 _ => false,
             },
@@ -164,7 +164,7 @@ impl Open {
         ensures { result ≡ repeats_number (open_part self.now) number }
     {
         match self {
-            Open::Message(message) => match (message.fields.as_slice().last(), number) {
+            OpenPart::Message(message) => match (message.fields.as_slice().last(), number) {
                 (Some(last), Some(number)) => number == last.number,
                 _ => false,
             },
@@ -177,7 +177,7 @@ impl Open {
         ensures { OnOk result (self.new ≡ with_value self.old (Within number) name) }
     {
         match self {
-            Open::Enum(choices) => choices.values.push((number, name)),
+            OpenPart::Enum(choices) => choices.values.push((number, name)),
             _ => Ok(()),
         }
     }
@@ -187,7 +187,7 @@ impl Open {
         ensures { OnOk result (self.new ≡ with_parts self.old field oneof) }
     {
         match self {
-            Open::Message(message) => add_parts(message, field, oneof),
+            OpenPart::Message(message) => add_parts(message, field, oneof),
             _ => Ok(()),
         }
     }
@@ -198,9 +198,9 @@ impl Open {
         ensures messages { OnOk result (messages.new ≡ with_message self messages.old) }
     {
         match self {
-            Open::Nothing => Ok(()),
-            Open::Enum(choices) => enums.push(choices),
-            Open::Message(message) => messages.push(message),
+            OpenPart::Nothing => Ok(()),
+            OpenPart::Enum(choices) => enums.push(choices),
+            OpenPart::Message(message) => messages.push(message),
         }
     }
 
@@ -209,42 +209,42 @@ impl Open {
         ensures { result ≡ open_count (open_part self.now) }
     {
         match self {
-            Open::Nothing => 0,
-            Open::Enum(choices) => choices.values.len(),
-            Open::Message(message) => message.fields.len(),
+            OpenPart::Nothing => 0,
+            OpenPart::Enum(choices) => choices.values.len(),
+            OpenPart::Message(message) => message.fields.len(),
         }
     }
 }
 
-impl Draft {
+impl TableDraft {
     // An empty draft.
-    pub(crate) fn new(alloc: Global) -> Draft
+    pub(crate) fn new(alloc: Global) -> TableDraft
         ensures { result ≡ empty_draft }
     {
-        Draft {
+        TableDraft {
             enums: Sequence::new(alloc),
             messages: Sequence::new(alloc),
             methods: Sequence::new(alloc),
-            open_part: Open::Nothing,
+            open_part: OpenPart::Nothing,
         }
     }
 
     // Whether the name is below that of the last enum.
-    pub(crate) fn enum_falls(&self, name: &[u8]) -> bool
-        ensures { result ≡ falls name.now (enum_names self.now) }
+    pub(crate) fn is_enum_below_last(&self, name: &[u8]) -> bool
+        ensures { result ≡ is_below_last name.now (enum_names self.now) }
     {
         match &self.open_part {
-            Open::Enum(choices) => is_below(name, choices.name.as_slice()),
+            OpenPart::Enum(choices) => is_below(name, choices.name.as_slice()),
             _ => is_below_last_enum(name, self.enums.as_slice()),
         }
     }
 
     // Whether the name is below that of the last message.
-    pub(crate) fn message_falls(&self, name: &[u8]) -> bool
-        ensures { result ≡ falls name.now (message_names self.now) }
+    pub(crate) fn is_message_below_last(&self, name: &[u8]) -> bool
+        ensures { result ≡ is_below_last name.now (message_names self.now) }
     {
         match &self.open_part {
-            Open::Message(message) => is_below(name, message.name.as_slice()),
+            OpenPart::Message(message) => is_below(name, message.name.as_slice()),
             _ => is_below_last_message(name, self.messages.as_slice()),
         }
     }
@@ -254,7 +254,7 @@ impl Draft {
         ensures { result ≡ not (is_empty (message_names self.now)) }
     {
         match self.open_part {
-            Open::Message(_) => true,
+            OpenPart::Message(_) => true,
             _ => !self.messages.is_empty(),
         }
     }
@@ -264,7 +264,7 @@ impl Draft {
         ensures { result ≡ nat_le MAX_ENUMS (length (enum_names self.now)) }
     {
         match self.open_part {
-            Open::Enum(_) => self.enums.len() >= MAX_ENUMS - 1,
+            OpenPart::Enum(_) => self.enums.len() >= MAX_ENUMS - 1,
             _ => self.enums.len() >= MAX_ENUMS,
         }
     }
@@ -274,24 +274,27 @@ impl Draft {
         ensures { result ≡ nat_le MAX_MESSAGES (length (message_names self.now)) }
     {
         match self.open_part {
-            Open::Message(_) => self.messages.len() >= MAX_MESSAGES - 1,
+            OpenPart::Message(_) => self.messages.len() >= MAX_MESSAGES - 1,
             _ => self.messages.len() >= MAX_MESSAGES,
         }
     }
 
     // Moves the open part to the finished ones.
     pub(crate) fn close(&mut self) -> Result<(), Memory>
-        ensures { OnOk result (self.new ≡ closed self.old) }
+        ensures { OnOk result (self.new ≡ with_part_closed self.old) }
     {
-        mem::replace(&mut self.open_part, Open::Nothing).join(&mut self.enums, &mut self.messages)
+        mem::replace(&mut self.open_part, OpenPart::Nothing).join(
+            &mut self.enums,
+            &mut self.messages,
+        )
     }
 
     // The table of all parts, the open one included.
     pub(crate) fn into_table(mut self) -> Result<Table, Memory>
-        ensures { IfOk result (λ t. t ≡ table_of self) }
+        ensures { IfOk result (λ t. t ≡ table_of_draft self) }
     {
         self.close()?;
-        let Draft {
+        let TableDraft {
             enums,
             messages,
             methods,

@@ -39,11 +39,11 @@ pub enum TableFault {
 }
 
 impl TableReason {
-    ghost use Rattle.table_text.specs.Reason.{reason_word};
+    ghost use Rattle.table_text.specs.Reason.{table_reason_word};
 
     /// The word that names the reason in a printed fault.
     pub fn word(self) -> &'static str
-        ensures { result.now ≡ reason_word self }
+        ensures { result.now ≡ table_reason_word self }
     {
         match self {
             TableReason::Syntax => "Syntax",

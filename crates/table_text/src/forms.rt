@@ -3,11 +3,11 @@
 ghost use Rattle.std.specs.Prelude.{◌≡◌, ◌++◌, ◌∷◌, ◌==◌, ◌&&◌, ℕ, [], List, length, IfOk, IfSome, MatchOption};
 ghost use Rattle.mrpc_table.specs.Lines.{words_of};
 ghost use Rattle.mrpc_table.specs.Names.{is_name_form, is_full_form};
-ghost use Rattle.table_text.specs.Lines.{line_of, enum_of, value_of, message_of, field_of, method_of};
+ghost use Rattle.table_text.specs.Lines.{line_of, enum_line_of, value_line_of, message_line_of, field_line_of, method_line_of};
 
-use crate::line::{FieldLine, Line, MethodLine};
-use crate::words::{full_name_of, index_of, kind_of, label_of, name_of, whole_of};
-use mrpc_table::{Bytes, Memory, cut, is_full_form, is_name_form, is_word};
+use crate::line::{FieldLine, MethodLine, TableLine};
+use crate::words::{enum_number_of, full_name_of, index_of, kind_of, label_of, name_of};
+use mrpc_table::{Bytes, Memory, is_full_form, is_name_form, is_word, split_once};
 use std::alloc::Global;
 
 // The first word and the line after it, if there are at least two words.
@@ -15,7 +15,7 @@ fn next_word(line: &[u8]) -> Option<(&[u8], &[u8])>
     ensures { MatchOption result (words_of line.now ≡ line.now ∷ [])
         (λ p. words_of line.now ≡ p.0.now ∷ words_of p.1.now) }
 {
-    cut(line, b' ')
+    split_once(line, b' ')
 }
 
 // The word of a line that has only one.
@@ -32,34 +32,34 @@ fn only_word(line: &[u8]) -> Option<&[u8]>
 }
 
 // `enum FULLNAME`, without its first word.
-fn enum_line(alloc: Global, line: &[u8]) -> Result<Option<Line>, Memory>
-    ensures { IfOk result (λ r. r ≡ enum_of (words_of line.now)) }
+fn enum_line(alloc: Global, line: &[u8]) -> Result<Option<TableLine>, Memory>
+    ensures { IfOk result (λ r. r ≡ enum_line_of (words_of line.now)) }
 {
     let Some(name) = only_word(line) else {
         return Ok(None);
     };
     match full_name_of(alloc, name)? {
-        Some(name) => Ok(Some(Line::Enum(name))),
+        Some(name) => Ok(Some(TableLine::Enum(name))),
         None => Ok(None),
     }
 }
 
 // `message FULLNAME`, without its first word.
-fn message_line(alloc: Global, line: &[u8]) -> Result<Option<Line>, Memory>
-    ensures { IfOk result (λ r. r ≡ message_of (words_of line.now)) }
+fn message_line(alloc: Global, line: &[u8]) -> Result<Option<TableLine>, Memory>
+    ensures { IfOk result (λ r. r ≡ message_line_of (words_of line.now)) }
 {
     let Some(name) = only_word(line) else {
         return Ok(None);
     };
     match full_name_of(alloc, name)? {
-        Some(name) => Ok(Some(Line::Message(name))),
+        Some(name) => Ok(Some(TableLine::Message(name))),
         None => Ok(None),
     }
 }
 
 // `value NUMBER NAME`, without its first word.
-fn value_line(alloc: Global, line: &[u8]) -> Result<Option<Line>, Memory>
-    ensures { IfOk result (λ r. r ≡ value_of (words_of line.now)) }
+fn value_line(alloc: Global, line: &[u8]) -> Result<Option<TableLine>, Memory>
+    ensures { IfOk result (λ r. r ≡ value_line_of (words_of line.now)) }
 {
     let Some((number, rest)) = next_word(line) else {
         return Ok(None);
@@ -67,18 +67,18 @@ fn value_line(alloc: Global, line: &[u8]) -> Result<Option<Line>, Memory>
     let Some(name) = only_word(rest) else {
         return Ok(None);
     };
-    let Some(number) = whole_of(number) else {
+    let Some(number) = enum_number_of(number) else {
         return Ok(None);
     };
     match name_of(alloc, name)? {
-        Some(name) => Ok(Some(Line::Value(number, name))),
+        Some(name) => Ok(Some(TableLine::Value(number, name))),
         None => Ok(None),
     }
 }
 
 // `field NUMBER LABEL KIND NAME`, without its first word.
-fn field_line(alloc: Global, line: &[u8]) -> Result<Option<Line>, Memory>
-    ensures { IfOk result (λ r. r ≡ field_of (words_of line.now)) }
+fn field_line(alloc: Global, line: &[u8]) -> Result<Option<TableLine>, Memory>
+    ensures { IfOk result (λ r. r ≡ field_line_of (words_of line.now)) }
 {
     let Some((number, rest)) = next_word(line) else {
         return Ok(None);
@@ -101,8 +101,8 @@ fn field_of_words(
     label: &[u8],
     kind: &[u8],
     name: &[u8],
-) -> Result<Option<Line>, Memory>
-    ensures { IfOk result (λ r. r ≡ field_of (number.now ∷ label.now ∷ kind.now ∷ name.now ∷ [])) }
+) -> Result<Option<TableLine>, Memory>
+    ensures { IfOk result (λ r. r ≡ field_line_of (number.now ∷ label.now ∷ kind.now ∷ name.now ∷ [])) }
 {
     let Some(number) = index_of(number) else {
         return Ok(None);
@@ -116,7 +116,7 @@ fn field_of_words(
     let Some(name) = name_of(alloc, name)? else {
         return Ok(None);
     };
-    Ok(Some(Line::Field(FieldLine {
+    Ok(Some(TableLine::Field(FieldLine {
         number,
         label,
         kind,
@@ -125,8 +125,8 @@ fn field_of_words(
 }
 
 // `method INDEX SERVICE NAME INPUT OUTPUT`, without its first word.
-fn method_line(alloc: Global, line: &[u8]) -> Result<Option<Line>, Memory>
-    ensures { IfOk result (λ r. r ≡ method_of (words_of line.now)) }
+fn method_line(alloc: Global, line: &[u8]) -> Result<Option<TableLine>, Memory>
+    ensures { IfOk result (λ r. r ≡ method_line_of (words_of line.now)) }
 {
     let Some((index, rest)) = next_word(line) else {
         return Ok(None);
@@ -161,8 +161,8 @@ fn method_of_words(
     name: &[u8],
     input: &[u8],
     output: &[u8],
-) -> Result<Option<Line>, Memory>
-    ensures { IfOk result (λ r. r ≡ method_of (index.now ∷ service.now ∷ name.now ∷ input.now ∷ output.now ∷ [])) }
+) -> Result<Option<TableLine>, Memory>
+    ensures { IfOk result (λ r. r ≡ method_line_of (index.now ∷ service.now ∷ name.now ∷ input.now ∷ output.now ∷ [])) }
 {
     let Some(index) = index_of(index) else {
         return Ok(None);
@@ -170,7 +170,7 @@ fn method_of_words(
     if !are_method_names(service, name, input, output) {
         return Ok(None);
     }
-    Ok(Some(Line::Method(MethodLine {
+    Ok(Some(TableLine::Method(MethodLine {
         index,
         service: Bytes::from_slice(alloc, service)?,
         name: Bytes::from_slice(alloc, name)?,
@@ -181,7 +181,7 @@ fn method_of_words(
 
 /// Parses a line. `None` if it doesn't have the form of a line.
 #[tactic(auto, unfolding(crate::specs::Lines::line_of))]
-pub fn line_of(alloc: Global, line: &[u8]) -> Result<Option<Line>, Memory>
+pub fn line_of(alloc: Global, line: &[u8]) -> Result<Option<TableLine>, Memory>
     ensures { IfOk result (λ r. r ≡ line_of line.now) }
 {
     let Some((first, rest)) = next_word(line) else {

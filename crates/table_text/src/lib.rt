@@ -11,20 +11,20 @@
 mod draft;
 mod fault;
 mod forms;
-mod judge;
 mod line;
-mod places;
+mod line_tests;
+mod name_index;
 mod reach;
 mod read;
 mod reader;
-mod table_cut;
+mod table_split;
 mod text;
 mod words;
 
 pub use fault::{TableFault, TableReason};
 pub use forms::line_of;
-pub use line::{FieldLine, KindWord, LabelWord, Line, MethodLine, Whole};
-pub use read::{one_fault, one_text, read_table, table_or_fault};
-pub use table_cut::{one_table_behind, split_table};
+pub use line::{EnumNumber, FieldLine, KindWord, LabelWord, MethodLine, TableLine};
+pub use read::{read_table, table_fault_is_unique, table_or_fault, table_text_is_unique};
+pub use table_split::{split_table, table_after_is_unique};
 pub use text::table_text;
-pub use words::behind;
+pub use words::without_prefix;

@@ -32,7 +32,7 @@ pub enum LabelWord {
 
 /// The number of an enum value, of any size.
 #[derive(Clone, Copy)]
-pub enum Whole {
+pub enum EnumNumber {
     /// Below each signed 32-bit number.
     Low,
     /// A signed 32-bit number.
@@ -69,11 +69,11 @@ pub struct MethodLine {
 
 /// A line of the right form.
 #[derive(Drop)]
-pub enum Line {
+pub enum TableLine {
     /// `enum FULLNAME`
     Enum(Name),
     /// `value NUMBER NAME`
-    Value(Whole, Name),
+    Value(EnumNumber, Name),
     /// `message FULLNAME`
     Message(Name),
     /// A field of the last message above it.

@@ -2,10 +2,10 @@
 
 ghost use Rattle.std.specs.Prelude.{◌≡◌, ◌⊎◌, ◌<◌, ◌≤◌, ◌+◌, ◌++◌, ℕ, List, length, IfOk, IfErr, OnOk, MatchResult, None};
 ghost use Rattle.mrpc_table.specs.Lines.{whole_lines};
-ghost use Rattle.table_text.specs.Faults.{IsFirstFault, IsFaultOf};
-ghost use Rattle.table_text.specs.Judged.{fault_at, IsJudgedOf};
+ghost use Rattle.table_text.specs.Faults.{IsFirstTableFault, IsTableFaultOf};
+ghost use Rattle.table_text.specs.LineTests.{fault_at_line, IsFaultFound};
 ghost use Rattle.mrpc_table.specs.Text.{table_text};
-ghost use Rattle.mrpc_table.specs.Valid.{IsValid, HaveOneTextEach};
+ghost use Rattle.mrpc_table.specs.Valid.{IsValid, HasUniqueTexts};
 ghost use Rattle.mrpc_table.specs.declared.table.Table.{Table};
 ghost use Rattle.table_text.specs.declared.fault.TableReason.{TableReason};
 ghost use Rattle.table_text.specs.declared.fault.TableFault.TheVariants.{Memory as NoMemory};
@@ -13,21 +13,21 @@ ghost use Rattle.table_text.specs.Drafts.{table_in};
 
 use crate::fault::TableFault;
 use crate::reach::known_types;
-use crate::reader::Reader;
-use mrpc_table::{Table, cut};
+use crate::reader::TableReader;
+use mrpc_table::{Table, split_once};
 use std::alloc::Global;
 
 // The table of a text, or its first fault.
 fn read_lines(alloc: Global, text: &[u8]) -> Result<Table, TableFault>
     ensures table { IfOk result (λ t. t ≡ table_in (whole_lines text.now)) }
-    ensures clean { OnOk result ((i : ℕ) → fault_at text.now i ≡ None) }
-    ensures fault { IfErr result (λ e. IsJudgedOf text.now e) }
+    ensures clean { OnOk result ((i : ℕ) → fault_at_line text.now i ≡ None) }
+    ensures fault { IfErr result (λ e. IsFaultFound text.now e) }
 {
     let (known_enums, known_messages) = known_types(alloc, text)?;
-    let mut reader = Reader::new(alloc, known_enums, known_messages);
+    let mut reader = TableReader::new(alloc, known_enums, known_messages);
     let mut rest = text;
     let mut number = 1;
-    while let Some((line, others)) = cut(rest, b'\n') {
+    while let Some((line, others)) = split_once(rest, b'\n') {
         reader.take(alloc, line, text.len() - others.len(), number)?;
         rest = others;
         number += 1;
@@ -46,28 +46,28 @@ pub fn read_table(alloc: Global, text: &[u8]) -> Result<Table, TableFault>
     ensures only { (t : Table) → IsValid t → text.now ≡ table_text t
         → MatchResult result (λ read. read ≡ t) (λ fault. fault ≡ NoMemory) }
     // A fault is the first one of the text.
-    ensures fault { IfErr result (λ fault. IsFaultOf text.now fault) }
+    ensures fault { IfErr result (λ fault. IsTableFaultOf text.now fault) }
 {
     read_lines(alloc, text)
 }
 
 /// The canonical text of a valid table determines it: two valid tables with the same text are equal.
-pub fn one_text()
-    ensures { HaveOneTextEach }
+pub fn table_text_is_unique()
+    ensures { HasUniqueTexts }
 {}
 
 /// A text has at most one first fault, at one of its lines or at its end. The canonical text of a valid table has none.
-pub fn one_fault()
-    ensures one { (text : List ℕ) (m n : ℕ) (r q : TableReason) → IsFirstFault text m r → IsFirstFault text n q
+pub fn table_fault_is_unique()
+    ensures one { (text : List ℕ) (m n : ℕ) (r q : TableReason) → IsFirstTableFault text m r → IsFirstTableFault text n q
         → (m ≡ n) × (r ≡ q) }
-    ensures none { (t : Table) (line : ℕ) (reason : TableReason) → IsValid t → IsFirstFault (table_text t) line reason
+    ensures none { (t : Table) (line : ℕ) (reason : TableReason) → IsValid t → IsFirstTableFault (table_text t) line reason
         → ⊥ }
-    ensures place { (text : List ℕ) (line : ℕ) (reason : TableReason) → IsFirstFault text line reason
+    ensures place { (text : List ℕ) (line : ℕ) (reason : TableReason) → IsFirstTableFault text line reason
         → line ≤ length text + 1 }
 {}
 
 /// A text is the canonical text of a valid table, or it has a first fault.
 pub fn table_or_fault()
     ensures { (text : List ℕ) → ((t : Table) × IsValid t × (text ≡ table_text t))
-        ⊎ ((line : ℕ) × (reason : TableReason) × IsFirstFault text line reason) }
+        ⊎ ((line : ℕ) × (reason : TableReason) × IsFirstTableFault text line reason) }
 {}

@@ -1,18 +1,18 @@
 //! A draft with the names so far.
 
 ghost use Rattle.std.specs.Prelude.{◌≡◌, ◌++◌, ◌∷◌, ℕ, List, [], length, IfOk, IfErr, OnOk, Some, None};
-ghost use Rattle.table_text.specs.declared.line.Line.TheVariants.{Enum, Value};
-ghost use Rattle.table_text.specs.Judged.{Types, is_type_before, is_value_before, is_field_before, method_key, is_unknown_kind, is_unknown_label, is_unknown, is_duplicate, line_fault, end_fault};
+ghost use Rattle.table_text.specs.declared.line.TableLine.TheVariants.{Enum, Value};
+ghost use Rattle.table_text.specs.LineTests.{TypeNames, is_type_before, is_value_before, is_field_before, method_key, is_unknown_kind, is_unknown_label, has_unknown_type, has_duplicate, line_fault, end_fault};
 ghost use Rattle.table_text.specs.Lines.{line_of};
-ghost use Rattle.table_text.specs.Drafts.{Blames, added_line, table_of, before, open_part, empty_draft, resolved, labeled, joined_with, new_oneof, oneofs_of, field_of, method_of, added, added_enum, added_message, added_value, added_field, added_method};
-ghost use Rattle.table_text.specs.Places.{Holds};
-ghost use Rattle.table_text.specs.Readers.{IsKept};
+ghost use Rattle.table_text.specs.Drafts.{IsFaultAtLine, with_parsed_line, table_of_draft, names_before_line, open_part, empty_draft, resolved, labeled, joined_with, new_oneof, oneofs_of_open, resolved_field, resolved_method, with_line, added_enum, added_message, added_value, added_field, added_method};
+ghost use Rattle.table_text.specs.NameIndex.{AreNames};
+ghost use Rattle.table_text.specs.Readers.{IsReaderState};
 
-use crate::draft::{Draft, Open};
+use crate::draft::{OpenPart, TableDraft};
 use crate::fault::{TableFault, TableReason};
-use crate::judge::{is_limit, is_map_key, is_number, is_syntax};
-use crate::places::Places;
-use crate::{FieldLine, KindWord, LabelWord, Line, MethodLine, Whole, line_of};
+use crate::line_tests::{exceeds_limit, has_map_key_fault, has_number_fault, has_syntax_fault};
+use crate::name_index::NameIndex;
+use crate::{EnumNumber, FieldLine, KindWord, LabelWord, MethodLine, TableLine, line_of};
 use mrpc_table::{
     Bytes, Choices, Field, Kind, Label, Memory, Message, Method, Name, Names, Sequence, Table,
 };
@@ -20,20 +20,20 @@ use std::alloc::Global;
 
 // A table while its text is read, with the types that the text names. It also has the names so far: of enums, messages
 // and methods with their services, of the values or fields of the open part, and of its oneofs.
-pub(crate) struct Reader {
-    pub known_enums: Places,
-    pub known_messages: Places,
-    pub draft: Draft,
-    pub enum_names: Places,
-    pub message_names: Places,
-    pub method_names: Places,
-    pub inner_names: Places,
-    pub oneofs: Places,
+pub(crate) struct TableReader {
+    pub known_enums: NameIndex,
+    pub known_messages: NameIndex,
+    pub draft: TableDraft,
+    pub enum_names: NameIndex,
+    pub message_names: NameIndex,
+    pub method_names: NameIndex,
+    pub inner_names: NameIndex,
+    pub oneofs: NameIndex,
 }
 
-impl Drop for Reader {
+impl Drop for TableReader {
     fn drop(self) {
-        let Reader {
+        let TableReader {
             known_enums: _known_enums,
             known_messages: _known_messages,
             draft: _draft,
@@ -56,63 +56,69 @@ fn key_of(alloc: Global, method: &MethodLine) -> Result<Bytes, Memory>
     Ok(key)
 }
 
-impl Reader {
+impl TableReader {
     // A reader before the first line, for a text that names these types.
-    pub(crate) fn new(alloc: Global, known_enums: Places, known_messages: Places) -> Reader
-        ensures kept { (t : Types) → Holds known_enums t.enums → Holds known_messages t.messages → IsKept t result }
+    pub(crate) fn new(
+        alloc: Global,
+        known_enums: NameIndex,
+        known_messages: NameIndex,
+    ) -> TableReader
+        ensures kept { (t : TypeNames) → AreNames known_enums t.enums → AreNames known_messages t.messages → IsReaderState t result }
         ensures nothing { result.draft ≡ empty_draft }
     {
-        Reader {
+        TableReader {
             known_enums,
             known_messages,
-            draft: Draft::new(alloc),
-            enum_names: Places::new(alloc),
-            message_names: Places::new(alloc),
-            method_names: Places::new(alloc),
-            inner_names: Places::new(alloc),
-            oneofs: Places::new(alloc),
+            draft: TableDraft::new(alloc),
+            enum_names: NameIndex::new(alloc),
+            message_names: NameIndex::new(alloc),
+            method_names: NameIndex::new(alloc),
+            inner_names: NameIndex::new(alloc),
+            oneofs: NameIndex::new(alloc),
         }
     }
 
     fn is_type_before(&self, name: &[u8]) -> bool
-        ensures { (t : Types) → IsKept t self.now → result ≡ is_type_before (before self.now.draft) name.now }
+        ensures { (t : TypeNames) → IsReaderState t self.now → result ≡ is_type_before (names_before_line self.now.draft) name.now }
     {
         self.enum_names.contains(name) || self.message_names.contains(name)
     }
 
     fn is_value_before(&self, name: &[u8]) -> bool
-        ensures { (t : Types) → IsKept t self.now
+        ensures { (t : TypeNames) → IsReaderState t self.now
             → result ≡ is_value_before (open_part self.now.draft.open_part) name.now }
     {
         match self.draft.open_part {
-            Open::Enum(_) => self.inner_names.contains(name),
+            OpenPart::Enum(_) => self.inner_names.contains(name),
             _ => false,
         }
     }
 
     fn is_field_before(&self, name: &[u8]) -> bool
-        ensures { (t : Types) → IsKept t self.now
+        ensures { (t : TypeNames) → IsReaderState t self.now
             → result ≡ is_field_before (open_part self.now.draft.open_part) name.now }
     {
         match self.draft.open_part {
-            Open::Message(_) => self.inner_names.contains(name),
+            OpenPart::Message(_) => self.inner_names.contains(name),
             _ => false,
         }
     }
 
     // Whether a name or a field number occurred before.
-    fn is_duplicate(&self, alloc: Global, line: &Line) -> Result<bool, Memory>
-        ensures { (t : Types) → IsKept t self.now
-            → IfOk result (λ r. r ≡ is_duplicate (before self.now.draft) line.now) }
+    fn has_duplicate(&self, alloc: Global, line: &TableLine) -> Result<bool, Memory>
+        ensures { (t : TypeNames) → IsReaderState t self.now
+            → IfOk result (λ r. r ≡ has_duplicate (names_before_line self.now.draft) line.now) }
     {
         match line {
-            Line::Enum(name) | Line::Message(name) => Ok(self.is_type_before(name.as_slice())),
-            Line::Value(_, name) => Ok(self.is_value_before(name.as_slice())),
-            Line::Field(field) => Ok(
+            TableLine::Enum(name) | TableLine::Message(name) => Ok(self.is_type_before(
+                name.as_slice(),
+            )),
+            TableLine::Value(_, name) => Ok(self.is_value_before(name.as_slice())),
+            TableLine::Field(field) => Ok(
                 self.is_field_before(field.name.as_slice())
                     || self.draft.open_part.repeats_number(field.number),
             ),
-            Line::Method(method) => {
+            TableLine::Method(method) => {
                 let key = key_of(alloc, method)?;
                 Ok(self.method_names.contains(key.as_slice()))
             }
@@ -120,7 +126,7 @@ impl Reader {
     }
 
     fn is_unknown_kind(&self, kind: &KindWord) -> bool
-        ensures { (t : Types) → IsKept t self.now → result ≡ is_unknown_kind t kind.now }
+        ensures { (t : TypeNames) → IsReaderState t self.now → result ≡ is_unknown_kind t kind.now }
     {
         match kind {
             KindWord::Scalar(_) => false,
@@ -130,7 +136,7 @@ impl Reader {
     }
 
     fn is_unknown_label(&self, label: &LabelWord) -> bool
-        ensures { (t : Types) → IsKept t self.now → result ≡ is_unknown_label t label.now }
+        ensures { (t : TypeNames) → IsReaderState t self.now → result ≡ is_unknown_label t label.now }
     {
         match label {
             LabelWord::Map(key) => self.is_unknown_kind(key),
@@ -143,14 +149,14 @@ impl Reader {
     }
 
     // Whether the line uses a type that no line declares.
-    fn is_unknown(&self, line: &Line) -> bool
-        ensures { (t : Types) → IsKept t self.now → result ≡ is_unknown t line.now }
+    fn has_unknown_type(&self, line: &TableLine) -> bool
+        ensures { (t : TypeNames) → IsReaderState t self.now → result ≡ has_unknown_type t line.now }
     {
         match line {
-            Line::Field(field) => {
+            TableLine::Field(field) => {
                 self.is_unknown_label(&field.label) || self.is_unknown_kind(&field.kind)
             }
-            Line::Method(method) => {
+            TableLine::Method(method) => {
                 !self.known_messages.contains(method.input.as_slice())
                     || !self.known_messages.contains(method.output.as_slice())
             }
@@ -162,28 +168,28 @@ impl Reader {
     pub(crate) fn fault_of(
         &self,
         alloc: Global,
-        line: &Line,
+        line: &TableLine,
         bytes: usize,
     ) -> Result<Option<TableReason>, Memory>
-        ensures { (t : Types) → IsKept t self.now
-            → IfOk result (λ r. r ≡ line_fault t (before self.now.draft) bytes (Some line.now)) }
+        ensures { (t : TypeNames) → IsReaderState t self.now
+            → IfOk result (λ r. r ≡ line_fault t (names_before_line self.now.draft) bytes (Some line.now)) }
     {
-        if is_syntax(&self.draft, line) {
+        if has_syntax_fault(&self.draft, line) {
             return Ok(Some(TableReason::Syntax));
         }
-        if is_number(&self.draft, line) {
+        if has_number_fault(&self.draft, line) {
             return Ok(Some(TableReason::Number));
         }
-        if self.is_duplicate(alloc, line)? {
+        if self.has_duplicate(alloc, line)? {
             return Ok(Some(TableReason::Duplicate));
         }
-        if self.is_unknown(line) {
+        if self.has_unknown_type(line) {
             return Ok(Some(TableReason::UnknownType));
         }
-        if is_map_key(line) {
+        if has_map_key_fault(line) {
             return Ok(Some(TableReason::MapKey));
         }
-        if is_limit(&self.draft, bytes, line) {
+        if exceeds_limit(&self.draft, bytes, line) {
             return Ok(Some(TableReason::Limit));
         }
         Ok(None)
@@ -197,13 +203,13 @@ impl Reader {
         bytes: usize,
         number: u64,
     ) -> Result<(), TableFault>
-        ensures clean { (t : Types) → IsKept t self.old
-            → OnOk result (line_fault t (before self.old.draft) bytes (line_of text.now) ≡ None) }
-        ensures draft { (t : Types) → IsKept t self.old
-            → OnOk result (self.new.draft ≡ added_line t self.old.draft (line_of text.now)) }
-        ensures kept { (t : Types) → IsKept t self.old → OnOk result (IsKept t self.new) }
-        ensures fault { (t : Types) → IsKept t self.old
-            → IfErr result (λ e. Blames e number (line_fault t (before self.old.draft) bytes (line_of text.now))) }
+        ensures clean { (t : TypeNames) → IsReaderState t self.old
+            → OnOk result (line_fault t (names_before_line self.old.draft) bytes (line_of text.now) ≡ None) }
+        ensures draft { (t : TypeNames) → IsReaderState t self.old
+            → OnOk result (self.new.draft ≡ with_parsed_line t self.old.draft (line_of text.now)) }
+        ensures kept { (t : TypeNames) → IsReaderState t self.old → OnOk result (IsReaderState t self.new) }
+        ensures fault { (t : TypeNames) → IsReaderState t self.old
+            → IfErr result (λ e. IsFaultAtLine e number (line_fault t (names_before_line self.old.draft) bytes (line_of text.now))) }
     {
         let Some(line) = line_of(alloc, text)? else {
             return Err(TableFault::At {
@@ -222,23 +228,23 @@ impl Reader {
     }
 
     // Adds a line to the draft. A line without a fault is added without loss.
-    fn add(&mut self, alloc: Global, line: Line) -> Result<(), Memory>
-        ensures draft { (t : Types) → IsKept t self.old
-            → OnOk result (self.new.draft ≡ added t self.old.draft line) }
-        ensures kept { (t : Types) → IsKept t self.old → OnOk result (IsKept t self.new) }
+    fn add(&mut self, alloc: Global, line: TableLine) -> Result<(), Memory>
+        ensures draft { (t : TypeNames) → IsReaderState t self.old
+            → OnOk result (self.new.draft ≡ with_line t self.old.draft line) }
+        ensures kept { (t : TypeNames) → IsReaderState t self.old → OnOk result (IsReaderState t self.new) }
     {
         match line {
-            Line::Enum(name) => self.add_enum(alloc, name),
-            Line::Value(number, name) => self.add_value(alloc, number, name),
-            Line::Message(name) => self.add_message(alloc, name),
-            Line::Field(field) => self.add_field(alloc, field),
-            Line::Method(method) => self.add_method(alloc, method),
+            TableLine::Enum(name) => self.add_enum(alloc, name),
+            TableLine::Value(number, name) => self.add_value(alloc, number, name),
+            TableLine::Message(name) => self.add_message(alloc, name),
+            TableLine::Field(field) => self.add_field(alloc, field),
+            TableLine::Method(method) => self.add_method(alloc, method),
         }
     }
 
     // The first reason for which the end of the text is at fault.
     fn end_fault(&self, rest: &[u8]) -> Option<TableReason>
-        ensures { result ≡ end_fault (before self.now.draft) rest.now }
+        ensures { result ≡ end_fault (names_before_line self.now.draft) rest.now }
     {
         if !rest.is_empty() || self.draft.open_part.lacks_value() {
             Some(TableReason::Syntax)
@@ -251,9 +257,9 @@ impl Reader {
 
     // The table, if the end of the text, which is the line with this number, isn't at fault.
     pub(crate) fn finish(self, rest: &[u8], number: u64) -> Result<Table, TableFault>
-        ensures clean { OnOk result (end_fault (before self.draft) rest.now ≡ None) }
-        ensures table { IfOk result (λ t. t ≡ table_of self.draft) }
-        ensures fault { IfErr result (λ e. Blames e number (end_fault (before self.draft) rest.now)) }
+        ensures clean { OnOk result (end_fault (names_before_line self.draft) rest.now ≡ None) }
+        ensures table { IfOk result (λ t. t ≡ table_of_draft self.draft) }
+        ensures fault { IfErr result (λ e. IsFaultAtLine e number (end_fault (names_before_line self.draft) rest.now)) }
     {
         if let Some(reason) = self.end_fault(rest) {
             return Err(TableFault::At {
@@ -265,10 +271,10 @@ impl Reader {
     }
 
     // The draft alone.
-    fn into_draft(self) -> Draft
+    fn into_draft(self) -> TableDraft
         ensures { result ≡ self.draft }
     {
-        let Reader {
+        let TableReader {
             known_enums: _known_enums,
             known_messages: _known_messages,
             draft,
@@ -284,13 +290,13 @@ impl Reader {
     // Starts an enum.
     fn add_enum(&mut self, alloc: Global, name: Name) -> Result<(), Memory>
         ensures draft { OnOk result (self.new.draft ≡ added_enum self.old.draft name) }
-        ensures kept { (t : Types) → IsKept t self.old → OnOk result (IsKept t self.new) }
+        ensures kept { (t : TypeNames) → IsReaderState t self.old → OnOk result (IsReaderState t self.new) }
     {
         self.enum_names.add(alloc, name.as_slice())?;
-        self.inner_names = Places::new(alloc);
-        self.oneofs = Places::new(alloc);
+        self.inner_names = NameIndex::new(alloc);
+        self.oneofs = NameIndex::new(alloc);
         self.draft.close()?;
-        self.draft.open_part = Open::Enum(Choices {
+        self.draft.open_part = OpenPart::Enum(Choices {
             name,
             values: Sequence::new(alloc),
         });
@@ -300,13 +306,13 @@ impl Reader {
     // Starts a message.
     fn add_message(&mut self, alloc: Global, name: Name) -> Result<(), Memory>
         ensures draft { OnOk result (self.new.draft ≡ added_message self.old.draft name) }
-        ensures kept { (t : Types) → IsKept t self.old → OnOk result (IsKept t self.new) }
+        ensures kept { (t : TypeNames) → IsReaderState t self.old → OnOk result (IsReaderState t self.new) }
     {
         self.message_names.add(alloc, name.as_slice())?;
-        self.inner_names = Places::new(alloc);
-        self.oneofs = Places::new(alloc);
+        self.inner_names = NameIndex::new(alloc);
+        self.oneofs = NameIndex::new(alloc);
         self.draft.close()?;
-        self.draft.open_part = Open::Message(Message {
+        self.draft.open_part = OpenPart::Message(Message {
             name,
             fields: Sequence::new(alloc),
             oneofs: Sequence::new(alloc),
@@ -315,14 +321,14 @@ impl Reader {
     }
 
     // Adds a value to the open enum.
-    fn add_value(&mut self, alloc: Global, number: Whole, name: Name) -> Result<(), Memory>
+    fn add_value(&mut self, alloc: Global, number: EnumNumber, name: Name) -> Result<(), Memory>
         ensures draft { OnOk result (self.new.draft ≡ added_value self.old.draft number name) }
-        ensures kept { (t : Types) → IsKept t self.old → OnOk result (IsKept t self.new) }
+        ensures kept { (t : TypeNames) → IsReaderState t self.old → OnOk result (IsReaderState t self.new) }
     {
-        let Whole::Within(number) = number else {
+        let EnumNumber::Within(number) = number else {
             return Ok(());
         };
-        let Open::Enum(_) = self.draft.open_part else {
+        let OpenPart::Enum(_) = self.draft.open_part else {
             return Ok(());
         };
         self.inner_names.add(alloc, name.as_slice())?;
@@ -331,36 +337,36 @@ impl Reader {
 
     // Adds a method.
     fn add_method(&mut self, alloc: Global, method: MethodLine) -> Result<(), Memory>
-        ensures draft { (t : Types) → IsKept t self.old
+        ensures draft { (t : TypeNames) → IsReaderState t self.old
             → OnOk result (self.new.draft ≡ added_method t self.old.draft method) }
-        ensures kept { (t : Types) → IsKept t self.old → OnOk result (IsKept t self.new) }
+        ensures kept { (t : TypeNames) → IsReaderState t self.old → OnOk result (IsReaderState t self.new) }
     {
         add_key(alloc, &mut self.method_names, &method)?;
-        self.inner_names = Places::new(alloc);
-        self.oneofs = Places::new(alloc);
+        self.inner_names = NameIndex::new(alloc);
+        self.oneofs = NameIndex::new(alloc);
         self.draft.close()?;
-        let method = method_of(&self.known_messages, method);
+        let method = resolved_method(&self.known_messages, method);
         self.draft.methods.push(method)
     }
 
     // The kind that a word names, with the index of its type in the table.
     fn resolved(&self, kind: &KindWord) -> Kind
-        ensures { (t : Types) → IsKept t self.now → result ≡ resolved t kind.now }
+        ensures { (t : TypeNames) → IsReaderState t self.now → result ≡ resolved t kind.now }
     {
         match kind {
             KindWord::Scalar(kind) => *kind,
             KindWord::Message(name) => {
-                Kind::Message(self.known_messages.place_or_next(name.as_slice()))
+                Kind::Message(self.known_messages.index_or_next(name.as_slice()))
             }
             KindWord::Choice(name) => {
-                Kind::Choice(self.known_enums.place_or_next(name.as_slice()))
+                Kind::Choice(self.known_enums.index_or_next(name.as_slice()))
             }
         }
     }
 
     // The label that a word names, with the index of its oneof in the message.
     fn labeled(&self, label: &LabelWord) -> Label
-        ensures { (t : Types) → IsKept t self.now → result ≡ labeled t (oneofs_of self.now.draft.open_part) label.now }
+        ensures { (t : TypeNames) → IsReaderState t self.now → result ≡ labeled t (oneofs_of_open self.now.draft.open_part) label.now }
     {
         match label {
             LabelWord::Plain => Label::Plain,
@@ -368,14 +374,14 @@ impl Reader {
             LabelWord::Repeated => Label::Repeated,
             LabelWord::Packed => Label::Packed,
             LabelWord::Map(key) => Label::Map(self.resolved(key)),
-            LabelWord::Member(name) => Label::Member(self.oneofs.place_or_next(name.as_slice())),
+            LabelWord::Member(name) => Label::Member(self.oneofs.index_or_next(name.as_slice())),
         }
     }
 
     // A field with its number.
-    fn field_of(&self, number: u32, line: FieldLine) -> Field
-        ensures { (t : Types) → IsKept t self.now
-            → result ≡ field_of t (oneofs_of self.now.draft.open_part) number line }
+    fn resolved_field(&self, number: u32, line: FieldLine) -> Field
+        ensures { (t : TypeNames) → IsReaderState t self.now
+            → result ≡ resolved_field t (oneofs_of_open self.now.draft.open_part) number line }
     {
         let kind = self.resolved(&line.kind);
         let label = self.labeled(&line.label);
@@ -389,8 +395,8 @@ impl Reader {
 
     // The oneof of a label, if the open message doesn't have it yet.
     fn new_oneof(&self, alloc: Global, label: &LabelWord) -> Result<Option<Name>, Memory>
-        ensures { (t : Types) → IsKept t self.now
-            → IfOk result (λ r. r ≡ new_oneof (oneofs_of self.now.draft.open_part) label.now) }
+        ensures { (t : TypeNames) → IsReaderState t self.now
+            → IfOk result (λ r. r ≡ new_oneof (oneofs_of_open self.now.draft.open_part) label.now) }
     {
         match label {
             LabelWord::Member(name) => {
@@ -406,18 +412,18 @@ impl Reader {
 
     // Adds a field to the open message.
     fn add_field(&mut self, alloc: Global, line: FieldLine) -> Result<(), Memory>
-        ensures draft { (t : Types) → IsKept t self.old
+        ensures draft { (t : TypeNames) → IsReaderState t self.old
             → OnOk result (self.new.draft ≡ added_field t self.old.draft line) }
-        ensures kept { (t : Types) → IsKept t self.old → OnOk result (IsKept t self.new) }
+        ensures kept { (t : TypeNames) → IsReaderState t self.old → OnOk result (IsReaderState t self.new) }
     {
         let Some(number) = line.number else {
             return Ok(());
         };
-        let Open::Message(_) = self.draft.open_part else {
+        let OpenPart::Message(_) = self.draft.open_part else {
             return Ok(());
         };
         let oneof = self.new_oneof(alloc, &line.label)?;
-        let field = self.field_of(number, line);
+        let field = self.resolved_field(number, line);
         self.inner_names.add(alloc, field.name.as_slice())?;
         add_oneof(alloc, &mut self.oneofs, &oneof)?;
         self.draft.open_part.add_field(field, oneof)
@@ -425,27 +431,27 @@ impl Reader {
 }
 
 // A method, with the indices of its messages.
-fn method_of(messages: &Places, line: MethodLine) -> Method
-    ensures { (t : Types) → Holds messages.now t.messages → result ≡ method_of t line }
+fn resolved_method(messages: &NameIndex, line: MethodLine) -> Method
+    ensures { (t : TypeNames) → AreNames messages.now t.messages → result ≡ resolved_method t line }
 {
-    let input = messages.place_or_next(line.input.as_slice());
-    let output = messages.place_or_next(line.output.as_slice());
+    let input = messages.index_or_next(line.input.as_slice());
+    let output = messages.index_or_next(line.output.as_slice());
     line.into_method(input, output)
 }
 
 // Adds the key of a method.
-fn add_key(alloc: Global, names: &mut Places, method: &MethodLine) -> Result<(), Memory>
-    ensures { (old : List (List ℕ)) → Holds names.old old
-        → OnOk result (Holds names.new (old ++ method_key method.now ∷ [])) }
+fn add_key(alloc: Global, names: &mut NameIndex, method: &MethodLine) -> Result<(), Memory>
+    ensures { (old : List (List ℕ)) → AreNames names.old old
+        → OnOk result (AreNames names.new (old ++ method_key method.now ∷ [])) }
 {
     let key = key_of(alloc, method)?;
     names.add(alloc, key.as_slice())
 }
 
 // Adds a oneof, if there is a new one.
-fn add_oneof(alloc: Global, oneofs: &mut Places, oneof: &Option<Name>) -> Result<(), Memory>
-    ensures { (old : List (List ℕ)) → Holds oneofs.old old
-        → OnOk result (Holds oneofs.new (joined_with old oneof.now)) }
+fn add_oneof(alloc: Global, oneofs: &mut NameIndex, oneof: &Option<Name>) -> Result<(), Memory>
+    ensures { (old : List (List ℕ)) → AreNames oneofs.old old
+        → OnOk result (AreNames oneofs.new (joined_with old oneof.now)) }
 {
     match oneof {
         Some(name) => oneofs.add(alloc, name.as_slice()),

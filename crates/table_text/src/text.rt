@@ -3,7 +3,7 @@
 ghost use Rattle.std.specs.Prelude.{◌≡◌, ◌<◌, ◌≤◌, ◌++◌, ◌∷◌, [], ℕ, length, IfOk, OnOk, codes};
 ghost use Rattle.std.specs.Fmt.{decimal, signed_decimal};
 ghost use Rattle.mrpc_table.specs.Text.{kind_text, label_text, value_line, enum_lines, field_line, message_lines, method_line, table_text, message_name, enum_name, spaced};
-ghost use Rattle.mrpc_table.specs.Valid.{IsKnown, GoesWith, IsField, IsMessage, IsMethod, IsValid};
+ghost use Rattle.mrpc_table.specs.Valid.{IsKnown, IsLabelFor, IsField, IsMessage, IsMethod, IsValid};
 
 use itoa::Buffer;
 use mrpc_table::{Bytes, Choices, Field, Kind, Label, Memory, Message, Method, Name, Names, Table};
@@ -119,7 +119,7 @@ fn put_label(
     kind: Kind,
     label: Label,
 ) -> Result<(), Memory>
-    requires { GoesWith (length oneofs.now) label kind }
+    requires { IsLabelFor (length oneofs.now) label kind }
     ensures { OnOk result (out.new ≡ out.old ++ label_text table.now oneofs.now label) }
 {
     match label {
@@ -144,7 +144,7 @@ fn put_field_head(
     oneofs: &Names,
     field: &Field,
 ) -> Result<(), Memory>
-    requires { GoesWith (length oneofs.now) field.now.label field.now.kind }
+    requires { IsLabelFor (length oneofs.now) field.now.label field.now.kind }
     ensures { OnOk result (out.new ≡ out.old ++ spaced (codes "field" ∷ decimal field.now.number
         ∷ label_text table.now oneofs.now field.now.label ∷ [])) }
 {

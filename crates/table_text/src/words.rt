@@ -5,11 +5,11 @@ ghost use Rattle.std.specs.Option.{option_copied};
 ghost use Rattle.std.specs.List.{find};
 ghost use Rattle.std.specs.Str.{bytes_eq};
 ghost use Rattle.mrpc_table.specs.Lines.{number_of};
-ghost use Rattle.table_text.specs.Lines.{in_32_bits, whole_of, negative, not_negative, behind, name_of, full_name_of, kind_of, label_names, label_of};
+ghost use Rattle.table_text.specs.Lines.{in_32_bits, enum_number_of, negative, not_negative, without_prefix, name_of, full_name_of, kind_of, label_names, label_of};
 ghost use Rattle.table_text.specs.declared.line.KindWord.TheVariants as kinds;
 ghost use Rattle.table_text.specs.declared.line.LabelWord.TheVariants as labels;
 
-use crate::line::{KindWord, LabelWord, Whole};
+use crate::line::{EnumNumber, KindWord, LabelWord};
 use mrpc_table::{
     Bytes, Decimal, Kind, Memory, Name, is_full_form, is_name_form, is_word, number_of,
 };
@@ -26,8 +26,8 @@ pub(crate) fn index_of(word: &[u8]) -> Option<Option<u32>>
 }
 
 // The number of an enum value: digits, or a `-` and digits.
-pub(crate) fn whole_of(word: &[u8]) -> Option<Whole>
-    ensures { result ≡ whole_of word.now }
+pub(crate) fn enum_number_of(word: &[u8]) -> Option<EnumNumber>
+    ensures { result ≡ enum_number_of word.now }
 {
     match word {
         [] => None,
@@ -36,30 +36,30 @@ pub(crate) fn whole_of(word: &[u8]) -> Option<Whole>
     }
 }
 
-fn negative(digits: &[u8]) -> Option<Whole>
+fn negative(digits: &[u8]) -> Option<EnumNumber>
     ensures { result ≡ option_and_then negative (number_of digits.now) }
 {
     match number_of(digits)? {
         Decimal::Small(0) => None,
         Decimal::Small(number) if number <= 0x8000_0000 => {
-            Some(Whole::Within((-(number as i64)) as i32))
+            Some(EnumNumber::Within((-(number as i64)) as i32))
         }
-        _ => Some(Whole::Low),
+        _ => Some(EnumNumber::Low),
     }
 }
 
-fn not_negative(digits: &[u8]) -> Option<Whole>
+fn not_negative(digits: &[u8]) -> Option<EnumNumber>
     ensures { result ≡ option_map not_negative (number_of digits.now) }
 {
     match number_of(digits)? {
-        Decimal::Small(number) if number < 0x8000_0000 => Some(Whole::Within(number as i32)),
-        _ => Some(Whole::High),
+        Decimal::Small(number) if number < 0x8000_0000 => Some(EnumNumber::Within(number as i32)),
+        _ => Some(EnumNumber::High),
     }
 }
 
 /// The suffix of a word after a prefix; `None` if the word lacks the prefix.
-pub fn behind<'a>(prefix: &[u8], word: &'a [u8]) -> Option<&'a [u8]>
-    ensures { option_copied result ≡ behind prefix.now word.now }
+pub fn without_prefix<'a>(prefix: &[u8], word: &'a [u8]) -> Option<&'a [u8]>
+    ensures { option_copied result ≡ without_prefix prefix.now word.now }
 {
     word.strip_prefix(prefix)
 }
@@ -88,9 +88,9 @@ pub(crate) fn full_name_of(alloc: Global, word: &[u8]) -> Result<Option<Name>, M
 
 fn message_kind(alloc: Global, word: &[u8]) -> Result<Option<KindWord>, Memory>
     ensures { IfOk result (λ r. r
-        ≡ option_map kinds.Message (option_and_then full_name_of (behind (codes "message:") word.now))) }
+        ≡ option_map kinds.Message (option_and_then full_name_of (without_prefix (codes "message:") word.now))) }
 {
-    let Some(name) = behind(b"message:", word) else {
+    let Some(name) = without_prefix(b"message:", word) else {
         return Ok(None);
     };
     match full_name_of(alloc, name)? {
@@ -101,9 +101,9 @@ fn message_kind(alloc: Global, word: &[u8]) -> Result<Option<KindWord>, Memory>
 
 fn enum_kind(alloc: Global, word: &[u8]) -> Result<Option<KindWord>, Memory>
     ensures { IfOk result (λ r. r
-        ≡ option_map kinds.Choice (option_and_then full_name_of (behind (codes "enum:") word.now))) }
+        ≡ option_map kinds.Choice (option_and_then full_name_of (without_prefix (codes "enum:") word.now))) }
 {
-    let Some(name) = behind(b"enum:", word) else {
+    let Some(name) = without_prefix(b"enum:", word) else {
         return Ok(None);
     };
     match full_name_of(alloc, name)? {
@@ -142,9 +142,9 @@ fn plain_label(word: &[u8]) -> Option<LabelWord>
 }
 
 fn map_label(alloc: Global, word: &[u8]) -> Result<Option<LabelWord>, Memory>
-    ensures { IfOk result (λ r. r ≡ option_map labels.Map (option_and_then kind_of (behind (codes "map:") word.now))) }
+    ensures { IfOk result (λ r. r ≡ option_map labels.Map (option_and_then kind_of (without_prefix (codes "map:") word.now))) }
 {
-    let Some(key) = behind(b"map:", word) else {
+    let Some(key) = without_prefix(b"map:", word) else {
         return Ok(None);
     };
     match kind_of(alloc, key)? {
@@ -155,9 +155,9 @@ fn map_label(alloc: Global, word: &[u8]) -> Result<Option<LabelWord>, Memory>
 
 fn member_label(alloc: Global, word: &[u8]) -> Result<Option<LabelWord>, Memory>
     ensures { IfOk result (λ r. r
-        ≡ option_map labels.Member (option_and_then name_of (behind (codes "oneof:") word.now))) }
+        ≡ option_map labels.Member (option_and_then name_of (without_prefix (codes "oneof:") word.now))) }
 {
-    let Some(name) = behind(b"oneof:", word) else {
+    let Some(name) = without_prefix(b"oneof:", word) else {
         return Ok(None);
     };
     match name_of(alloc, name)? {

@@ -6,12 +6,12 @@ use Rattle.std.proofs.lemmas.List.{append-nil}
 use Rattle.std.proofs.lemmas.List.Folds.{concat-append}
 use mathlib.Core.List.{IsPrefix}
 use Rattle.std.specs.Io.KnownBytes.{Keeps}
-use Rattle.mrpc_base.specs.Linking.{OnNoneCame}
-use Rattle.tcp_fabric.specs.declared.link.Outgoing.{Outgoing}
-use Rattle.tcp_fabric.specs.declared.link.Outgoing.TheVariants.{Open, Cut}
+use Rattle.mrpc_base.specs.Links.{OnNoneCame}
+use Rattle.tcp_fabric.specs.declared.link.SendState.{SendState}
+use Rattle.tcp_fabric.specs.declared.link.SendState.TheVariants.{Open, Cut}
 use Rattle.mrpc_base.specs.declared.link.Came.{Came}
 use Rattle.mrpc_base.specs.declared.link.Came.TheVariants.{Bytes, Idle, End, Failed, Memory}
-use Rattle.tcp_fabric.specs.Link.{Receives}
+use Rattle.tcp_fabric.specs.Link.{IsReceivedNext}
 
 pub append_known-nil : (known : Option (List ℕ)) → append_known known [] ≡ known
 append_known-nil None = refl
@@ -38,7 +38,7 @@ sent-front (Some bytes) frames is = ([], append-nil (concat frames) ∙ sym is)
 
 -- bytes that arrived and were received are in order
 pub came-in-order : (came now : Option (List ℕ)) (pieces : List (List ℕ)) (piece waiting left : List ℕ)
-    → IfSome came (λ bytes. bytes ≡ concat pieces ++ waiting) → Receives piece came waiting now left
+    → IfSome came (λ bytes. bytes ≡ concat pieces ++ waiting) → IsReceivedNext piece came waiting now left
     → IfSome now (λ bytes. bytes ≡ concat (pieces ++ piece ∷ []) ++ left)
 came-in-order None now pieces piece waiting left is (read, grew, moved) = rw grew tt
 came-in-order (Some bytes) now pieces piece waiting left is (read, grew, moved) =
@@ -47,7 +47,7 @@ came-in-order (Some bytes) now pieces piece waiting left is (read, grew, moved) 
 
 -- bytes that arrived are read ahead after the earlier ones
 pub came-waits : (came now : Option (List ℕ)) (given waiting left : List ℕ)
-    → IfSome came (λ bytes. bytes ≡ given ++ waiting) → Receives [] came waiting now left
+    → IfSome came (λ bytes. bytes ≡ given ++ waiting) → IsReceivedNext [] came waiting now left
     → IfSome now (λ bytes. bytes ≡ given ++ left)
 came-waits None now given waiting left is (read, grew, moved) = rw grew tt
 came-waits (Some bytes) now given waiting left is (read, grew, moved) =
@@ -64,5 +64,5 @@ keeps-none Failed given given_now other told = told.0
 keeps-none Memory given given_now other told = told.0
 
 -- an open side isn't cut
-pub not-cut : (side : Outgoing) → side ≡ Open → side ≢ Cut
+pub not-cut : (side : SendState) → side ≡ Open → side ≢ Cut
 not-cut side is cut = let e : Open ≡ Cut = sym is ∙ cut in cc (e)

@@ -1,10 +1,10 @@
 //! A fabric of TCP links.
 ghost use Rattle.std.specs.Prelude.{◌≡◌, ◌<◌, ◌+◌, ◌≤◌, [], ◌∷◌, false, IfOk, IsErrOf, IsPermutation, OnErr};
-ghost use Rattle.mrpc_base.specs.Faults.{HasCause};
-ghost use Rattle.mrpc_base.specs.Linking.{TellsNone};
-ghost use Rattle.tcp_fabric.specs.Link.{ArePair};
+ghost use Rattle.mrpc_base.specs.Failures.{HasCause};
+ghost use Rattle.mrpc_base.specs.Links.{IsEmptyIfKnown};
+ghost use Rattle.tcp_fabric.specs.Link.{AreSocketPair};
 
-use crate::{Ends, Network, Socket, SocketLink};
+use crate::{Network, Socket, SocketLink, SocketPair};
 use mrpc_base::{Fabric, OpenFault};
 use slab::Slab;
 use std::alloc::Global;
@@ -12,7 +12,7 @@ use std::marker::Model;
 use std::sync::Wait;
 use std::time::Clock;
 
-/// A fabric whose links are connections of a network. Contracts see it as a `FabricState`.
+/// A fabric whose links are connections of a network. Contracts see it as a `TcpFabricState`.
 #[derive(Drop)]
 pub struct TcpFabric<'r, R, N: Network + Drop> {
     rt: &'r R,
@@ -21,16 +21,16 @@ pub struct TcpFabric<'r, R, N: Network + Drop> {
     // With capacity for the links in use, too.
     back: Slab<(u32, SocketLink<'r, R, N::S>)>,
     away: usize,
-    faults: u64,
+    failures: u64,
 }
 
 impl<'r, R, N: Network + Drop> Model for TcpFabric<'r, R, N> {
     ghost use Rattle.slab.specs.Slab.{HasRoomFor, values};
-    ghost use Rattle.tcp_fabric.specs.Fabric.{FabricState};
+    ghost use Rattle.tcp_fabric.specs.Fabric.{TcpFabricState};
 
-    ghost Value = { FabricState };
+    ghost Value = { TcpFabricState };
 
-    ghost view = { λ f. record { back = values f.back; away = f.away; faults = f.faults } };
+    ghost view = { λ f. record { back = values f.back; away = f.away; failures = f.failures } };
 
     ghost invariant = { λ f. HasRoomFor f.back f.away };
 }
@@ -40,7 +40,7 @@ impl<'r, R, N: Network + Drop> TcpFabric<'r, R, N> {
     pub fn new(rt: &'r R, alloc: Global, network: N) -> TcpFabric<'r, R, N>
         ensures back { result.back ≡ [] }
         ensures away { result.away ≡ 0 }
-        ensures faults { result.faults ≡ 0 }
+        ensures failures { result.failures ≡ 0 }
     {
         TcpFabric {
             rt,
@@ -48,15 +48,15 @@ impl<'r, R, N: Network + Drop> TcpFabric<'r, R, N> {
             network,
             back: Slab::new(alloc),
             away: 0,
-            faults: 0,
+            failures: 0,
         }
     }
 
     /// How many openings failed; saturates at 2^64 - 1.
-    pub fn faults(&self) -> u64
-        ensures { result ≡ self.now.faults }
+    pub fn failures(&self) -> u64
+        ensures { result ≡ self.now.failures }
     {
-        self.faults
+        self.failures
     }
 }
 
@@ -64,17 +64,17 @@ impl<'r, R, N: Network + Drop> TcpFabric<'r, R, N> {
 fn links<'r, R, S: Socket + Drop>(
     rt: &'r R,
     alloc: Global,
-    ends: Ends<S>,
+    ends: SocketPair<S>,
 ) -> (SocketLink<'r, R, S>, SocketLink<'r, R, S>)
-    requires first { TellsNone (S.taken ends.first) × TellsNone (S.given ends.first) }
-    requires second { TellsNone (S.taken ends.second) × TellsNone (S.given ends.second) }
-    ensures pair { ArePair result.0 result.1 }
+    requires first { IsEmptyIfKnown (S.taken ends.first) × IsEmptyIfKnown (S.given ends.first) }
+    requires second { IsEmptyIfKnown (S.taken ends.second) × IsEmptyIfKnown (S.given ends.second) }
+    ensures pair { AreSocketPair result.0 result.1 }
     ensures handed { (result.0.handed ≡ []) × (result.1.handed ≡ []) }
     ensures given { (result.0.given ≡ []) × (result.1.given ≡ []) }
     ensures not_ended { (result.0.ended ≡ false) × (result.1.ended ≡ false) }
-    ensures no_faults { (result.0.faults ≡ 0) × (result.1.faults ≡ 0) }
+    ensures no_faults { (result.0.failures ≡ 0) × (result.1.failures ≡ 0) }
 {
-    let Ends {
+    let SocketPair {
         first,
         second,
         first_port,
@@ -93,10 +93,10 @@ impl<'r, R: Wait + Clock + Sync, N: Network + Drop> Fabric for TcpFabric<'r, R, 
 
     ghost away = { λ f. f.away };
 
-    ghost faults = { λ f. f.faults };
+    ghost failures = { λ f. f.failures };
 
     // The local port of each is the peer port of the other.
-    ghost pair = { ArePair };
+    ghost pair = { AreSocketPair };
 
     ghost use mathlib.Core.Path.{sym, ◌∙◌};
 
@@ -108,21 +108,21 @@ impl<'r, R: Wait + Clock + Sync, N: Network + Drop> Fabric for TcpFabric<'r, R, 
         _a: u32,
         _b: u32,
     ) -> Result<(SocketLink<'r, R, N::S>, SocketLink<'r, R, N::S>), OpenFault>
-        ensures pair { IfOk result (λ ends. ArePair ends.0 ends.1) }
+        ensures pair { IfOk result (λ ends. AreSocketPair ends.0 ends.1) }
         ensures handed { IfOk result (λ ends. (ends.0.handed ≡ []) × (ends.1.handed ≡ [])) }
         ensures given { IfOk result (λ ends. (ends.0.given ≡ []) × (ends.1.given ≡ [])) }
         ensures not_ended { IfOk result (λ ends. (ends.0.ended ≡ false) × (ends.1.ended ≡ false)) }
-        ensures no_faults { IfOk result (λ ends. (ends.0.faults ≡ 0) × (ends.1.faults ≡ 0)) }
+        ensures no_faults { IfOk result (λ ends. (ends.0.failures ≡ 0) × (ends.1.failures ≡ 0)) }
         ensures away { IfOk result (λ ends. self.new.away ≡ self.old.away + 2) }
         ensures same_away { OnErr result (self.new.away ≡ self.old.away) }
-        ensures cause { HasCause (IsErrOf result OpenFault.Failed) self.old.faults self.new.faults }
-        ensures same { self.new ≡ record self.old { away = self.new.away; faults = self.new.faults } }
+        ensures cause { HasCause (IsErrOf result OpenFault.Failed) self.old.failures self.new.failures }
+        ensures same { self.new ≡ record self.old { away = self.new.away; failures = self.new.failures } }
     {
         if self.away > usize::MAX - 2 || self.back.reserve(self.away + 2).is_err() {
             return Err(OpenFault::Memory);
         }
         let Ok(ends) = self.network.open() else {
-            self.faults = self.faults.saturating_add(1);
+            self.failures = self.failures.saturating_add(1);
             return Err(OpenFault::Failed);
         };
         self.away += 2;

@@ -1,13 +1,13 @@
 //! One end of a connection, as a link.
 ghost use Rattle.std.specs.Prelude.{◌≡◌, ◌≢◌, ◌<◌, ◌≤◌, ◌⊎◌, [], ◌∷◌, ◌++◌, IsTrue, length, take, false};
 ghost use Rattle.std.specs.Io.KnownBytes.{append_known};
-ghost use Rattle.mrpc_base.specs.Faults.{HasCause, raised};
-ghost use Rattle.mrpc_base.specs.Linking.{OnCame, OnNoneCame, TellsNone};
-ghost use Rattle.tcp_fabric.specs.Link.{SendsInOrder, GivesInOrder, Receives};
+ghost use Rattle.mrpc_base.specs.Failures.{HasCause, raised};
+ghost use Rattle.mrpc_base.specs.Links.{OnCame, OnNoneCame, IsEmptyIfKnown};
+ghost use Rattle.tcp_fabric.specs.Link.{HasSentInOrder, HasReceivedInOrder, IsReceivedNext};
 
 use crate::Socket;
-use crate::pieces::Pieces;
-use crate::wire::{Incoming, Trouble, Wire};
+use crate::piece_trace::PieceTrace;
+use crate::wire::{ReceiveState, Wire, WriteError};
 use mrpc_base::{Came, Handed, Link};
 use std::alloc::Global;
 use std::marker::Model;
@@ -16,7 +16,7 @@ use std::time::Clock;
 
 /// The state of a link's sending side.
 #[derive(Clone, Copy, PartialEq, Eq)]
-pub enum Outgoing {
+pub enum SendState {
     /// It can send.
     Open,
     /// It was shut down.
@@ -34,12 +34,12 @@ pub enum Outgoing {
 pub struct SocketLink<'r, R, S: Socket + Drop> {
     rt: &'r R,
     wire: Wire<S>,
-    handed: Pieces,
-    given: Pieces,
-    outgoing: Outgoing,
+    handed: PieceTrace,
+    given: PieceTrace,
+    outgoing: SendState,
     ended: bool,
     // Failed sends and receives.
-    faults: u64,
+    failures: u64,
     local: u16,
     peer: u16,
 }
@@ -48,7 +48,7 @@ impl<'r, R, S: Socket + Drop> Model for SocketLink<'r, R, S> {
     ghost use Rattle.std.specs.Prelude.{◌≡◌, ◌≢◌, ◌++◌, IfSome};
     ghost use Rattle.std.specs.List.{concat};
     ghost use mathlib.Core.List.{IsPrefix};
-    ghost use Rattle.tcp_fabric.specs.declared.link.Outgoing.TheVariants.{Cut};
+    ghost use Rattle.tcp_fabric.specs.declared.link.SendState.TheVariants.{Cut};
     ghost use Rattle.tcp_fabric.specs.Link.{LinkEnd};
 
     ghost Value = { LinkEnd };
@@ -62,7 +62,7 @@ impl<'r, R, S: Socket + Drop> Model for SocketLink<'r, R, S> {
       waiting = l.wire.ahead;
       incoming = l.wire.incoming;
       ended = l.ended;
-      faults = l.faults;
+      failures = l.failures;
       local = l.local;
       peer = l.peer;
     } };
@@ -75,38 +75,38 @@ impl<'r, R, S: Socket + Drop> Model for SocketLink<'r, R, S> {
 impl<'r, R, S: Socket + Drop> SocketLink<'r, R, S> {
     /// The end of a new connection from the port `local` to the port `peer`.
     pub fn new(rt: &'r R, alloc: Global, socket: S, local: u16, peer: u16) -> SocketLink<'r, R, S>
-        requires sent { TellsNone (S.taken socket) }
-        requires came { TellsNone (S.given socket) }
+        requires sent { IsEmptyIfKnown (S.taken socket) }
+        requires came { IsEmptyIfKnown (S.given socket) }
         ensures sent { result.sent ≡ S.taken socket }
         ensures came { result.came ≡ S.given socket }
         ensures handed { result.handed ≡ [] }
-        ensures outgoing { result.outgoing ≡ Outgoing.Open }
+        ensures outgoing { result.outgoing ≡ SendState.Open }
         ensures given { result.given ≡ [] }
         ensures waiting { result.waiting ≡ [] }
-        ensures incoming { result.incoming ≡ Incoming.Open }
+        ensures incoming { result.incoming ≡ ReceiveState.Open }
         ensures ended { result.ended ≡ false }
-        ensures faults { result.faults ≡ 0 }
+        ensures failures { result.failures ≡ 0 }
         ensures local { result.local ≡ local }
         ensures peer { result.peer ≡ peer }
     {
         SocketLink {
             rt,
             wire: Wire::new(alloc, socket),
-            handed: Pieces::new(),
-            given: Pieces::new(),
-            outgoing: Outgoing::Open,
+            handed: PieceTrace::new(),
+            given: PieceTrace::new(),
+            outgoing: SendState::Open,
             ended: false,
-            faults: 0,
+            failures: 0,
             local,
             peer,
         }
     }
 
     /// How many sends and receives failed; saturates at 2^64 - 1.
-    pub fn faults(&self) -> u64
-        ensures { result ≡ self.now.faults }
+    pub fn failures(&self) -> u64
+        ensures { result ≡ self.now.failures }
     {
-        self.faults
+        self.failures
     }
 
     /// Its socket.
@@ -120,35 +120,35 @@ impl<'r, R, S: Socket + Drop> SocketLink<'r, R, S> {
     /// A law; it does nothing. If the socket knows its bytes, it took exactly the sent frames, or more only if a
     /// frame was truncated. The bytes that it delivered were received or are read ahead. Both are in order and once.
     pub fn is_in_order(&self)
-        ensures sends { SendsInOrder self.now }
-        ensures gives { GivesInOrder self.now }
+        ensures sends { HasSentInOrder self.now }
+        ensures gives { HasReceivedInOrder self.now }
     {
         let _local = self.local;
     }
 
     // Counts a failed send or receive.
-    fn fault(&mut self)
-        ensures faults { self.new ≡ record self.old { faults = raised self.old.faults } }
-        ensures never_falls { self.old.faults ≤ self.new.faults }
+    fn count_failure(&mut self)
+        ensures failures { self.new ≡ record self.old { failures = raised self.old.failures } }
+        ensures never_falls { self.old.failures ≤ self.new.failures }
     {
-        self.faults = self.faults.saturating_add(1);
+        self.failures = self.failures.saturating_add(1);
     }
 }
 
 impl<'r, R: Wait + Clock, S: Socket + Drop> SocketLink<'r, R, S> {
     // Writes the frame, all of it if it can.
-    fn put(&mut self, frame: &[u8]) -> Handed
-        requires { self.old.outgoing ≡ Outgoing.Open }
+    fn write_frame(&mut self, frame: &[u8]) -> Handed
+        requires { self.old.outgoing ≡ SendState.Open }
         ensures whole { result ≡ Handed.Done → self.new.sent ≡ append_known self.old.sent frame.now }
-        ensures untouched { self.new.outgoing ≢ Outgoing.Cut → result ≢ Handed.Done
+        ensures untouched { self.new.outgoing ≢ SendState.Cut → result ≢ Handed.Done
             → self.new.sent ≡ self.old.sent }
         ensures appended { result ≡ Handed.Done → self.new.handed ≡ self.old.handed ++ frame.now ∷ [] }
         ensures kept { result ≢ Handed.Done → self.new.handed ≡ self.old.handed }
-        ensures came { Receives [] self.old.came self.old.waiting self.new.came self.new.waiting }
-        ensures cut { result ≡ Handed.Failed → self.new.outgoing ≡ Outgoing.Cut }
-        ensures open { result ≡ Handed.Done → self.new.outgoing ≡ Outgoing.Open }
-        ensures stays { self.old.incoming ≢ Incoming.Open → self.new.incoming ≡ self.old.incoming }
-        ensures lost { result ≡ Handed.Failed → self.new.incoming ≢ Incoming.Open }
+        ensures came { IsReceivedNext [] self.old.came self.old.waiting self.new.came self.new.waiting }
+        ensures cut { result ≡ Handed.Failed → self.new.outgoing ≡ SendState.Cut }
+        ensures open { result ≡ Handed.Done → self.new.outgoing ≡ SendState.Open }
+        ensures stays { self.old.incoming ≢ ReceiveState.Open → self.new.incoming ≡ self.old.incoming }
+        ensures lost { result ≡ Handed.Failed → self.new.incoming ≢ ReceiveState.Open }
         ensures same { self.new ≡ record self.old {
           sent = self.new.sent;
           came = self.new.came;
@@ -160,17 +160,17 @@ impl<'r, R: Wait + Clock, S: Socket + Drop> SocketLink<'r, R, S> {
     {
         match self.wire.write_all(self.rt, frame) {
             Ok(()) => {
-                self.handed = Pieces::with(&self.handed, frame);
+                self.handed = PieceTrace::with(&self.handed, frame);
                 Handed::Done
             }
             Err(cut) => {
-                if cut.done > 0 || cut.trouble == Trouble::Failed {
+                if cut.done > 0 || cut.trouble == WriteError::Failed {
                     self.wire.shutdown();
-                    self.outgoing = Outgoing::Cut;
+                    self.outgoing = SendState::Cut;
                 }
                 match cut.trouble {
-                    Trouble::Failed => Handed::Failed,
-                    Trouble::Memory => Handed::Memory,
+                    WriteError::Failed => Handed::Failed,
+                    WriteError::Memory => Handed::Memory,
                 }
             }
         }
@@ -192,7 +192,7 @@ impl<'r, R: Wait + Clock, S: Socket + Drop> Link for SocketLink<'r, R, S> {
     // All that the socket delivered was received.
     ghost peer_finished = { λ _ new. new.waiting ≡ [] };
 
-    ghost faults = { λ l. l.faults };
+    ghost failures = { λ l. l.failures };
 
     // The ports are the same.
     ghost since = { λ old new. (new.local ≡ old.local) × (new.peer ≡ old.peer) };
@@ -208,24 +208,24 @@ impl<'r, R: Wait + Clock, S: Socket + Drop> Link for SocketLink<'r, R, S> {
         // If the frame was sent, the socket took all of it. Otherwise the sending side is cut, or no byte of the
         // frame was written.
         ensures whole { result ≡ Handed.Done → self.new.sent ≡ append_known self.old.sent frame.now }
-        ensures untouched { self.new.outgoing ≢ Outgoing.Cut → result ≢ Handed.Done
+        ensures untouched { self.new.outgoing ≢ SendState.Cut → result ≢ Handed.Done
             → self.new.sent ≡ self.old.sent }
         // Once the sending side was shut down or cut, each send fails.
-        ensures over { self.old.outgoing ≢ Outgoing.Open → result ≡ Handed.Failed }
+        ensures over { self.old.outgoing ≢ SendState.Open → result ≡ Handed.Failed }
 
         ensures appended { result ≡ Handed.Done → self.new.handed ≡ self.old.handed ++ frame.now ∷ [] }
         ensures kept { result ≢ Handed.Done → self.new.handed ≡ self.old.handed }
 
         // Bytes that arrive meanwhile are read ahead, and none is lost. After the socket failed, `receive` returns
         // the end only if the socket had reported it before.
-        ensures came { Receives [] self.old.came self.old.waiting self.new.came self.new.waiting }
-        ensures stays { self.old.incoming ≢ Incoming.Open → self.new.incoming ≡ self.old.incoming }
-        ensures lost { result ≡ Handed.Failed → self.old.outgoing ≡ Outgoing.Open
-            → self.new.incoming ≢ Incoming.Open }
+        ensures came { IsReceivedNext [] self.old.came self.old.waiting self.new.came self.new.waiting }
+        ensures stays { self.old.incoming ≢ ReceiveState.Open → self.new.incoming ≡ self.old.incoming }
+        ensures lost { result ≡ Handed.Failed → self.old.outgoing ≡ SendState.Open
+            → self.new.incoming ≢ ReceiveState.Open }
 
         // What is counted, and what is unchanged.
-        ensures faults { result ≡ Handed.Failed → self.new.faults ≡ raised self.old.faults }
-        ensures cause { HasCause (result ≡ Handed.Failed) self.old.faults self.new.faults }
+        ensures failures { result ≡ Handed.Failed → self.new.failures ≡ raised self.old.failures }
+        ensures cause { HasCause (result ≡ Handed.Failed) self.old.failures self.new.failures }
         ensures same { self.new ≡ record self.old {
           sent = self.new.sent;
           came = self.new.came;
@@ -233,16 +233,16 @@ impl<'r, R: Wait + Clock, S: Socket + Drop> Link for SocketLink<'r, R, S> {
           outgoing = self.new.outgoing;
           waiting = self.new.waiting;
           incoming = self.new.incoming;
-          faults = self.new.faults;
+          failures = self.new.failures;
         } }
     {
-        if self.outgoing != Outgoing::Open {
-            self.fault();
+        if self.outgoing != SendState::Open {
+            self.count_failure();
             return Handed::Failed;
         }
-        let handed = self.put(frame);
+        let handed = self.write_frame(frame);
         if handed == Handed::Failed {
-            self.fault();
+            self.count_failure();
         }
         handed
     }
@@ -254,7 +254,7 @@ impl<'r, R: Wait + Clock, S: Socket + Drop> Link for SocketLink<'r, R, S> {
         ensures memory { result ≢ Came.Memory }
         // The received bytes are those read ahead, followed by those that the socket delivered.
         ensures next { OnCame result (λ n.
-            Receives (take n buf.new) self.old.came self.old.waiting self.new.came self.new.waiting) }
+            IsReceivedNext (take n buf.new) self.old.came self.old.waiting self.new.came self.new.waiting) }
         ensures appended { OnCame result (λ n. self.new.given ≡ self.old.given ++ take n buf.new) }
         // No other result comes while bytes are read ahead, and none consumes bytes.
         ensures empty { OnNoneCame result (self.old.waiting ≡ []) }
@@ -263,40 +263,40 @@ impl<'r, R: Wait + Clock, S: Socket + Drop> Link for SocketLink<'r, R, S> {
         ensures ends { result ≡ Came.End → IsTrue self.new.ended }
         ensures same_ended { result ≢ Came.End → self.new.ended ≡ self.old.ended }
         // The end is returned only if the socket reported it, and a broken link stays broken.
-        ensures closed { result ≡ Came.End → self.new.incoming ≡ Incoming.Closed }
-        ensures broken { result ≡ Came.Failed → self.new.incoming ≡ Incoming.Broken }
-        ensures stays { self.old.incoming ≢ Incoming.Open → self.new.incoming ≡ self.old.incoming }
+        ensures closed { result ≡ Came.End → self.new.incoming ≡ ReceiveState.Closed }
+        ensures broken { result ≡ Came.Failed → self.new.incoming ≡ ReceiveState.Broken }
+        ensures stays { self.old.incoming ≢ ReceiveState.Open → self.new.incoming ≡ self.old.incoming }
 
         // What is counted, and what is unchanged.
-        ensures faults { result ≡ Came.Failed → self.new.faults ≡ raised self.old.faults }
-        ensures cause { HasCause (result ≡ Came.Failed) self.old.faults self.new.faults }
+        ensures failures { result ≡ Came.Failed → self.new.failures ≡ raised self.old.failures }
+        ensures cause { HasCause (result ≡ Came.Failed) self.old.failures self.new.failures }
         ensures same { self.new ≡ record self.old {
           came = self.new.came;
           given = self.new.given;
           waiting = self.new.waiting;
           incoming = self.new.incoming;
           ended = self.new.ended;
-          faults = self.new.faults;
+          failures = self.new.failures;
         } }
     {
         let came = self.wire.read(buf);
         match came {
-            Came::Bytes(count) => self.given = Pieces::with(&self.given, &buf[..count]),
+            Came::Bytes(count) => self.given = PieceTrace::with(&self.given, &buf[..count]),
             Came::End => self.ended = true,
-            Came::Failed => self.fault(),
+            Came::Failed => self.count_failure(),
             Came::Idle | Came::Memory => {}
         }
         came
     }
 
     fn finish(&mut self)
-        ensures finished { self.old.outgoing ≡ Outgoing.Open → self.new.outgoing ≡ Outgoing.Finished }
-        ensures over { self.new.outgoing ≢ Outgoing.Open }
+        ensures finished { self.old.outgoing ≡ SendState.Open → self.new.outgoing ≡ SendState.Finished }
+        ensures over { self.new.outgoing ≢ SendState.Open }
         ensures same { self.new ≡ record self.old { outgoing = self.new.outgoing } }
     {
-        if self.outgoing == Outgoing::Open {
+        if self.outgoing == SendState::Open {
             self.wire.shutdown();
-            self.outgoing = Outgoing::Finished;
+            self.outgoing = SendState::Finished;
         }
     }
 }

@@ -1,6 +1,6 @@
 //! The system's TCP over 127.0.0.1.
 
-use crate::{Ends, Network, SystemFault, SystemSocket};
+use crate::{Network, SocketPair, SystemFault, SystemSocket};
 use std::io;
 use std::io::ErrorKind;
 use std::net::{Ipv4Addr, Net, SocketAddr, TcpListener, TcpStream};
@@ -20,17 +20,17 @@ impl<'r, R> Loopback<'r, R> {
 }
 
 // The most connections from others that an opening discards.
-const MOST_STRANGERS: usize = 128;
+const MAX_STRANGERS: usize = 128;
 
 impl<'r, R: Net<Stream = TcpStream, Listener = TcpListener>> Loopback<'r, R> {
     // Opens a connection.
-    fn connect(&self) -> io::Result<Ends<SystemSocket>> {
+    fn connect(&self) -> io::Result<SocketPair<SystemSocket>> {
         let listener = TcpListener::bind(self.net, (Ipv4Addr::LOCALHOST, 0))?;
         let first = TcpStream::connect(self.net, listener.local_addr()?)?;
         let second = accept_from(&listener, first.local_addr()?)?;
         let first_port = first.local_addr()?.port();
         let second_port = second.local_addr()?.port();
-        Ok(Ends {
+        Ok(SocketPair {
             first: self.socket(first)?,
             second: self.socket(second)?,
             first_port,
@@ -49,7 +49,7 @@ impl<'r, R: Net<Stream = TcpStream, Listener = TcpListener>> Loopback<'r, R> {
 impl<'r, R: Net<Stream = TcpStream, Listener = TcpListener>> Network for Loopback<'r, R> {
     type S = SystemSocket;
 
-    fn open(&self) -> io::Result<Ends<SystemSocket>> {
+    fn open(&self) -> io::Result<SocketPair<SystemSocket>> {
         let opened = self.connect();
         if let Err(error) = &opened {
             self.fault.note(error);
@@ -61,7 +61,7 @@ impl<'r, R: Net<Stream = TcpStream, Listener = TcpListener>> Network for Loopbac
 // Accepts the connection that comes from an address. Closes connections that others on this machine make
 // meanwhile.
 fn accept_from(listener: &TcpListener, from: SocketAddr) -> io::Result<TcpStream> {
-    for _ in 0..MOST_STRANGERS {
+    for _ in 0..MAX_STRANGERS {
         let (stream, address) = listener.accept()?;
         if address == from {
             return Ok(stream);

@@ -1,5 +1,5 @@
 //! The network that opens connections.
-ghost use Rattle.mrpc_base.specs.Linking.{TellsNone};
+ghost use Rattle.mrpc_base.specs.Links.{IsEmptyIfKnown};
 ghost use Rattle.std.specs.Prelude.{IfOk};
 
 use crate::Socket;
@@ -7,7 +7,7 @@ use std::io;
 
 /// Both ends of a new connection, and the port of each.
 #[derive(Drop)]
-pub struct Ends<S: Socket + Drop> {
+pub struct SocketPair<S: Socket + Drop> {
     pub first: S,
     pub second: S,
     pub first_port: u16,
@@ -20,9 +20,9 @@ pub trait Network {
     type S: Socket + Send + Drop;
 
     /// Opens a connection on which neither end has taken or delivered a byte.
-    fn open(&self) -> io::Result<Ends<Self::S>>
+    fn open(&self) -> io::Result<SocketPair<Self::S>>
         ensures first { IfOk result (λ ends.
-            TellsNone (Self.S.taken ends.first) × TellsNone (Self.S.given ends.first)) }
+            IsEmptyIfKnown (Self.S.taken ends.first) × IsEmptyIfKnown (Self.S.given ends.first)) }
         ensures second { IfOk result (λ ends.
-            TellsNone (Self.S.taken ends.second) × TellsNone (Self.S.given ends.second)) };
+            IsEmptyIfKnown (Self.S.taken ends.second) × IsEmptyIfKnown (Self.S.given ends.second)) };
 }

@@ -1,8 +1,8 @@
 //! Bytes that were read from a socket before they were asked for.
 
 ghost use Rattle.std.specs.Prelude.{◌≡◌, ◌≢◌, ◌<◌, ◌≤◌, ◌+◌, [], ◌++◌, ◌==◌, length, min, take, drop};
-ghost use Rattle.mrpc_base.specs.Linking.{OnNoneCame};
-ghost use Rattle.tcp_fabric.specs.Link.{Receives};
+ghost use Rattle.mrpc_base.specs.Links.{OnNoneCame};
+ghost use Rattle.tcp_fabric.specs.Link.{IsReceivedNext};
 
 use crate::Socket;
 use mrpc_base::Came;
@@ -49,7 +49,7 @@ impl ReadAhead {
     }
 
     // Copies the next bytes, as many as fit, and returns how many.
-    pub(crate) fn give(&mut self, buf: &mut [u8]) -> usize
+    pub(crate) fn copy_to(&mut self, buf: &mut [u8]) -> usize
         ensures count { result ≡ min (length buf.old) (length self.old) }
         ensures next { self.old ≡ take result buf.new ++ self.new }
     {
@@ -63,7 +63,7 @@ impl ReadAhead {
     // Reads from the socket once. Allocates first, so that no byte is lost when out of memory.
     pub(crate) fn read_from<S: Socket>(&mut self, socket: &mut S) -> Came
         ensures kept { OnNoneCame result (self.new ≡ self.old) }
-        ensures came { Receives [] (S.given socket.old) self.old (S.given socket.new) self.new }
+        ensures came { IsReceivedNext [] (S.given socket.old) self.old (S.given socket.new) self.new }
         ensures same_taken { S.taken socket.new ≡ S.taken socket.old }
     {
         self.make_room();
@@ -82,7 +82,7 @@ impl ReadAhead {
     fn make_room(&mut self)
         ensures { self.new ≡ self.old }
     {
-        self.move_down();
+        self.compact();
         let after = self.end + READ_SIZE;
         if self.room.len() < after {
             let _ = self.room.resize(after, 0);
@@ -91,7 +91,7 @@ impl ReadAhead {
 
     // Moves the bytes that are read ahead to the start, once they are no more than those consumed before them. So
     // moving costs no more than consuming did.
-    fn move_down(&mut self)
+    fn compact(&mut self)
         ensures { self.new ≡ self.old }
     {
         let waiting = self.end - self.start;

@@ -1,14 +1,14 @@
 //! A socket, as a link uses it.
 ghost use Rattle.std.specs.Prelude.{◌≡◌, ◌≢◌, ◌<◌, ◌≤◌, ℕ, List, Option, length, take};
 ghost use Rattle.std.specs.Io.KnownBytes.{append_known};
-ghost use Rattle.mrpc_base.specs.Linking.{OnCame, OnNoneCame};
-ghost use Rattle.tcp_fabric.specs.Sockets.{OnWrote, OnNoneWrote};
+ghost use Rattle.mrpc_base.specs.Links.{OnCame, OnNoneCame};
+ghost use Rattle.tcp_fabric.specs.Sockets.{OnWritten, OnNoneWritten};
 
 use mrpc_base::Came;
 
 /// The result of a write to a socket.
 #[derive(Clone, Copy, PartialEq, Eq)]
-pub enum Wrote {
+pub enum WriteResult {
     /// This many bytes of the piece were taken, from 1 to all.
     Took(usize),
     /// The socket has no room now.
@@ -26,12 +26,12 @@ pub trait Socket {
     ghost given: { Self → Option (List ℕ) };
 
     /// Writes as much of the piece as there is room for.
-    fn write(&mut self, piece: &[u8]) -> Wrote
+    fn write(&mut self, piece: &[u8]) -> WriteResult
         requires some { 0 < length piece.now }
-        ensures count { OnWrote result (λ n. (0 < n) × (n ≤ length piece.now)) }
-        ensures appended { OnWrote result (λ n.
+        ensures count { OnWritten result (λ n. (0 < n) × (n ≤ length piece.now)) }
+        ensures appended { OnWritten result (λ n.
             taken self.new ≡ append_known (taken self.old) (take n piece.now)) }
-        ensures kept { OnNoneWrote result (taken self.new ≡ taken self.old) }
+        ensures kept { OnNoneWritten result (taken self.new ≡ taken self.old) }
         ensures same_given { given self.new ≡ given self.old };
 
     /// Reads the next bytes into the start of `buf`. The bytes of `buf` after them are unspecified. Never allocates.

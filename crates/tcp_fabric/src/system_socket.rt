@@ -1,7 +1,7 @@
 //! A socket of the operating system.
 ghost use Rattle.std.specs.Prelude.{◌≡◌, ◌<◌, ◌≤◌, length};
 
-use crate::{Socket, SystemFault, Wrote};
+use crate::{Socket, SystemFault, WriteResult};
 use mrpc_base::Came;
 use std::io;
 use std::io::{ErrorKind, Read, Write};
@@ -29,14 +29,14 @@ impl Socket for SystemSocket {
 
     ghost given = { λ _. None };
 
-    fn write(&mut self, piece: &[u8]) -> Wrote {
+    fn write(&mut self, piece: &[u8]) -> WriteResult {
         match Write::write(&mut self.stream, piece) {
-            Ok(0) => Wrote::Failed,
-            Ok(count) => Wrote::Took(count),
-            Err(error) if would_wait(&error) => Wrote::Full,
+            Ok(0) => WriteResult::Failed,
+            Ok(count) => WriteResult::Took(count),
+            Err(error) if would_wait(&error) => WriteResult::Full,
             Err(error) => {
                 self.fault.note(&error);
-                Wrote::Failed
+                WriteResult::Failed
             }
         }
     }

@@ -13,7 +13,7 @@ use Rattle.std.proofs.lemmas.Map.Entries.{sum_by-insert_entry}
 use Rattle.telemetry.specs.declared.counts.Counts.{Counts}
 use Rattle.telemetry.specs.declared.counts.What.{What}
 use Rattle.telemetry.specs.declared.counts.What.TheVariants.{Took, Sent, Refused, Standing}
-use Rattle.telemetry.specs.Counts.{IsSmall, no_counts, number_of, one_more, plus}
+use Rattle.telemetry.specs.Counts.{AreIn64Bits, no_counts, count_named, one_more, plus}
 use Rattle.telemetry.specs.Totals.{counts_in, sums_of}
 
 -- counts with the same four numbers are equal
@@ -77,13 +77,13 @@ sums-added es k Standing sorted =
     same_counts _ _ (omega (arith, t)) (omega (arith, s)) (omega (arith, r)) (omega (arith, d))
 
 -- one more of a method fits if one more of the sum does
-pub one_more_fits : (es : List (ℕ × Counts)) (k : ℕ) (what : What) → number_of what (sums_of es) + 1 < 2 ^ 64 → number_of what (counts_in es k) + 1 < 2 ^ 64
+pub one_more_fits : (es : List (ℕ × Counts)) (k : ℕ) (what : What) → count_named what (sums_of es) + 1 < 2 ^ 64 → count_named what (counts_in es k) + 1 < 2 ^ 64
 one_more_fits es k Took fits = omega (arith, in-le-sum (λ c. c.took) refl es k)
 one_more_fits es k Sent fits = omega (arith, in-le-sum (λ c. c.sent) refl es k)
 one_more_fits es k Refused fits = omega (arith, in-le-sum (λ c. c.refused) refl es k)
 one_more_fits es k Standing fits = omega (arith, in-le-sum (λ c. c.standing) refl es k)
 
-pub one_more_small : (counts : Counts) (what : What) → IsSmall counts → number_of what counts + 1 < 2 ^ 64 → IsSmall (one_more what counts)
+pub one_more_small : (counts : Counts) (what : What) → AreIn64Bits counts → count_named what counts + 1 < 2 ^ 64 → AreIn64Bits (one_more what counts)
 one_more_small counts Took small fits = record { took = fits; sent = small.sent; refused = small.refused; standing = small.standing }
 one_more_small counts Sent small fits = record { took = small.took; sent = fits; refused = small.refused; standing = small.standing }
 one_more_small counts Refused small fits = record { took = small.took; sent = small.sent; refused = fits; standing = small.standing }

@@ -12,13 +12,13 @@ use Rattle.std.proofs.lemmas.List.Sums.{sum_by-cons}
 use Rattle.telemetry.specs.declared.counts.Counts.{Counts}
 use Rattle.telemetry.specs.declared.counts.What.{What}
 use Rattle.telemetry.specs.declared.counts.What.TheVariants.{Took, Sent, Refused, Standing}
-use Rattle.telemetry.specs.Counts.{Happened, count_all, count_of, counts_of, is_what, no_counts, number_of}
-use Rattle.telemetry.specs.Totals.{IsCountOf, SumsCount, TextCounts, counts_in, entry_line, method_line, sums_of, totals_line}
+use Rattle.telemetry.specs.Counts.{CountedEvent, count_all, count_of, counts_of, is_what, no_counts, count_named}
+use Rattle.telemetry.specs.Totals.{IsCountOf, AreSumsOfEvents, IsTextOfEvents, counts_in, entry_line, method_counts_line, sums_of, totals_line}
 use Rattle.telemetry.proofs.Adding.{bool_cases, counts-below, same_counts, sorted-tail}
 use Rattle.telemetry.proofs.Merging.{is_at-same}
 
 -- the events of other methods
-abbrev pub others : ℕ → List Happened → List Happened
+abbrev pub others : ℕ → List CountedEvent → List CountedEvent
 others k [] = []
 others k (h ∷ hs) = if h.method == k then others k hs else h ∷ others k hs
 
@@ -28,20 +28,20 @@ is_what-refl Sent = refl
 is_what-refl Refused = refl
 is_what-refl Standing = refl
 
-of-cons : (h : Happened) (hs : List Happened) (m : ℕ) (w : What) → count_of (h ∷ hs) m w ≡ (if (h.method == m) && is_what w h.what then 1 else 0) + count_of hs m w
-of-cons h hs m w = sum_by-cons (λ (g : Happened). if (g.method == m) && is_what w g.what then 1 else 0) h hs
+of-cons : (h : CountedEvent) (hs : List CountedEvent) (m : ℕ) (w : What) → count_of (h ∷ hs) m w ≡ (if (h.method == m) && is_what w h.what then 1 else 0) + count_of hs m w
+of-cons h hs m w = sum_by-cons (λ (g : CountedEvent). if (g.method == m) && is_what w g.what then 1 else 0) h hs
 
-all-cons : (h : Happened) (hs : List Happened) (w : What) → count_all (h ∷ hs) w ≡ (if is_what w h.what then 1 else 0) + count_all hs w
-all-cons h hs w = sum_by-cons (λ (g : Happened). if is_what w g.what then 1 else 0) h hs
+all-cons : (h : CountedEvent) (hs : List CountedEvent) (w : What) → count_all (h ∷ hs) w ≡ (if is_what w h.what then 1 else 0) + count_all hs w
+all-cons h hs w = sum_by-cons (λ (g : CountedEvent). if is_what w g.what then 1 else 0) h hs
 
-of-off : (h : Happened) (hs : List Happened) (m : ℕ) (w : What) → (h.method == m) ≡ false → count_of (h ∷ hs) m w ≡ count_of hs m w
+of-off : (h : CountedEvent) (hs : List CountedEvent) (m : ℕ) (w : What) → (h.method == m) ≡ false → count_of (h ∷ hs) m w ≡ count_of hs m w
 of-off h hs m w off = of-cons h hs m w ∙ (rw off (zero-add (count_of hs m w)))
 
-of-on : (h : Happened) (hs : List Happened) (m : ℕ) (w : What) → (h.method == m) ≡ true → is_what w h.what ≡ true → count_of (h ∷ hs) m w ≡ 1 + count_of hs m w
+of-on : (h : CountedEvent) (hs : List CountedEvent) (m : ℕ) (w : What) → (h.method == m) ≡ true → is_what w h.what ≡ true → count_of (h ∷ hs) m w ≡ 1 + count_of hs m w
 of-on h hs m w on what = of-cons h hs m w ∙ (rw (on, what) refl)
 
 -- all events are those of one method and those of the others
-split_count : (k : ℕ) (w : What) (hs : List Happened) → count_all hs w ≡ count_of hs k w + count_all (others k hs) w
+split_count : (k : ℕ) (w : What) (hs : List CountedEvent) → count_all hs w ≡ count_of hs k w + count_all (others k hs) w
 split_count k w [] = refl
 split_count k w (h ∷ hs) =
     let all = all-cons h hs w in
@@ -52,7 +52,7 @@ split_count k w (h ∷ hs) =
       | inr other ↦ let here = rw other at one in let aside = all-cons h (others k hs) w in rw other (omega arith)
     ]
 
-others-same : (k m : ℕ) (w : What) (hs : List Happened) → m ≢ k → count_of (others k hs) m w ≡ count_of hs m w
+others-same : (k m : ℕ) (w : What) (hs : List CountedEvent) → m ≢ k → count_of (others k hs) m w ≡ count_of hs m w
 others-same k m w [] ne = refl
 others-same k m w (h ∷ hs) ne =
     let one = of-cons h hs m w in
@@ -64,30 +64,30 @@ others-same k m w (h ∷ hs) ne =
       | inr other ↦ let aside = of-cons h (others k hs) m w in rw other (omega arith)
     ]
 
-others-none : (k : ℕ) (w : What) (hs : List Happened) → count_of (others k hs) k w ≡ 0
+others-none : (k : ℕ) (w : What) (hs : List CountedEvent) → count_of (others k hs) k w ≡ 0
 others-none k w [] = refl
 others-none k w (h ∷ hs) = elim (bool_cases (h.method == k)) [
   | inl same ↦ rw same (others-none k w hs)
   | inr other ↦ let aside = rw other at (of-cons h (others k hs) k w) in let rest = others-none k w hs in rw other (omega arith)
 ]
 
-number-counts_of : (w : What) (hs : List Happened) (m : ℕ) → number_of w (counts_of hs m) ≡ count_of hs m w
+number-counts_of : (w : What) (hs : List CountedEvent) (m : ℕ) → count_named w (counts_of hs m) ≡ count_of hs m w
 number-counts_of Took hs m = refl
 number-counts_of Sent hs m = refl
 number-counts_of Refused hs m = refl
 number-counts_of Standing hs m = refl
 
-number-none : (w : What) → number_of w no_counts ≡ 0
+number-none : (w : What) → count_named w no_counts ≡ 0
 number-none Took = refl
 number-none Sent = refl
 number-none Refused = refl
 number-none Standing = refl
 
 -- there are no events if nothing is counted
-empty_of_none : (hs : List Happened) → IsCountOf hs [] → hs ≡ []
+empty_of_none : (hs : List CountedEvent) → IsCountOf hs [] → hs ≡ []
 empty_of_none [] counted = refl
 empty_of_none (h ∷ hs) counted =
-    let none : 0 ≡ count_of (h ∷ hs) h.method h.what = sym (number-none h.what) ∙ ap (number_of h.what) (counted h.method) ∙ number-counts_of h.what (h ∷ hs) h.method in
+    let none : 0 ≡ count_of (h ∷ hs) h.method h.what = sym (number-none h.what) ∙ ap (count_named h.what) (counted h.method) ∙ number-counts_of h.what (h ∷ hs) h.method in
     let step : count_of (h ∷ hs) h.method h.what ≡ 1 + count_of hs h.method h.what = of-on h hs h.method h.what (eq-eqb h.method h.method refl) (is_what-refl h.what) in
     absurd (omega arith)
 
@@ -98,7 +98,7 @@ later_in : (k m : ℕ) (c : Counts) (rest : List (ℕ × Counts)) → m ≢ k �
 later_in k m c rest ne = rw (is_at-same m k, ne_eqb m k ne) refl
 
 -- the remaining totals count the events of the other methods
-others_counted : (k : ℕ) (c : Counts) (rest : List (ℕ × Counts)) (hs : List Happened)
+others_counted : (k : ℕ) (c : Counts) (rest : List (ℕ × Counts)) (hs : List CountedEvent)
     → IsStrictlySortedBy nat_cmp (keys_of ((k, c) ∷ rest)) → IsCountOf hs ((k, c) ∷ rest)
     → IsCountOf (others k hs) rest
 others_counted k c rest hs sorted counted m = elim (bool_cases (m == k)) [
@@ -114,13 +114,13 @@ others_counted k c rest hs sorted counted m = elim (bool_cases (m == k)) [
       (others-same k m Sent hs ne) (others-same k m Refused hs ne) (others-same k m Standing hs ne))
 ]
 
-sum_is_count : (w : What) (hs : List Happened) (totals : List (ℕ × Counts))
+sum_is_count : (w : What) (hs : List CountedEvent) (totals : List (ℕ × Counts))
     → IsStrictlySortedBy nat_cmp (keys_of totals) → IsCountOf hs totals
-    → sum_by (number_of w) (values_of totals) ≡ count_all hs w
+    → sum_by (count_named w) (values_of totals) ≡ count_all hs w
 sum_is_count w hs [] sorted counted = rw (empty_of_none hs counted) refl
 sum_is_count w hs ((k, c) ∷ rest) sorted counted =
-    let here : number_of w c ≡ count_of hs k w = ap (number_of w) (sym (first_in k c rest) ∙ counted k) ∙ number-counts_of w hs k in
-    let step = sum_by-cons (number_of w) c (values_of rest) in
+    let here : count_named w c ≡ count_of hs k w = ap (count_named w) (sym (first_in k c rest) ∙ counted k) ∙ number-counts_of w hs k in
+    let step = sum_by-cons (count_named w) c (values_of rest) in
     let behind = sum_is_count w (others k hs) rest (sorted-tail (k, c) rest sorted) (others_counted k c rest hs sorted counted) in
     let parts = split_count k w hs in
     step ∙ sums here behind ∙ sym parts
@@ -128,7 +128,7 @@ sum_is_count w hs ((k, c) ∷ rest) sorted counted =
     sums : {a b c d : ℕ} → a ≡ b → c ≡ d → a + c ≡ b + d
     sums p q = cc
 
-pub sums_count : SumsCount
+pub sums_count : AreSumsOfEvents
 sums_count happened totals sound counted =
     same_counts _ _ (sum_is_count Took happened totals sound.ascends counted)
     (sum_is_count Sent happened totals sound.ascends counted)
@@ -142,11 +142,11 @@ taken (e ∷ es) = if e.1.took == 0 then taken es else e.0 ∷ taken es
 
 -- their lines, by any function that agrees with their counts
 lines_taken : (g : ℕ → Counts) (es : List (ℕ × Counts)) → AllByRecursion (λ e. g e.0 ≡ e.1) es
-    → flat_map entry_line es ≡ flat_map (λ m. method_line m (g m)) (taken es)
+    → flat_map entry_line es ≡ flat_map (λ m. method_counts_line m (g m)) (taken es)
 lines_taken g [] agree = refl
 lines_taken g (e ∷ es) agree = elim (bool_cases (e.1.took == 0)) [
   | inl none ↦ rw none (lines_taken g es agree.1)
-  | inr some ↦ rw some (ap (λ (c : Counts). method_line e.0 c ++ flat_map entry_line es) (sym agree.0) ∙ ap (λ (t : List ℕ). method_line e.0 (g e.0) ++ t) (lines_taken g es agree.1))
+  | inr some ↦ rw some (ap (λ (c : Counts). method_counts_line e.0 c ++ flat_map entry_line es) (sym agree.0) ∙ ap (λ (t : List ℕ). method_counts_line e.0 (g e.0) ++ t) (lines_taken g es agree.1))
 ]
 
 above : (k y : ℕ) → nat_cmp k y ≡ Less → k < y
@@ -163,7 +163,7 @@ unfolding IsStrictlySortedBy
 agree_all [] sorted = tt
 agree_all ((k, c) ∷ es) sorted = (first_in k c es, agree_more k c es es sorted.0 (agree_all es sorted.1))
 
-counted_all : (hs : List Happened) (es xs : List (ℕ × Counts)) → IsCountOf hs es
+counted_all : (hs : List CountedEvent) (es xs : List (ℕ × Counts)) → IsCountOf hs es
     → AllByRecursion (λ e. counts_in es e.0 ≡ e.1) xs → AllByRecursion (λ e. counts_of hs e.0 ≡ e.1) xs
 counted_all hs es [] counted agree = tt
 counted_all hs es (x ∷ xs) counted agree = (sym (counted x.0) ∙ agree.0, counted_all hs es xs counted agree.1)
@@ -233,7 +233,7 @@ taken_is ((k, c) ∷ es) m some = elim (bool_cases (m == k)) [
       ]
 ]
 
-pub text_counts : TextCounts
+pub text_counts : IsTextOfEvents
 text_counts happened totals sound counted = record {
   methods = taken totals;
   ascends = taken_rise totals sound.ascends;
@@ -243,5 +243,5 @@ text_counts happened totals sound counted = record {
   lines =
       let lines = lines_taken (counts_of happened) totals (counted_all happened totals totals counted (agree_all totals sound.ascends)) in
       let sums = sums_count happened totals sound counted in
-      ap (λ (t : List ℕ). t ++ totals_line (sums_of totals)) lines ∙ ap (λ (c : Counts). flat_map (λ m. method_line m (counts_of happened m)) (taken totals) ++ totals_line c) sums;
+      ap (λ (t : List ℕ). t ++ totals_line (sums_of totals)) lines ∙ ap (λ (c : Counts). flat_map (λ m. method_counts_line m (counts_of happened m)) (taken totals) ++ totals_line c) sums;
 }

@@ -7,7 +7,7 @@ use Rattle.std.specs.Map.{keys_of, values_of}
 use Rattle.std.specs.BTreeMap.{insert_entry, is_at}
 use Rattle.std.specs.Ordering.{nat_cmp}
 use Rattle.telemetry.specs.declared.counts.Counts.{Counts}
-use Rattle.telemetry.specs.Counts.{IsSmall, no_counts, plus}
+use Rattle.telemetry.specs.Counts.{AreIn64Bits, no_counts, plus}
 use Rattle.telemetry.specs.Totals.{counts_in, sums_of}
 use Rattle.telemetry.proofs.Adding.{bool_cases, counts-below, in-le-sum, plus-assoc, plus-none, same_counts, sorted-tail, sum-inserted, sum_counts-cons}
 
@@ -20,8 +20,8 @@ pub record IsMerging (counts others merged left : List (ℕ × Counts)) : Type 0
 
 -- the sums of two counts of one method fit
 pub sum_fits : (counts others merged rest : List (ℕ × Counts)) (k : ℕ) (c : Counts)
-    → IsMerging counts others merged ((k, c) ∷ rest) → IsSmall (plus (sums_of counts) (sums_of others))
-    → IsSmall (plus (counts_in merged k) c)
+    → IsMerging counts others merged ((k, c) ∷ rest) → AreIn64Bits (plus (sums_of counts) (sums_of others))
+    → AreIn64Bits (plus (counts_in merged k) c)
 sum_fits counts others merged rest k c merging small =
     let sums : plus (sums_of merged) (plus c (sums_of rest)) ≡ plus (sums_of counts) (sums_of others) =
     ap (λ s. plus (sums_of merged) s) (sym (sum_counts-cons c (values_of rest))) ∙ merging.sums in

@@ -2,10 +2,10 @@
 use Rattle.std.proofs.Common.{◌≡◌, ℕ, List, [], ◌∷◌, refl}
 use Rattle.telemetry.specs.declared.counts.Counts.{Counts}
 use Rattle.telemetry.specs.declared.counts.What.TheVariants.{Took, Sent, Refused, Standing}
-use Rattle.telemetry.specs.Counts.{Happened, all_counts, counts_of, no_counts}
-use Rattle.telemetry.specs.Totals.{counts_in, entry_line, method_line, sums_of}
+use Rattle.telemetry.specs.Counts.{CountedEvent, all_counts, counts_of, no_counts}
+use Rattle.telemetry.specs.Totals.{counts_in, entry_line, method_counts_line, sums_of}
 
-abbrev happened : List Happened
+abbrev happened : List CountedEvent
 happened = record { method = 700; what = Took } ∷ record { method = 3; what = Took } ∷ record {
   method = 700;
   what = Refused;
@@ -38,5 +38,5 @@ all = refl
 no_line : entry_line (9, record { took = 0; sent = 1; refused = 0; standing = 0 }) ≡ []
 no_line = refl
 
-a_line : entry_line (3, record { took = 2; sent = 0; refused = 0; standing = 1 }) ≡ method_line 3 (record { took = 2; sent = 0; refused = 0; standing = 1 })
+a_line : entry_line (3, record { took = 2; sent = 0; refused = 0; standing = 1 }) ≡ method_counts_line 3 (record { took = 2; sent = 0; refused = 0; standing = 1 })
 a_line = refl

@@ -5,7 +5,7 @@ use Rattle.telemetry.specs.declared.counts.What.{What}
 use Rattle.telemetry.specs.declared.counts.What.TheVariants.{Took, Sent, Refused, Standing}
 
 -- an event of a call of a method
-pub record Happened : Type 0 where
+pub record CountedEvent : Type 0 where
   pub method : ℕ
   pub what : What
 
@@ -18,11 +18,11 @@ is_what Standing Standing = true
 is_what what other = false
 
 -- how often this became of a call of the method
-abbrev pub count_of : List Happened → ℕ → What → ℕ
+abbrev pub count_of : List CountedEvent → ℕ → What → ℕ
 count_of happened method what = count_by (λ h. (h.method == method) && is_what what h.what) happened
 
 -- the counts of a method's events
-abbrev pub counts_of : List Happened → ℕ → Counts
+abbrev pub counts_of : List CountedEvent → ℕ → Counts
 counts_of happened method = record {
   took = count_of happened method Took;
   sent = count_of happened method Sent;
@@ -31,11 +31,11 @@ counts_of happened method = record {
 }
 
 -- how often this became of a call of any method
-abbrev pub count_all : List Happened → What → ℕ
+abbrev pub count_all : List CountedEvent → What → ℕ
 count_all happened what = count_by (λ h. is_what what h.what) happened
 
 -- the counts of the events of all methods
-abbrev pub all_counts : List Happened → Counts
+abbrev pub all_counts : List CountedEvent → Counts
 all_counts happened = record {
   took = count_all happened Took;
   sent = count_all happened Sent;
@@ -48,11 +48,11 @@ abbrev pub no_counts : Counts
 no_counts = record { took = 0; sent = 0; refused = 0; standing = 0 }
 
 -- one of the four counts
-abbrev pub number_of : What → Counts → ℕ
-number_of Took counts = counts.took
-number_of Sent counts = counts.sent
-number_of Refused counts = counts.refused
-number_of Standing counts = counts.standing
+abbrev pub count_named : What → Counts → ℕ
+count_named Took counts = counts.took
+count_named Sent counts = counts.sent
+count_named Refused counts = counts.refused
+count_named Standing counts = counts.standing
 
 -- the four counts, with one more of this
 abbrev pub one_more : What → Counts → Counts
@@ -71,7 +71,7 @@ plus counts others = record {
 }
 
 -- each count fits 64 bits
-pub record IsSmall (counts : Counts) : Type 0 where
+pub record AreIn64Bits (counts : Counts) : Type 0 where
   pub took : counts.took < 2 ^ 64
   pub sent : counts.sent < 2 ^ 64
   pub refused : counts.refused < 2 ^ 64

@@ -30,7 +30,7 @@ pub(crate) struct Counts {
 
 impl Counts {
     ghost use Rattle.std.specs.Prelude.{◌≡◌, ◌+◌, ◌^◌, ◌<◌};
-    ghost use Rattle.telemetry.specs.Counts.{IsSmall, no_counts, number_of, one_more, plus};
+    ghost use Rattle.telemetry.specs.Counts.{AreIn64Bits, no_counts, count_named, one_more, plus};
 
     // Counts of zero.
     pub(crate) fn none() -> Counts
@@ -46,7 +46,7 @@ impl Counts {
 
     // The counts after one more event.
     pub(crate) fn one_more(mut self, what: What) -> Counts
-        requires { number_of what self + 1 < 2 ^ 64 }
+        requires { count_named what self + 1 < 2 ^ 64 }
         ensures { result ≡ one_more what self }
     {
         match what {
@@ -60,7 +60,7 @@ impl Counts {
 
     // The sums of the two counts.
     pub(crate) fn plus(self, other: Counts) -> Counts
-        requires { IsSmall (plus self other) }
+        requires { AreIn64Bits (plus self other) }
         ensures { result ≡ plus self other }
     {
         Counts {

@@ -1,14 +1,14 @@
 //! The lines of counts. Their format is this project's own.
 
 ghost use Rattle.std.specs.Prelude.{◌≡◌, ◌==◌, if◌then◌else◌, [], ◌++◌, OnOk};
-ghost use Rattle.telemetry.specs.Totals.{count_words, method_line, totals_line};
+ghost use Rattle.telemetry.specs.Totals.{count_words, method_counts_line, totals_line};
 
 use crate::counts::Counts;
 use mrpc_table::{Bytes, Memory};
 
 // Appends the line of a method's counts, or nothing if no call of it was accepted. The only error is `Memory`.
 pub(crate) fn put_method(out: &mut Bytes, method: u16, counts: Counts) -> Result<(), Memory>
-    ensures { OnOk result (out.new ≡ out.old ++ (if counts.took == 0 then [] else method_line method counts)) }
+    ensures { OnOk result (out.new ≡ out.old ++ (if counts.took == 0 then [] else method_counts_line method counts)) }
 {
     if counts.took == 0 {
         return Ok(());

@@ -5,7 +5,7 @@ ghost use Rattle.std.specs.List.{flat_map};
 ghost use Rattle.std.specs.Ordering.{nat_cmp};
 ghost use Rattle.std.specs.List.Sorted.{IsStrictlySortedBy};
 ghost use Rattle.std.specs.Map.{keys_of};
-ghost use Rattle.telemetry.specs.Counts.{IsSmall, plus};
+ghost use Rattle.telemetry.specs.Counts.{AreIn64Bits, plus};
 ghost use Rattle.telemetry.specs.Totals.{counts_in, entry_line, sums_of};
 
 use crate::counts::{Counts, What};
@@ -35,7 +35,7 @@ impl Model for Totals {
 
 impl Totals {
     ghost use Rattle.std.specs.Prelude.{◌≡◌, ◌+◌, ◌^◌, ◌<◌, ◌==◌, ℕ, [], if◌then◌else◌, OnOk, OnErr, IfOk};
-    ghost use Rattle.telemetry.specs.Counts.{IsSmall, number_of, one_more, plus};
+    ghost use Rattle.telemetry.specs.Counts.{AreIn64Bits, count_named, one_more, plus};
     ghost use Rattle.telemetry.specs.Totals.{IsTotals, counts_in, sums_of, totals_text};
 
     /// Totals of zero. Doesn't allocate.
@@ -49,7 +49,7 @@ impl Totals {
 
     /// Counts what became of a call of a method. The only error is `Memory`, which leaves the totals unchanged.
     pub fn add(&mut self, method: u16, what: What) -> Result<(), Memory>
-        requires { number_of what (sums_of self.old) + 1 < 2 ^ 64 }
+        requires { count_named what (sums_of self.old) + 1 < 2 ^ 64 }
         ensures counts { OnOk result ((m : ℕ) → counts_in self.new m
             ≡ (if m == method then one_more what (counts_in self.old m) else counts_in self.old m)) }
         ensures sums { OnOk result (sums_of self.new ≡ one_more what (sums_of self.old)) }
@@ -62,7 +62,7 @@ impl Totals {
 
     /// Adds all counts of other totals. The only error is `Memory`, which leaves the totals unchanged.
     pub fn merge(&mut self, other: &Totals) -> Result<(), Memory>
-        requires { IsSmall (plus (sums_of self.old) (sums_of other.now)) }
+        requires { AreIn64Bits (plus (sums_of self.old) (sums_of other.now)) }
         ensures counts { OnOk result ((m : ℕ) → counts_in self.new m
             ≡ plus (counts_in self.old m) (counts_in other.now m)) }
         ensures sums { OnOk result (sums_of self.new ≡ plus (sums_of self.old) (sums_of other.now)) }
@@ -113,7 +113,7 @@ fn merged(
     counts: &BTreeMap<u16, Counts>,
     others: &BTreeMap<u16, Counts>,
 ) -> Result<BTreeMap<u16, Counts>, Memory>
-    requires { IsSmall (plus (sums_of counts.now.entries) (sums_of others.now.entries)) }
+    requires { AreIn64Bits (plus (sums_of counts.now.entries) (sums_of others.now.entries)) }
     ensures counts { IfOk result (λ merged. (m : ℕ) → counts_in merged.entries m
         ≡ plus (counts_in counts.now.entries m) (counts_in others.now.entries m)) }
     ensures sums { IfOk result (λ merged. sums_of merged.entries
@@ -130,7 +130,7 @@ fn merged(
 
 // The counts over all methods.
 fn sums(counts: &BTreeMap<u16, Counts>) -> Counts
-    requires { IsSmall (sums_of counts.now.entries) }
+    requires { AreIn64Bits (sums_of counts.now.entries) }
     ensures { result ≡ sums_of counts.now.entries }
 {
     let mut sums = Counts::none();

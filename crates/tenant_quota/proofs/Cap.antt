@@ -5,7 +5,7 @@ use Rattle.std.specs.List.{range_with_len}
 use Rattle.std.proofs.lemmas.Bool.Decides.{nat_tests}
 use Rattle.std.proofs.lemmas.List.Sums.{sum_by-cons}
 use Rattle.std.proofs.lemmas.List.Sorted.{sum_by-IsPermutation}
-use Rattle.tenant_quota.specs.Drawing.{EachOnce, allowed}
+use Rattle.tenant_quota.specs.Drawing.{IsPermutationOfRange, allowed_by_cap}
 
 below_or_not : (a cap : ℕ) → (a < cap) ⊎ (cap ≤ a)
 below_or_not a cap = grind arith
@@ -29,7 +29,7 @@ one_counts a cap =
           omega (arith, is, most)
     ]
 
-allowed_from : (a n cap : ℕ) → allowed cap (range_with_len a n) ≤ cap - a
+allowed_from : (a n cap : ℕ) → allowed_by_cap cap (range_with_len a n) ≤ cap - a
 allowed_from a zero cap = omega arith
 allowed_from a (suc n) cap =
     let head = sum_by-cons (λ t. cond (nat_lt t cap) 1 0) a (range_with_len (a + 1) n) in
@@ -37,7 +37,7 @@ allowed_from a (suc n) cap =
     let here : ones a cap + (cap - (a + 1)) ≤ cap - a = one_counts a cap in
     omega (arith, head, rest, here)
 
-pub cap_kept : (cap : ℕ) (tickets : List ℕ) → EachOnce tickets → allowed cap tickets ≤ cap
+pub cap_kept : (cap : ℕ) (tickets : List ℕ) → IsPermutationOfRange tickets → allowed_by_cap cap tickets ≤ cap
 cap_kept cap tickets once =
     let same = sum_by-IsPermutation (λ t. cond (nat_lt t cap) 1 0) (range_with_len 0 (length tickets)) tickets once in
     let most = allowed_from 0 (length tickets) cap in

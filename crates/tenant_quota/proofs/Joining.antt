@@ -3,7 +3,7 @@ use Rattle.std.proofs.Common.{◌≡◌, ℕ, zero, suc, ◌+◌, ◌<◌, List,
 use Rattle.std.specs.Prelude.{slice_index_or, slice_set}
 use Rattle.std.proofs.lemmas.List.Elements.{All-cons, All-head, All-tail}
 use Rattle.tenant_quota.specs.Splitting.{AreOfQuotas}
-use Rattle.tenant_quota.specs.Drawing.{Drawing, IsLater, AreLater, together, all_together}
+use Rattle.tenant_quota.specs.Drawing.{Drawing, IsLater, AreLater, after_join, all_after_join}
 
 -- ---- later states
 
@@ -41,7 +41,7 @@ pub is_nil : (xs : List Drawing) → length xs ≡ 0 → xs ≡ []
 is_nil [] none = refl
 is_nil (x ∷ xs) none = absurd (omega (arith, none))
 
-pub none_joined : (seats : List Drawing) → all_together seats [] ≡ seats
+pub none_joined : (seats : List Drawing) → all_after_join seats [] ≡ seats
 none_joined [] = refl
 none_joined (s ∷ seats) = refl
 
@@ -59,16 +59,16 @@ module _ (last : Drawing) where
   last_quota (s ∷ seats) (o ∷ others) d are is = last_quota seats others d are.1 is
 
   module _ (d new : Drawing) (quota : new.quota ≡ d.quota) (draws : new.draws ≡ d.draws ++ last.draws) (share : new.share ≡ d.share + last.share) where
-    is_together : new ≡ together d last
+    is_together : new ≡ after_join d last
     is_together = λ i. record { quota = quota i; draws = draws i; share = share i }
 
     -- the last is joined first
     pub one_joined : (seats others : List Drawing) → AreOfQuotas seats (others ++ last ∷ []) → d ≡ slice_index_or seats (length others) d
-        → all_together (slice_set seats (length others) new) others ≡ all_together seats (others ++ last ∷ [])
+        → all_after_join (slice_set seats (length others) new) others ≡ all_after_join seats (others ++ last ∷ [])
     one_joined [] [] are is = absurd are
     one_joined [] (o ∷ others) are is = absurd are
-    one_joined (s ∷ seats) [] are is = ap (λ x. x ∷ seats) (is_together ∙ ap (λ x. together x last) is) ∙ ap (λ l. together s last ∷ l) (sym (none_joined seats))
-    one_joined (s ∷ seats) (o ∷ others) are is = ap (λ l. together s o ∷ l) (one_joined seats others are.1 is)
+    one_joined (s ∷ seats) [] are is = ap (λ x. x ∷ seats) (is_together ∙ ap (λ x. after_join x last) is) ∙ ap (λ l. after_join s last ∷ l) (sym (none_joined seats))
+    one_joined (s ∷ seats) (o ∷ others) are is = ap (λ l. after_join s o ∷ l) (one_joined seats others are.1 is)
 
     pub rest_are_of : (seats others : List Drawing) → AreOfQuotas seats (others ++ last ∷ [])
         → d ≡ slice_index_or seats (length others) d → AreOfQuotas (slice_set seats (length others) new) others

@@ -1,7 +1,7 @@
 -- One more draw of one seat of a list.
 use Rattle.std.proofs.Common.{◌≡◌, ◌≢◌, ℕ, zero, suc, ◌<◌, ◌⊎◌, inl, inr, List, [], ◌∷◌, ◌++◌, length, refl, sym, ap, ◌∙◌, append-nil, arith}
 use Rattle.std.specs.Prelude.{Some, IfSome, IsSomeAnd, slice_index_or, slice_set}
-use Rattle.tenant_quota.specs.Drawing.{Drawing, tickets_in, drawn_by}
+use Rattle.tenant_quota.specs.Drawing.{Drawing, tickets_in, tickets_of_tenant}
 use Rattle.tenant_quota.proofs.Tickets.{tickets-append, ticket_here, ticket_elsewhere}
 
 module _ (window ticket : ℕ) (d new : Drawing) (drew : new.draws ≡ d.draws ++ (window, ticket) ∷ []) where
@@ -15,14 +15,14 @@ module _ (window ticket : ℕ) (d new : Drawing) (drew : new.draws ≡ d.draws +
       ∙ append-nil (tickets_in w d.draws) ∙ ap (λ (y : Drawing). tickets_in w y.draws) is
 
   pub tenant_more : (seats : List Drawing) (t : ℕ) → t < length seats → d ≡ slice_index_or seats t d
-      → IfSome (drawn_by (slice_set seats t new) t window)
-      (λ tickets. IsSomeAnd (drawn_by seats t window) (λ before. tickets ≡ before ++ ticket ∷ []))
+      → IfSome (tickets_of_tenant (slice_set seats t new) t window)
+      (λ tickets. IsSomeAnd (tickets_of_tenant seats t window) (λ before. tickets ≡ before ++ ticket ∷ []))
   tenant_more [] t inside is = absurd (omega (arith, inside))
   tenant_more (x ∷ xs) zero inside is = more x is
   tenant_more (x ∷ xs) (suc t) inside is = tenant_more xs t (omega (arith, inside)) is
 
   pub tenant_others : (seats : List Drawing) (t : ℕ) → d ≡ slice_index_or seats t d → (j w : ℕ)
-      → (j ≢ t) ⊎ (w ≢ window) → drawn_by (slice_set seats t new) j w ≡ drawn_by seats j w
+      → (j ≢ t) ⊎ (w ≢ window) → tickets_of_tenant (slice_set seats t new) j w ≡ tickets_of_tenant seats j w
   tenant_others [] t is j w apart = refl
   tenant_others (x ∷ xs) zero is zero w (inl off) = absurd (off refl)
   tenant_others (x ∷ xs) zero is zero w (inr off) = ap Some (same x is w off)

@@ -8,7 +8,7 @@ use Rattle.std.proofs.lemmas.List.Elements.{filter-append}
 use mathlib.Core.List.{map-append}
 use native.Mathlib.Nat.{mod-eq_of_lt}
 use Rattle.tenant_quota.specs.Drawing.{tickets_in}
-use Rattle.tenant_quota.specs.Rule.{Counts}
+use Rattle.tenant_quota.specs.Rule.{IsTicketCount}
 
 pub tickets-append : (window : ℕ) (xs ys : List (ℕ × ℕ)) → tickets_in window (xs ++ ys) ≡ tickets_in window xs ++ tickets_in window ys
 tickets-append window xs ys =
@@ -21,11 +21,11 @@ ticket_here window n = ap (λ b. map (λ (d : ℕ × ℕ). d.1) (cond b ((window
 pub ticket_elsewhere : (window other n : ℕ) → other ≢ window → tickets_in window ((other, n) ∷ []) ≡ []
 ticket_elsewhere window other n apart = ap (λ b. map (λ (d : ℕ × ℕ). d.1) (cond b ((other, n) ∷ []) [])) (ne_eqb other window apart)
 
-pub counts_none : Counts 0 []
+pub counts_none : IsTicketCount 0 []
 counts_none = record { counted = refl; once = λ _. IsPermutation-refl [] }
 
 -- the order of tickets doesn't matter
-pub counts_moved : (word : ℕ) (xs ys : List ℕ) → IsPermutation xs ys → Counts word xs → Counts word ys
+pub counts_moved : (word : ℕ) (xs ys : List ℕ) → IsPermutation xs ys → IsTicketCount word xs → IsTicketCount word ys
 counts_moved word xs ys moved c =
     let same : length ys ≡ length xs = length_permutation xs ys moved in record {
       counted = subst (λ n. word ≡ n % 2 ^ 64) (sym same) c.counted;
@@ -42,7 +42,7 @@ mod_more : (n : ℕ) → (n % 2 ^ 64 + 1) % 2 ^ 64 ≡ (n + 1) % 2 ^ 64
 mod_more n = omega arith
 
 -- one more draw, with the word as its ticket
-pub counts_more : (word : ℕ) (xs : List ℕ) → Counts word xs → Counts ((word + 1) % 2 ^ 64) (xs ++ word ∷ [])
+pub counts_more : (word : ℕ) (xs : List ℕ) → IsTicketCount word xs → IsTicketCount ((word + 1) % 2 ^ 64) (xs ++ word ∷ [])
 counts_more word xs c =
     let len : length (xs ++ word ∷ []) ≡ length xs + 1 = length-append xs (word ∷ []) in record {
       counted = ap (λ n. (n + 1) % 2 ^ 64) c.counted ∙ mod_more (length xs) ∙ ap (λ n. n % 2 ^ 64) (sym len);

@@ -12,8 +12,8 @@ abbrev pub tickets_in : ℕ → List (ℕ × ℕ) → List ℕ
 tickets_in window draws = map (λ draw. draw.1) (filter (λ draw. draw.0 == window) draws)
 
 -- tickets are the numbers from 0, each once, in some order
-abbrev pub EachOnce : List ℕ → Type 0
-EachOnce tickets = IsPermutation (range_with_len 0 (length tickets)) tickets
+abbrev pub IsPermutationOfRange : List ℕ → Type 0
+IsPermutationOfRange tickets = IsPermutation (range_with_len 0 (length tickets)) tickets
 
 -- all shares of a quota
 abbrev pub all_shares : ℕ
@@ -21,9 +21,9 @@ all_shares = 2 ^ 64
 
 -- in each of the `windows` windows, the tickets are the numbers from 0, each once, provided that they are fewer than
 -- 2^64
-abbrev pub AllOnce : ℕ → List (ℕ × ℕ) → Type 0
-AllOnce windows draws = (window : ℕ) → window < windows → length (tickets_in window draws) < 2 ^ 64
-    → EachOnce (tickets_in window draws)
+abbrev pub AreAllDrawn : ℕ → List (ℕ × ℕ) → Type 0
+AreAllDrawn windows draws = (window : ℕ) → window < windows → length (tickets_in window draws) < 2 ^ 64
+    → IsPermutationOfRange (tickets_in window draws)
 
 -- a seat of a quota
 pub record Drawing : Type 0 where
@@ -34,17 +34,17 @@ pub record Drawing : Type 0 where
   pub share : ℕ
 
 -- the number of tickets below a cap: the number of calls that it allows
-abbrev pub allowed : ℕ → List ℕ → ℕ
-allowed cap tickets = count_by (λ ticket. nat_lt ticket cap) tickets
+abbrev pub allowed_by_cap : ℕ → List ℕ → ℕ
+allowed_by_cap cap tickets = count_by (λ ticket. nat_lt ticket cap) tickets
 
 -- the tickets of an optional seat, in a window
-abbrev pub told_in : ℕ → Option Drawing → Option (List ℕ)
-told_in window None = None
-told_in window (Some seat) = Some (tickets_in window seat.draws)
+abbrev pub tickets_of_seat : ℕ → Option Drawing → Option (List ℕ)
+tickets_of_seat window None = None
+tickets_of_seat window (Some seat) = Some (tickets_in window seat.draws)
 
 -- the tickets of a tenant's seat in a window; the tenant is the index in the list
-abbrev pub drawn_by : List Drawing → ℕ → ℕ → Option (List ℕ)
-drawn_by seats tenant window = told_in window (slice_get seats tenant)
+abbrev pub tickets_of_tenant : List Drawing → ℕ → ℕ → Option (List ℕ)
+tickets_of_tenant seats tenant window = tickets_of_seat window (slice_get seats tenant)
 
 -- the second seat is a later state of the first: it may have drawn more
 pub record IsLater (old new : Drawing) : Type 0 where
@@ -71,15 +71,19 @@ abbrev pub new_half : Drawing → Drawing
 new_half seat = record { quota = seat.quota; draws = []; share = seat.share / 2 }
 
 -- a seat after it joined another one of its quota
-abbrev pub together : Drawing → Drawing → Drawing
-together seat other = record { quota = seat.quota; draws = seat.draws ++ other.draws; share = seat.share + other.share }
+abbrev pub after_join : Drawing → Drawing → Drawing
+after_join seat other = record {
+  quota = seat.quota;
+  draws = seat.draws ++ other.draws;
+  share = seat.share + other.share;
+}
 
 -- each seat after it joined the one at its index, if there is one
-abbrev pub all_together : List Drawing → List Drawing → List Drawing
-all_together [] others = []
-all_together (seat ∷ seats) [] = seat ∷ seats
-all_together (seat ∷ seats) (other ∷ others) = together seat other ∷ all_together seats others
+abbrev pub all_after_join : List Drawing → List Drawing → List Drawing
+all_after_join [] others = []
+all_after_join (seat ∷ seats) [] = seat ∷ seats
+all_after_join (seat ∷ seats) (other ∷ others) = after_join seat other ∷ all_after_join seats others
 
 -- a share that can remain of all shares after at most `times` halvings
-abbrev pub WasSplit : ℕ → ℕ → Type 0
-WasSplit times share = all_shares ≤ share * 2 ^ times
+abbrev pub IsShareAfter : ℕ → ℕ → Type 0
+IsShareAfter times share = all_shares ≤ share * 2 ^ times

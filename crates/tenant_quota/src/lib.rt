@@ -16,7 +16,7 @@ mod seat;
 mod seats;
 mod view;
 
-pub use laws::{seats_come_together, seats_stay, shares_suffice};
+pub use laws::{join_undoes_split, shares_suffice, since_is_transitive};
 pub use opening::open;
 pub use seat::Seat;
 pub use seats::Seats;

@@ -1,9 +1,9 @@
 //! A seat of a quota.
 
 ghost use Rattle.std.specs.Prelude.{◌≡◌, ◌<◌, ◌≤◌, ◌+◌, ◌/◌, [], ◌∷◌, ◌++◌, IfOk, OnErr, ◌^◌, length};
-ghost use Rattle.tenant_quota.specs.Drawing.{AllOnce, all_shares, allowed, tickets_in};
+ghost use Rattle.tenant_quota.specs.Drawing.{AreAllDrawn, all_shares, allowed_by_cap, tickets_in};
 
-use crate::view::{Draw, Halves, Settle, Table, View};
+use crate::view::{DrawStep, Halves, QuotaView, SettleStep, Table};
 use atomic_table::Seat as TableSeat;
 use std::alloc::{AllocError, Global};
 use std::marker::Model;
@@ -13,7 +13,7 @@ use std::sync::Arc;
 /// any thread. Contracts see it as a `Drawing`: its quota, its draws, and its share.
 pub struct Seat {
     pub(crate) words: Arc<Table, Global>,
-    pub(crate) seat: TableSeat<(), View>,
+    pub(crate) seat: TableSeat<(), QuotaView>,
 }
 
 // Written by hand, so that a drop is one call instead of one for each field.
@@ -51,7 +51,7 @@ impl Seat {
         ensures share { self.new.share ≡ self.old.share }
     {
         let words = &self.words.shared;
-        words.fetch_add::<Draw>(&mut self.seat, window as usize, 1)
+        words.fetch_add::<DrawStep>(&mut self.seat, window as usize, 1)
     }
 
     /// A new seat of the same quota, without draws and with half of this one's share, rounded down. If out of memory,
@@ -70,7 +70,7 @@ impl Seat {
         let theirs = Arc::try_clone(&self.words)?;
         let words = &self.words.shared;
         let seat = words.split_seat::<Halves>(&mut self.seat);
-        words.load::<Settle>(&mut self.seat, 0);
+        words.load::<SettleStep>(&mut self.seat, 0);
         Ok(Seat {
             words: theirs,
             seat,
@@ -88,13 +88,13 @@ impl Seat {
         let Seat { seat, words: _ } = other;
         let words = &self.words.shared;
         words.join_seat::<Halves>(&mut self.seat, seat);
-        words.load::<Settle>(&mut self.seat, 0);
+        words.load::<SettleStep>(&mut self.seat, 0);
     }
 
     /// The law of tickets: if a seat has all shares, the tickets of each window are 0, 1, 2 and so on, each once,
     /// provided that they are fewer than 2^64.
     pub fn tickets_are_distinct(&self)
-        ensures { self.now.share ≡ all_shares → AllOnce self.now.quota.words self.now.draws }
+        ensures { self.now.share ≡ all_shares → AreAllDrawn self.now.quota.words self.now.draws }
     {
         let _ = &self.seat;
     }
@@ -104,7 +104,7 @@ impl Seat {
     pub fn cap_is_kept(&self, window: u64, cap: u64)
         requires { window < self.now.quota.words }
         ensures { self.now.share ≡ all_shares → length (tickets_in window self.now.draws) < 2 ^ 64
-            → allowed cap (tickets_in window self.now.draws) ≤ cap }
+            → allowed_by_cap cap (tickets_in window self.now.draws) ≤ cap }
     {
         let _ = (window, cap);
         self.tickets_are_distinct();

@@ -4,8 +4,8 @@ ghost use Rattle.std.specs.Prelude.{◌≡◌, ◌≢◌, ◌<◌, ◌≤◌, �
 ghost use Rattle.std.specs.Prelude.{IfOk, IfSome, IsSomeAnd, OnOk, OnErr};
 ghost use Rattle.std.specs.Vec.{vec_capacity};
 ghost use Rattle.mrpc_base.specs.declared.tickets.TheConstants.{WINDOWS};
-ghost use Rattle.tenant_quota.specs.Drawing.{AllOnce, AreLater, Drawing, all_shares, drawn_by};
-ghost use Rattle.tenant_quota.specs.Drawing.{all_together, kept_half, new_half, quotas_of};
+ghost use Rattle.tenant_quota.specs.Drawing.{AreAllDrawn, AreLater, Drawing, all_shares, tickets_of_tenant};
+ghost use Rattle.tenant_quota.specs.Drawing.{all_after_join, kept_half, new_half, quotas_of};
 ghost use Rattle.tenant_quota.specs.Splitting.{AreOfQuotas, AreSplit};
 
 use crate::seat::Seat;
@@ -73,7 +73,7 @@ impl Seats {
         match split {
             Ok(()) => Ok(halves),
             Err(fault) => {
-                self.take_in(halves);
+                self.join_fewer(halves);
                 Err(fault)
             }
         }
@@ -83,15 +83,15 @@ impl Seats {
     /// Never blocks or allocates.
     pub fn join(&mut self, other: Seats)
         requires { quotas_of other ≡ quotas_of self.old }
-        ensures { self.new ≡ all_together self.old other }
+        ensures { self.new ≡ all_after_join self.old other }
     {
-        self.take_in(other);
+        self.join_fewer(other);
     }
 
     // Like `join`, but the others may be fewer.
-    fn take_in(&mut self, mut other: Seats)
+    fn join_fewer(&mut self, mut other: Seats)
         requires { AreOfQuotas self.old other }
-        ensures { self.new ≡ all_together self.old other }
+        ensures { self.new ≡ all_after_join self.old other }
     {
         while let Some(seat) = other.seats.pop() {
             self.seats[other.seats.len()].join(seat);
@@ -109,7 +109,7 @@ impl Seats {
     /// The law of tickets, for each seat that has all shares of its quota. The tickets of each window are 0, 1, 2 and
     /// so on, each once, provided that they are fewer than 2^64.
     pub fn tickets_are_distinct(&self)
-        ensures { All (λ seat. seat.share ≡ all_shares → AllOnce WINDOWS seat.draws) self.now }
+        ensures { All (λ seat. seat.share ≡ all_shares → AreAllDrawn WINDOWS seat.draws) self.now }
     {
         for seat in self.seats.iter() {
             seat.tickets_are_distinct();
@@ -147,11 +147,11 @@ fn push_reserved(seats: &mut Vec<Seat>, seat: Seat)
 
 impl Tickets for Seats {
     ghost use Rattle.std.specs.Prelude.{◌<◌, length};
-    ghost use Rattle.tenant_quota.specs.Drawing.{AreLater, drawn_by};
+    ghost use Rattle.tenant_quota.specs.Drawing.{AreLater, tickets_of_tenant};
 
     ghost knows = { λ seats tenant. tenant < length seats };
 
-    ghost drawn = { drawn_by };
+    ghost drawn = { tickets_of_tenant };
 
     ghost since = { AreLater };
 
@@ -159,10 +159,10 @@ impl Tickets for Seats {
         requires known { tenant < length self.old }
         requires window { window < WINDOWS }
 
-        ensures drawn { IfSome (drawn_by self.new tenant window) (λ tickets.
-            IsSomeAnd (drawn_by self.old tenant window) (λ before. tickets ≡ before ++ result ∷ [])) }
+        ensures drawn { IfSome (tickets_of_tenant self.new tenant window) (λ tickets.
+            IsSomeAnd (tickets_of_tenant self.old tenant window) (λ before. tickets ≡ before ++ result ∷ [])) }
         ensures others { (t w : ℕ) → t < length self.old → w < WINDOWS → (t ≢ tenant) ⊎ (w ≢ window)
-            → drawn_by self.new t w ≡ drawn_by self.old t w }
+            → tickets_of_tenant self.new t w ≡ tickets_of_tenant self.old t w }
         ensures tenants { length self.new ≡ length self.old }
         ensures same_quotas { (first : List Drawing) → AreLater first self.old → AreLater first self.new }
     {

@@ -6,7 +6,7 @@ use std::alloc::Global;
 use std::collections::LinkedList;
 
 // The knowledge of one seat.
-pub(crate) struct View {
+pub(crate) struct QuotaView {
     // The number of windows of the quota.
     pub windows: u64,
     // The draws of the seat, and of the seats that were joined to it: the window, and the ticket.
@@ -18,7 +18,7 @@ pub(crate) struct View {
 pub(crate) struct Rule;
 
 // Its key is the number of windows.
-impl TableRule<(), View, u64> for Rule {
+impl TableRule<(), QuotaView, u64> for Rule {
     ghost use Rattle.tenant_quota.specs.Rule.{IsQuota, opener};
 
     ghost holds = { IsQuota };
@@ -27,27 +27,27 @@ impl TableRule<(), View, u64> for Rule {
 }
 
 // The draw of a ticket.
-pub(crate) struct Draw;
+pub(crate) struct DrawStep;
 
-impl Play<(), View> for Draw {
-    ghost use Rattle.tenant_quota.specs.Rule.{Drawn};
+impl Play<(), QuotaView> for DrawStep {
+    ghost use Rattle.tenant_quota.specs.Rule.{IsDrawStep};
 
-    ghost then = { Drawn };
+    ghost then = { IsDrawStep };
 }
 
 // A load that reveals the draws of a seat with all shares.
-pub(crate) struct Settle;
+pub(crate) struct SettleStep;
 
-impl Play<(), View> for Settle {
-    ghost use Rattle.tenant_quota.specs.Rule.{Settled};
+impl Play<(), QuotaView> for SettleStep {
+    ghost use Rattle.tenant_quota.specs.Rule.{IsSettleStep};
 
-    ghost then = { Settled };
+    ghost then = { IsSettleStep };
 }
 
 // A new seat, with half of this one's share and no draws.
 pub(crate) struct Halves;
 
-impl Split<View> for Halves {
+impl Split<QuotaView> for Halves {
     ghost use Rattle.tenant_quota.specs.Rule.{kept_view, new_view};
 
     ghost left = { kept_view };
@@ -55,12 +55,12 @@ impl Split<View> for Halves {
     ghost right = { new_view };
 }
 
-impl Join<View> for Halves {
-    ghost use Rattle.tenant_quota.specs.Rule.{joined_view, nobody};
+impl Join<QuotaView> for Halves {
+    ghost use Rattle.tenant_quota.specs.Rule.{joined_view, empty_view};
 
     ghost both = { joined_view };
 
-    ghost spent = { nobody };
+    ghost spent = { empty_view };
 }
 
-pub(crate) type Table = atomic_table::Table<(), View, u64, Rule, Global>;
+pub(crate) type Table = atomic_table::Table<(), QuotaView, u64, Rule, Global>;

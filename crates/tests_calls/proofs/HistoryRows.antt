@@ -9,7 +9,7 @@ use Rattle.std.proofs.lemmas.List.Elements.{All-cons, All-contains, All-nil}
 use Rattle.mrpc_table.specs.Node.{Node, no_fields, field, one, number}
 use Rattle.mrpc_table.specs.Normal.{IsNormal}
 use Rattle.mrpc_table.specs.declared.call.Call.{Call}
-use Rattle.mrpc_table.specs.declared.call.Sort.TheVariants.{Request}
+use Rattle.mrpc_table.specs.declared.call.CallKind.TheVariants.{Request}
 use Rattle.mrpc_table.specs.declared.table.Field.{Field}
 use Rattle.mrpc_table.specs.declared.table.Kind.TheVariants.{Uint64}
 use Rattle.mrpc_table.specs.declared.table.Label.TheVariants.{Plain}
@@ -17,30 +17,30 @@ use Rattle.mrpc_table.specs.declared.table.Table.{Table}
 use Rattle.wire_base.specs.Encoding.{varint, groups}
 use Rattle.frame_transport.specs.declared.format.TheConstants.{HEADER_LEN}
 use Rattle.policy_access.specs.Verdict.{AccessPolicy}
-use Rattle.policy_access.specs.declared.rule.About.TheVariants.{Calls as OfCalls}
+use Rattle.policy_access.specs.declared.rule.CallSelector.TheVariants.{Calls as OfCalls}
 use Rattle.policy_access.specs.declared.rule.Comparison.TheVariants.{Equal}
 use Rattle.policy_access.specs.declared.rule.Condition.TheVariants.{Compares}
 use Rattle.policy_access.specs.declared.rule.Operand.TheVariants.{Number}
 use Rattle.policy_access.specs.declared.rule.Rule.{Rule}
 use Rattle.policy_rate.specs.declared.rate.Rate.{Rate as RatePolicy}
 use Rattle.policy_redact.specs.declared.redact.Clear.{Clear}
-use Rattle.engine_core.specs.Answers.{Answers, hold, nothing, charged, counted, allows, charges, counts, denies, draws, holds, redacts, refuses}
+use Rattle.engine_core.specs.Answers.{IsEntryAnswer, hold, nothing, charged, counted, allows, charges, counts, denies, draws, holds, redacts, refuses}
 use Rattle.engine_core.specs.Answers.{is_clear, is_over, is_within, was_charged, was_counted}
-use Rattle.engine_core.specs.Chains.{Changes, Entry, IsAgainst, Refusal, attaches, changed, detaches_none, names_of, new_entry, upgrades_none}
+use Rattle.engine_core.specs.Chains.{HasChanged, Entry, IsReasonToReject, Refusal, attaches, changed, detaches_none, names_of, new_entry, upgrades_none}
 use Rattle.engine_core.specs.Chains.{is_taken, is_past, is_full, is_other}
 use Rattle.engine_core.specs.declared.op.Op.TheVariants.{Attach, Detach}
 use Rattle.engine_core.specs.declared.policy.Policy.{Policy}
 use Rattle.engine_core.specs.declared.policy.Policy.TheVariants.{Access, Count, Rate, Redact}
-use Rattle.call_history.specs.Behind.{Behind, has_failed, level, moment, standing, taken}
-use Rattle.call_history.specs.Legal.{History, IsLegalBehind, IsPrefix}
-use Rattle.call_history.specs.Places.{ArePlaces, IsHead, IsHeld, IsSettled, NeverRise}
-use Rattle.call_history.specs.Rules.{EndsWithLink, Gives, IsLinkRefusal, IsSentNext, Lets, May, MayTake, NotesWhatIsDue, RefusesDrawn, RefusesMalformed}
-use Rattle.call_history.specs.Rules.{KeepsChain, Under, payload}
+use Rattle.call_history.specs.Trace.{Trace, has_failed, level_in_trace, timestamp, pending_calls, taken}
+use Rattle.call_history.specs.Legal.{History, IsLegalTrace, IsLegalPrefix}
+use Rattle.call_history.specs.Positions.{AreLegalPositions, IsHead, IsHeld, IsSettled, AreNonIncreasing}
+use Rattle.call_history.specs.Rules.{IsEndedWithLink, IsAnswerInTrace, IsLinkRefusal, IsSentNext, IsAllowedInTrace, CanFollow, MayTake, IsNotedAsDue, IsRefusedIfPastCap, IsMalformedRefusedAtOnce}
+use Rattle.call_history.specs.Rules.{IsChainPreserved, JudgeContext, payload}
 use Rattle.call_history.specs.declared.happening.Cause.TheVariants as cause
-use Rattle.call_history.specs.declared.happening.Happened.{Happened}
+use Rattle.call_history.specs.declared.happening.ConnectionEvent.{ConnectionEvent}
 use Rattle.call_history.specs.declared.happening.Happening.{Happening}
 use Rattle.call_history.specs.declared.happening.Happening.TheVariants.{Took, Op, Moment, Charged, Counted, Redacted, Sent, Refused}
-use Rattle.call_history.specs.declared.happening.Taken.{Taken}
+use Rattle.call_history.specs.declared.happening.AcceptedCall.{AcceptedCall}
 use Rattle.call_history.specs.declared.happening.TookCopy.TheVariants.{Copy}
 use Rattle.audit_text.specs.Lines.{audit, stands_line}
 
@@ -68,22 +68,22 @@ one_field = table_of (field_a ∷ [])
 abbrev two_fields : Table
 two_fields = table_of (field_a ∷ field_b ∷ [])
 
-abbrev under : Under
+abbrev under : JudgeContext
 under = record { conn = 1; table = one_field; limit = 1024 }
 
-abbrev under_two : Under
+abbrev under_two : JudgeContext
 under_two = record { conn = 1; table = two_fields; limit = 1024 }
 
 abbrev with_7 : Node
 with_7 = field 1 (one (number 7)) no_fields
 
-abbrev seven : ℕ → Taken
+abbrev seven : ℕ → AcceptedCall
 seven seq = record { seq = seq; method = 0; number = 0; addr = 2; after = 1; count = 1; copy = Copy with_7 }
 
 abbrev with_7_and_9 : Node
 with_7_and_9 = field 1 (one (number 7)) (field 2 (one (number 9)) no_fields)
 
-abbrev seven_nine : Taken
+abbrev seven_nine : AcceptedCall
 seven_nine = record { seq = 1; method = 0; number = 0; addr = 2; after = 2; count = 2; copy = Copy with_7_and_9 }
 
 abbrev form_of : ℕ → Call
@@ -107,11 +107,11 @@ normal-two = record {
   depth = omega arith;
 }
 
-abbrev on_one : Happening → Happened
+abbrev on_one : Happening → ConnectionEvent
 on_one what = record { conn = 1; what = what }
 
 -- the events of connection 1, in order
-abbrev history_of : Behind → History
+abbrev history_of : Trace → History
 history_of past = map on_one (reverse past)
 
 long-7 : (seq : ℕ) → 18 ≡ HEADER_LEN + length (payload one_field (form_of seq))
@@ -120,11 +120,11 @@ long-7 seq = refl
 
 -- ---- events on a link that hasn't failed
 
-stands_open : (past : Behind) (next : Happening) → has_failed past ≡ false → IsLinkRefusal past next → EndsWithLink past next
+stands_open : (past : Trace) (next : Happening) → has_failed past ≡ false → IsLinkRefusal past next → IsEndedWithLink past next
 stands_open past next live refusal = (λ failed. absurd (let wrong : false ≡ true = sym live ∙ failed in cc), refusal)
 
-may-take : (u : Under) (past : Behind) (call : Taken) → has_failed past ≡ false → MayTake u past call
-    → RefusesMalformed past (Took call) → RefusesDrawn past (Took call) → May u past (Took call)
+may-take : (u : JudgeContext) (past : Trace) (call : AcceptedCall) → has_failed past ≡ false → MayTake u past call
+    → IsMalformedRefusedAtOnce past (Took call) → IsRefusedIfPastCap past (Took call) → CanFollow u past (Took call)
 may-take u past call live takes malformed over = record {
   numbered = takes;
   malformed = malformed;
@@ -136,11 +136,11 @@ may-take u past call live takes malformed over = record {
   link_end = stands_open past (Took call) live tt;
 }
 
-takes-7 : (past : Behind) (seq : ℕ) → seq ≡ length (taken past) + 1 → length (standing past) < 64 → MayTake under past (seven seq)
+takes-7 : (past : Trace) (seq : ℕ) → seq ≡ length (taken past) + 1 → length (pending_calls past) < 64 → MayTake under past (seven seq)
 takes-7 past seq next few = record { number = next; few = few; loads = omega arith; copy = (omega arith, normal-7) }
 
-may-charge : (past : Behind) (seq left : ℕ) (name : List ℕ) → has_failed past ≡ false → NotesWhatIsDue under past (Charged seq name left)
-    → RefusesMalformed past (Charged seq name left) → RefusesDrawn past (Charged seq name left) → May under past (Charged seq name left)
+may-charge : (past : Trace) (seq left : ℕ) (name : List ℕ) → has_failed past ≡ false → IsNotedAsDue under past (Charged seq name left)
+    → IsMalformedRefusedAtOnce past (Charged seq name left) → IsRefusedIfPastCap past (Charged seq name left) → CanFollow under past (Charged seq name left)
 may-charge past seq left name live due malformed over = record {
   numbered = tt;
   malformed = malformed;
@@ -152,8 +152,8 @@ may-charge past seq left name live due malformed over = record {
   link_end = stands_open past (Charged seq name left) live tt;
 }
 
-may-send : (past : Behind) (seq : ℕ) → has_failed past ≡ false → IsSentNext under past seq 18
-    → RefusesMalformed past (Sent seq 18) → RefusesDrawn past (Sent seq 18) → May under past (Sent seq 18)
+may-send : (past : Trace) (seq : ℕ) → has_failed past ≡ false → IsSentNext under past seq 18
+    → IsMalformedRefusedAtOnce past (Sent seq 18) → IsRefusedIfPastCap past (Sent seq 18) → CanFollow under past (Sent seq 18)
 may-send past seq live sent malformed over = record {
   numbered = tt;
   malformed = malformed;
@@ -165,8 +165,8 @@ may-send past seq live sent malformed over = record {
   link_end = stands_open past (Sent seq 18) live tt;
 }
 
-may-pass : (past : Behind) (ms : ℕ) → has_failed past ≡ false → moment past < ms
-    → RefusesMalformed past (Moment ms) → RefusesDrawn past (Moment ms) → May under past (Moment ms)
+may-pass : (past : Trace) (ms : ℕ) → has_failed past ≡ false → timestamp past < ms
+    → IsMalformedRefusedAtOnce past (Moment ms) → IsRefusedIfPastCap past (Moment ms) → CanFollow under past (Moment ms)
 may-pass past ms live later malformed over = record {
   numbered = tt;
   malformed = malformed;
@@ -178,9 +178,9 @@ may-pass past ms live later malformed over = record {
   link_end = stands_open past (Moment ms) live tt;
 }
 
-may-attach : (u : Under) (past : Behind) (at : ℕ) (name : List ℕ) (policy : Policy) → has_failed past ≡ false
-    → KeepsChain past (Op (Attach at name name policy)) → RefusesMalformed past (Op (Attach at name name policy))
-    → RefusesDrawn past (Op (Attach at name name policy)) → May u past (Op (Attach at name name policy))
+may-attach : (u : JudgeContext) (past : Trace) (at : ℕ) (name : List ℕ) (policy : Policy) → has_failed past ≡ false
+    → IsChainPreserved past (Op (Attach at name name policy)) → IsMalformedRefusedAtOnce past (Op (Attach at name name policy))
+    → IsRefusedIfPastCap past (Op (Attach at name name policy)) → CanFollow u past (Op (Attach at name name policy))
 may-attach u past at name policy live keeps malformed over = record {
   numbered = tt;
   malformed = malformed;
@@ -202,7 +202,7 @@ in_one name other has = All-contains (λ z. name ≡ z) (name ∷ []) other (All
 
 free-attach : (entries : List Entry) (at : ℕ) (name label : List ℕ) (policy : Policy) (refusal : Refusal)
     → (Contains (names_of entries) name → ⊥) → (length entries < at → ⊥) → length entries < 8
-    → IsAgainst entries (Attach at name label policy) refusal → ⊥
+    → IsReasonToReject entries (Attach at name label policy) refusal → ⊥
 free-attach entries at name label policy refusal none within few (detaches_none n is not r) = cc
 free-attach entries at name label policy refusal none within few (upgrades_none n l p is not r) = cc
 free-attach entries at name label policy refusal none within few (is_taken a n l p is some r) = let names : n ≡ name = cc in none (rw (← names) some)
@@ -211,10 +211,10 @@ free-attach entries at name label policy refusal none within few (is_full a n l 
 free-attach entries at name label policy refusal none within few (is_other n l p e is there named differs r) = cc
 
 attached-first : (name : List ℕ) (policy : Policy)
-    → Changes (record { entries = []; attached = 0 }) (Attach 0 name name policy) (changed (Attach 0 name name policy) (record { entries = []; attached = 0 }))
+    → HasChanged (record { entries = []; attached = 0 }) (Attach 0 name name policy) (changed (Attach 0 name name policy) (record { entries = []; attached = 0 }))
 attached-first name policy = record {
   free = λ refusal. free-attach [] 0 name name policy refusal (in_nothing name) (λ less. omega (arith, less)) (omega arith);
-  makes = attaches 0 name name policy [] [] refl refl refl refl;
+  effect = attaches 0 name name policy [] [] refl refl refl refl;
 }
 
 -- ---- positions that never rise
@@ -228,7 +228,7 @@ low top [] j q falls at = absurd cc
 low top (p ∷ positions) zero q falls at = let same : p ≡ q = cc in omega (arith, same, falls.0)
 low top (p ∷ positions) (suc j) q falls at = omega (arith, low p positions j q falls.1 at, falls.0)
 
-never-rise : (top : ℕ) (positions : List ℕ) → Falls top positions → NeverRise positions
+never-rise : (top : ℕ) (positions : List ℕ) → Falls top positions → AreNonIncreasing positions
 never-rise top [] falls i j p q less at_i at_j = absurd cc
 never-rise top (x ∷ positions) falls zero zero p q less at_i at_j = absurd (omega (arith, less))
 never-rise top (x ∷ positions) falls zero (suc j) p q less at_i at_j =
@@ -250,86 +250,86 @@ holding = Rate two_at_once
 abbrev rate_entry : Entry
 rate_entry = new_entry rl 1 holding
 
-abbrev attached_rate : Behind
+abbrev attached_rate : Trace
 attached_rate = Op (Attach 0 rl rl holding) ∷ []
 
-abbrev three_taken : Behind
+abbrev three_taken : Trace
 three_taken = Took (seven 3) ∷ Took (seven 2) ∷ Took (seven 1) ∷ attached_rate
 
-abbrev charged_first : Behind
+abbrev charged_first : Trace
 charged_first = Charged 1 rl 1000 ∷ three_taken
 
-abbrev charged_second : Behind
+abbrev charged_second : Trace
 charged_second = Charged 2 rl 0 ∷ charged_first
 
-abbrev sent_first : Behind
+abbrev sent_first : Trace
 sent_first = Sent 1 18 ∷ charged_second
 
-abbrev sent_second : Behind
+abbrev sent_second : Trace
 sent_second = Sent 2 18 ∷ sent_first
 
 -- a millisecond before the level reaches the cost
-abbrev held : Behind
+abbrev held : Trace
 held = Moment 999 ∷ sent_second
 
-abbrev filled : Behind
+abbrev filled : Trace
 filled = Moment 1000 ∷ sent_second
 
-abbrev charged_third : Behind
+abbrev charged_third : Trace
 charged_third = Charged 3 rl 0 ∷ filled
 
-abbrev all_sent : Behind
+abbrev all_sent : Trace
 all_sent = Sent 3 18 ∷ charged_third
 
-level-first : level rl three_taken ≡ 2000
+level-first : level_in_trace rl three_taken ≡ 2000
 level-first = refl
 
-level-second : level rl charged_first ≡ 1000
+level-second : level_in_trace rl charged_first ≡ 1000
 level-second = refl
 
-level-held : level rl held ≡ 999
+level-held : level_in_trace rl held ≡ 999
 level-held = refl
 
-level-filled : level rl filled ≡ 1000
+level-filled : level_in_trace rl filled ≡ 1000
 level-filled = refl
 
-moment-sent : moment sent_second ≡ 0
+moment-sent : timestamp sent_second ≡ 0
 moment-sent = refl
 
 was-charged : charged ≡ nothing → ⊥
 was-charged e = cc
 
-lets-first : Lets under charged_second 1 rate_entry
+lets-first : IsAllowedInTrace under charged_second 1 rate_entry
 lets-first = was_charged two_at_once refl was-charged refl
 
-lets-second : Lets under charged_second 2 rate_entry
+lets-second : IsAllowedInTrace under charged_second 2 rate_entry
 lets-second = was_charged two_at_once refl was-charged refl
 
-due-first : NotesWhatIsDue under three_taken (Charged 1 rl 1000)
+due-first : IsNotedAsDue under three_taken (Charged 1 rl 1000)
 due-first = record {
   meets = record {
     entry = rate_entry;
-    at = record { front = []; back = []; entries = refl; named = refl; call_stands = (0, omega arith, refl); let_pass = All-nil _ };
+    at = record { front = []; back = []; entries = refl; named = refl; is_pending = (0, omega arith, refl); allowed = All-nil _ };
     gives = charges two_at_once refl refl (omega (arith, level-first)) refl;
   };
   ascends = All-nil _;
 }
 
-due-second : NotesWhatIsDue under charged_first (Charged 2 rl 0)
+due-second : IsNotedAsDue under charged_first (Charged 2 rl 0)
 due-second = record {
   meets = record {
     entry = rate_entry;
-    at = record { front = []; back = []; entries = refl; named = refl; call_stands = (1, omega arith, refl); let_pass = All-nil _ };
+    at = record { front = []; back = []; entries = refl; named = refl; is_pending = (1, omega arith, refl); allowed = All-nil _ };
     gives = charges two_at_once refl refl (omega (arith, level-second)) refl;
   };
   ascends = All-cons (λ other. other < 2) 1 [] (omega arith) (All-nil _);
 }
 
-due-third : NotesWhatIsDue under filled (Charged 3 rl 0)
+due-third : IsNotedAsDue under filled (Charged 3 rl 0)
 due-third = record {
   meets = record {
     entry = rate_entry;
-    at = record { front = []; back = []; entries = refl; named = refl; call_stands = (0, omega arith, refl); let_pass = All-nil _ };
+    at = record { front = []; back = []; entries = refl; named = refl; is_pending = (0, omega arith, refl); allowed = All-nil _ };
     gives = charges two_at_once refl refl (omega (arith, level-filled)) refl;
   };
   ascends = All-cons (λ other. other < 3) 2 (1 ∷ []) (omega arith) (All-cons (λ other. other < 3) 1 [] (omega arith) (All-nil _));
@@ -341,7 +341,7 @@ sends-first = record {
   others = seven 2 ∷ seven 3 ∷ [];
   first = refl;
   number = refl;
-  let_pass = All-cons (Lets under charged_second 1) rate_entry [] lets-first (All-nil _);
+  allowed = All-cons (IsAllowedInTrace under charged_second 1) rate_entry [] lets-first (All-nil _);
   sent = form_of 1;
   is_form = refl;
   long = long-7 1;
@@ -353,7 +353,7 @@ sends-second = record {
   others = seven 3 ∷ [];
   first = refl;
   number = refl;
-  let_pass = All-cons (Lets under sent_first 2) rate_entry [] (was_charged two_at_once refl was-charged refl) (All-nil _);
+  allowed = All-cons (IsAllowedInTrace under sent_first 2) rate_entry [] (was_charged two_at_once refl was-charged refl) (All-nil _);
   sent = form_of 2;
   is_form = refl;
   long = long-7 2;
@@ -365,13 +365,13 @@ sends-third = record {
   others = [];
   first = refl;
   number = refl;
-  let_pass = All-cons (Lets under charged_third 3) rate_entry [] (was_charged two_at_once refl was-charged refl) (All-nil _);
+  allowed = All-cons (IsAllowedInTrace under charged_third 3) rate_entry [] (was_charged two_at_once refl was-charged refl) (All-nil _);
   sent = form_of 3;
   is_form = refl;
   long = long-7 3;
 }
 
-prefix-taken : IsPrefix under three_taken
+prefix-taken : IsLegalPrefix under three_taken
 prefix-taken = (
   (
     (
@@ -384,7 +384,7 @@ prefix-taken = (
       (takes-7 (Took (seven 2) ∷ Took (seven 1) ∷ attached_rate) 3 refl (omega arith)) tt tt,
 )
 
-prefix-sent : IsPrefix under sent_second
+prefix-sent : IsLegalPrefix under sent_second
 prefix-sent = (
   (
     ((prefix-taken, may-charge three_taken 1 1000 rl refl due-first tt tt), may-charge charged_first 2 0 rl refl due-second tt tt),
@@ -394,14 +394,14 @@ prefix-sent = (
 )
 
 -- two calls are sent, and the third is pending
-legal-held : IsLegalBehind under held
+legal-held : IsLegalTrace under held
 legal-held = record {
   prefix = (prefix-sent, may-pass sent_second 999 refl (omega (arith, moment-sent)) tt tt);
   closed = record { malformed = λ z. z; quota = λ z. z; link = λ link. absurd (let wrong : false ≡ true = link.failed in cc) };
 }
 
 -- a millisecond later the third is charged and sent
-legal-all_sent : IsLegalBehind under all_sent
+legal-all_sent : IsLegalTrace under all_sent
 legal-all_sent = record {
   prefix = (
     (
@@ -414,22 +414,22 @@ legal-all_sent = record {
 }
 
 -- two calls were charged and are past the rate, and the third is before it
-places-charged : ArePlaces under charged_second (1 ∷ 1 ∷ 0 ∷ [])
+places-charged : AreLegalPositions under charged_second (1 ∷ 1 ∷ 0 ∷ [])
 places-charged = record {
   each = (
-    record { within = omega arith; let_pass = All-cons (Lets under charged_second 1) rate_entry [] lets-first (All-nil _) },
+    record { within = omega arith; allowed = All-cons (IsAllowedInTrace under charged_second 1) rate_entry [] lets-first (All-nil _) },
     (
-      record { within = omega arith; let_pass = All-cons (Lets under charged_second 2) rate_entry [] lets-second (All-nil _) },
-      (record { within = omega arith; let_pass = All-nil _ }, tt),
+      record { within = omega arith; allowed = All-cons (IsAllowedInTrace under charged_second 2) rate_entry [] lets-second (All-nil _) },
+      (record { within = omega arith; allowed = All-nil _ }, tt),
     ),
   );
   never_rise = never-rise 1 (1 ∷ 1 ∷ 0 ∷ []) (omega arith, (omega arith, (omega arith, tt)));
 }
 
 -- the third call is before the rate, which holds it
-places-held : ArePlaces under held (0 ∷ [])
+places-held : AreLegalPositions under held (0 ∷ [])
 places-held = record {
-  each = (record { within = omega arith; let_pass = All-nil _ }, tt);
+  each = (record { within = omega arith; allowed = All-nil _ }, tt);
   never_rise = never-rise 0 (0 ∷ []) (omega arith, tt);
 }
 
@@ -446,14 +446,14 @@ settled-held = record {
   held = λ call position head. (999, 1000, is_held call position head);
 }
   where
-    is_held : (call : Taken) (position : ℕ) → IsHead held (0 ∷ []) call position → IsHeld under held call position 999 1000
+    is_held : (call : AcceptedCall) (position : ℕ) → IsHead held (0 ∷ []) call position → IsHeld under held call position 999 1000
     is_held call position head =
         let calls : seven 3 ≡ call = in_only (seven 3) call head.place head.is_call in
         let positions : 0 ≡ position = in_only 0 position head.place head.at in
         subst (λ c. IsHeld under held c position 999 1000) calls (subst (λ p. IsHeld under held (seven 3) p 999 1000) positions third-held)
 
 -- if the level reaches the cost, the rate holds no call
-no-hold : (l cost : ℕ) → Answers holding 1000 1000 (form_of 3) nothing (hold l cost) → ⊥
+no-hold : (l cost : ℕ) → IsEntryAnswer holding 1000 1000 (form_of 3) nothing (hold l cost) → ⊥
 no-hold l cost (allows p is lets e) = cc
 no-hold l cost (denies p is refused e) = cc
 no-hold l cost (was_charged r is noted e) = cc
@@ -481,11 +481,11 @@ unsettled-filled settled = no-hold answer.0 answer.1 gives
     entries : rate_entry ≡ answer.2.entry
     entries = let at = answer.2.at in cc
 
-    gives : Gives under filled rate_entry 3 (hold answer.0 answer.1)
-    gives = subst (λ e. Gives under filled e 3 (hold answer.0 answer.1)) (sym entries) answer.2.holds
+    gives : IsAnswerInTrace under filled rate_entry 3 (hold answer.0 answer.1)
+    gives = subst (λ e. IsAnswerInTrace under filled e 3 (hold answer.0 answer.1)) (sym entries) answer.2.holds
 
 -- after all calls were sent, none is pending, and nothing can advance
-places-all_sent : ArePlaces under all_sent []
+places-all_sent : AreLegalPositions under all_sent []
 places-all_sent = record { each = tt; never_rise = never-rise 0 [] tt }
 
 settled-all_sent : IsSettled under all_sent []
@@ -499,7 +499,7 @@ one_at_once = Rate (record { amount = 1; per = 1000; burst = 1; hold = true })
 abbrev attach_r1 : Happening
 attach_r1 = Op (Attach 0 rl (codes "r1") one_at_once)
 
-abbrev attached_again : Behind
+abbrev attached_again : Trace
 attached_again = Sent 2 18 ∷ Charged 2 rl 0 ∷ attach_r1 ∷ Op (Detach rl) ∷ Sent 1 18 ∷ Charged 1 rl 0
     ∷ Took (seven 3) ∷ Took (seven 2) ∷ Took (seven 1) ∷ attach_r1 ∷ []
 
@@ -524,18 +524,18 @@ d = codes "d"
 abbrev closing : Policy
 closing = Access (record { rules = []; allow = false })
 
-abbrev then_closed : Behind
+abbrev then_closed : Trace
 then_closed = Op (Attach 1 d d closing) ∷ Counted 1 c ∷ Took (seven 1) ∷ Op (Attach 0 c c Count) ∷ []
 
 was-noted : counted ≡ nothing → ⊥
 was-noted e = cc
 
-places-counted : ArePlaces under then_closed (1 ∷ [])
+places-counted : AreLegalPositions under then_closed (1 ∷ [])
 places-counted = record {
   each = (
     record {
       within = omega arith;
-      let_pass = All-cons (Lets under then_closed 1) (new_entry c 1 Count) [] (was_counted refl was-noted refl) (All-nil _);
+      allowed = All-cons (IsAllowedInTrace under then_closed 1) (new_entry c 1 Count) [] (was_counted refl was-noted refl) (All-nil _);
     },
     tt,
   );
@@ -543,7 +543,7 @@ places-counted = record {
 }
 
 -- a drain has the policy judge it
-abbrev closed_off : Behind
+abbrev closed_off : Trace
 closed_off = Refused 1 (cause.Access d 1 (codes "default")) ∷ then_closed
 
 audit-closed_off : audit one_field (history_of closed_off) ≡ codes "op 1 attach 0 c c\ntook 1 1 0 0 2 1 1 copy 0807\n"
@@ -585,37 +585,37 @@ acl_entry = new_entry acl 1 (Access only_9)
 abbrev cut_entry : Entry
 cut_entry = new_entry cut 2 (Redact clears)
 
-abbrev attached_acl : Behind
+abbrev attached_acl : Trace
 attached_acl = Op (Attach 0 acl acl (Access only_9)) ∷ []
 
-abbrev attached_both : Behind
+abbrev attached_both : Trace
 attached_both = Op (Attach 1 cut cut (Redact clears)) ∷ attached_acl
 
-abbrev one_taken : Behind
+abbrev one_taken : Trace
 one_taken = Took seven_nine ∷ attached_both
 
-abbrev cleared : Behind
+abbrev cleared : Trace
 cleared = Redacted 1 cut 1 ∷ one_taken
 
 abbrev by_default : Happening
 by_default = Refused 1 (cause.Access acl 1 (codes "default"))
 
-abbrev denied : Behind
+abbrev denied : Trace
 denied = by_default ∷ cleared
 
 acl-is-no-cut : Contains (acl ∷ []) cut → ⊥
 acl-is-no-cut has = let same : 97 ≡ 99 = ap (λ (l : List ℕ). get_or l 0 0) (in_one acl cut has) in omega (arith, same)
 
-attached-second : KeepsChain attached_acl (Op (Attach 1 cut cut (Redact clears)))
+attached-second : IsChainPreserved attached_acl (Op (Attach 1 cut cut (Redact clears)))
 attached-second = record {
   free = λ refusal. free-attach (acl_entry ∷ []) 1 cut cut (Redact clears) refusal acl-is-no-cut (λ less. omega (arith, less)) (omega arith);
-  makes = attaches 1 cut cut (Redact clears) (acl_entry ∷ []) [] refl refl refl refl;
+  effect = attaches 1 cut cut (Redact clears) (acl_entry ∷ []) [] refl refl refl refl;
 }
 
-lets-whole : Lets under_two one_taken 1 acl_entry
+lets-whole : IsAllowedInTrace under_two one_taken 1 acl_entry
 lets-whole = allows only_9 refl refl refl
 
-due-cleared : NotesWhatIsDue under_two one_taken (Redacted 1 cut 1)
+due-cleared : IsNotedAsDue under_two one_taken (Redacted 1 cut 1)
 due-cleared = record {
   entry = cut_entry;
   at = record {
@@ -623,14 +623,14 @@ due-cleared = record {
     back = [];
     entries = refl;
     named = refl;
-    call_stands = (0, omega arith, refl);
-    let_pass = All-cons (Lets under_two one_taken 1) acl_entry [] lets-whole (All-nil _);
+    is_pending = (0, omega arith, refl);
+    allowed = All-cons (IsAllowedInTrace under_two one_taken 1) acl_entry [] lets-whole (All-nil _);
   };
   gives = redacts clears refl (λ same. cc) refl;
   present = refl;
 }
 
-may-clear : May under_two one_taken (Redacted 1 cut 1)
+may-clear : CanFollow under_two one_taken (Redacted 1 cut 1)
 may-clear = record {
   numbered = tt;
   malformed = tt;
@@ -642,7 +642,7 @@ may-clear = record {
   link_end = stands_open one_taken (Redacted 1 cut 1) refl tt;
 }
 
-may-deny : May under_two cleared by_default
+may-deny : CanFollow under_two cleared by_default
 may-deny = record {
   numbered = tt;
   malformed = tt;
@@ -652,7 +652,7 @@ may-deny = record {
   in_order = tt;
   answered = record {
     entry = acl_entry;
-    at = record { front = []; back = cut_entry ∷ []; entries = refl; named = refl; call_stands = (0, omega arith, refl); let_pass = All-nil _ };
+    at = record { front = []; back = cut_entry ∷ []; entries = refl; named = refl; is_pending = (0, omega arith, refl); allowed = All-nil _ };
     present = refl;
     policy = only_9;
     is_policy = refl;
@@ -663,7 +663,7 @@ may-deny = record {
   link_end = stands_open cleared by_default refl tt;
 }
 
-legal-denied : IsLegalBehind under_two denied
+legal-denied : IsLegalTrace under_two denied
 legal-denied = record {
   prefix = (
     (
@@ -683,15 +683,15 @@ legal-denied = record {
 }
 
 -- the call was before the redaction, and starts again after it
-places-whole : ArePlaces under_two one_taken (1 ∷ [])
+places-whole : AreLegalPositions under_two one_taken (1 ∷ [])
 places-whole = record {
-  each = (record { within = omega arith; let_pass = All-cons (Lets under_two one_taken 1) acl_entry [] lets-whole (All-nil _) }, tt);
+  each = (record { within = omega arith; allowed = All-cons (IsAllowedInTrace under_two one_taken 1) acl_entry [] lets-whole (All-nil _) }, tt);
   never_rise = never-rise 1 (1 ∷ []) (omega arith, tt);
 }
 
-places-cleared : ArePlaces under_two cleared (0 ∷ [])
+places-cleared : AreLegalPositions under_two cleared (0 ∷ [])
 places-cleared = record {
-  each = (record { within = omega arith; let_pass = All-nil _ }, tt);
+  each = (record { within = omega arith; allowed = All-nil _ }, tt);
   never_rise = never-rise 0 (0 ∷ []) (omega arith, tt);
 }
 

@@ -2,8 +2,8 @@
 use Rattle.std.specs.Prelude.{◌≡◌, ℕ, ◌<◌, ◌^◌, ◌+◌, All, length}
 use Rattle.mrpc_table.specs.Valid.{IsValid}
 use Rattle.mrpc_table.specs.declared.table.Table.{Table}
-use Rattle.call_history.specs.Behind.{taken}
-use Rattle.conn_core.specs.Connections.{Connection, behind}
+use Rattle.call_history.specs.Trace.{taken}
+use Rattle.conn_core.specs.Connections.{Connection, conn_trace}
 
 -- the table is one of a service, the heap has 16 words, and there is a tenant
 pub record IsScene (T : Table) (size known : ℕ) : Type 0 where
@@ -12,7 +12,7 @@ pub record IsScene (T : Table) (size known : ℕ) : Type 0 where
   pub tenant : 0 < known
 
 -- a connection with room in its numbers for another call, another attachment and another version of each entry
-pub record IsYoung (c : Connection) : Type 0 where
-  pub calls : length (taken (behind c)) + 1 < 2 ^ 32
+pub record HasCounterRoom (c : Connection) : Type 0 where
+  pub calls : length (taken (conn_trace c)) + 1 < 2 ^ 32
   pub attachments : c.chain.attached + 1 < 2 ^ 32
   pub versions : All (λ e. e.entry.version + 1 < 2 ^ 32) c.chain.engines

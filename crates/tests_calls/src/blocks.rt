@@ -43,7 +43,7 @@ fn largest_after(rt: &impl Abort, alloc: Global, order: u32) -> u64 {
 }
 
 #[test]
-fn blocks_are_taken_back_in_every_order(rt: HostRuntime) {
+fn blocks_are_reclaimed_in_every_order(rt: HostRuntime) {
     for order in 0..ORDERS {
         assert!(rt; largest_after(&rt, rt.alloc(), order) == 16);
     }

@@ -32,7 +32,7 @@ fn chain_of_one(rt: &impl Abort, alloc: Global) -> Chain {
     chain
 }
 
-fn assert_stands(rt: &impl Abort, chain: &Chain) {
+fn assert_pending(rt: &impl Abort, chain: &Chain) {
     assert!(rt; chain.calls().len() == 1);
     assert!(rt; chain.engines() == 1);
     assert!(rt; chain.cut(0) == 1);
@@ -42,8 +42,8 @@ fn assert_stands(rt: &impl Abort, chain: &Chain) {
 }
 
 #[test]
-fn a_call_stands_at_the_policy_that_is_attached(rt: HostRuntime) {
+fn a_call_is_pending_at_the_policy_that_is_attached(rt: HostRuntime) {
     let chain = chain_of_one(&rt, rt.alloc());
-    assert_stands(&rt, &chain);
+    assert_pending(&rt, &chain);
     discard(chain);
 }

@@ -4,14 +4,14 @@ ghost use Rattle.std.specs.Prelude.{◌≡◌, ◌<◌, All};
 ghost use Rattle.std.specs.Bool.{OnTrue};
 ghost use Rattle.mrpc_table.specs.Valid.{IsValid};
 ghost use Rattle.engine_core.specs.Policies.{IsPolicy, KnowsTenantOf};
-ghost use Rattle.conn_core.specs.Steps.{IfPolicy};
-ghost use Rattle.tests_calls.specs.Connection.{IsYoung};
+ghost use Rattle.conn_core.specs.ConnectionSteps.{IfPolicy};
+ghost use Rattle.tests_calls.specs.Connection.{HasCounterRoom};
 
 use crate::given::bytes_of;
-use crate::kinds::{Kind, Step, policy_of};
-use crate::told::{Told, told_at};
-use crate::wanting::{NoFrames, NoLoads};
-use call_history::{Record, Refusal};
+use crate::kinds::{SceneStep, TestPolicy, policy_of};
+use crate::observed::{Observed, observed_at};
+use crate::out_of_memory::{NoFrames, NoLoads};
+use call_history::{HistoryRecord, RecordedCause};
 use chain_upgrade::{Chain, ChainFault};
 use conn_core::{AcceptFault, Ask, Conn, Drained};
 use engine_core::{MAX_CALLS, Op, Policy};
@@ -86,10 +86,10 @@ impl<'t> Model for Scene<'t> {
 
 // A history of fewer than 1000 records leaves room in all numbers.
 #[tactic(auto, using(crate::proofs::Young::young))]
-fn assert_young(rt: &impl Abort, conn: &Conn)
-    ensures { IsYoung conn.now }
+fn assert_counter_room(rt: &impl Abort, conn: &Conn)
+    ensures { HasCounterRoom conn.now }
 {
-    conn.numbers_are_few();
+    conn.counters_are_bounded();
     assert!(rt; conn.history().len() < 1000);
 }
 
@@ -170,7 +170,7 @@ impl<'t> Scene<'t> {
 
     // Submits the message at place 2 as a request of the first method; returns why it is rejected.
     fn submit(&mut self, rt: &impl Abort) -> Option<AcceptFault> {
-        assert_young(rt, &self.conn);
+        assert_counter_room(rt, &self.conn);
         let ask = self.ask();
         self.conn.accept(self.alloc, &mut self.words, ask).err()
     }
@@ -187,8 +187,8 @@ impl<'t> Scene<'t> {
     }
 
     // The message is rejected, because the heap's reader is out of memory.
-    pub(crate) fn finds_no_memory(&mut self, rt: &impl Abort) {
-        assert_young(rt, &self.conn);
+    pub(crate) fn runs_out_of_memory(&mut self, rt: &impl Abort) {
+        assert_counter_room(rt, &self.conn);
         let ask = self.ask();
         let heap = PlainWords::open(self.alloc, 16).expect(rt, "memory");
         let fault = self
@@ -204,12 +204,18 @@ impl<'t> Scene<'t> {
     fn operate(&mut self, rt: &impl Abort, step: Op) -> Stepped
         requires { IfPolicy step IsPolicy }
     {
-        assert_young(rt, &self.conn);
+        assert_counter_room(rt, &self.conn);
         stepped_by(&self.conn.operate(self.alloc, step))
     }
 
     // The outcome of attaching a policy of a kind.
-    pub(crate) fn attach(&mut self, rt: &impl Abort, at: u32, name: &[u8], kind: Kind) -> Stepped {
+    pub(crate) fn attach(
+        &mut self,
+        rt: &impl Abort,
+        at: u32,
+        name: &[u8],
+        kind: TestPolicy,
+    ) -> Stepped {
         let step = Op::Attach {
             at,
             name: bytes_of(rt, self.alloc, name),
@@ -226,7 +232,7 @@ impl<'t> Scene<'t> {
     }
 
     // The outcome of upgrading the entry with this name to a policy of a kind.
-    pub(crate) fn upgrade(&mut self, rt: &impl Abort, name: &[u8], kind: Kind) -> Stepped {
+    pub(crate) fn upgrade(&mut self, rt: &impl Abort, name: &[u8], kind: TestPolicy) -> Stepped {
         let step = Op::Upgrade {
             name: bytes_of(rt, self.alloc, name),
             label: bytes_of(rt, self.alloc, name),
@@ -270,39 +276,39 @@ impl<'t> Scene<'t> {
     // ---- steps
 
     // Records that a submission is rejected, because 64 calls are pending.
-    fn turn_away(&mut self, rt: &impl Abort) {
+    fn reject(&mut self, rt: &impl Abort) {
         assert!(rt; matches!(self.submit(rt), Some(AcceptFault::Standing)));
         assert!(rt; self.conn.chain().calls().len() == MAX_CALLS);
         let ask = self.ask();
-        self.conn.turn_away(ask).expect(rt, "memory");
+        self.conn.record_away(ask).expect(rt, "memory");
     }
 
     // Takes a step.
-    pub(crate) fn takes(&mut self, rt: &impl Abort, step: Step) {
+    pub(crate) fn takes(&mut self, rt: &impl Abort, step: SceneStep) {
         match step {
-            Step::Store(place, value) => self.store(rt, place, value),
-            Step::Accept(times) => {
+            SceneStep::Store(place, value) => self.store(rt, place, value),
+            SceneStep::Accept(times) => {
                 for _ in 0..times {
                     self.accepts(rt);
                 }
             }
-            Step::TurnAway => self.turn_away(rt),
-            Step::Attach(at, name, kind) => {
+            SceneStep::Reject => self.reject(rt),
+            SceneStep::Attach(at, name, kind) => {
                 assert!(rt; self.attach(rt, at, name, kind) == Stepped::Done);
             }
-            Step::Detach(name) => assert!(rt; self.detach(rt, name) == Stepped::Done),
-            Step::Upgrade(name, kind) => {
+            SceneStep::Detach(name) => assert!(rt; self.detach(rt, name) == Stepped::Done),
+            SceneStep::Upgrade(name, kind) => {
                 assert!(rt; self.upgrade(rt, name, kind) == Stepped::Done);
             }
-            Step::Clock(now) => self.conn.clock(now).expect(rt, "memory"),
-            Step::Turn(at, times) => {
+            SceneStep::Clock(now) => self.conn.clock(now).expect(rt, "memory"),
+            SceneStep::Turn(at, times) => {
                 for _ in 0..times {
                     self.turn(rt, at);
                 }
             }
-            Step::Drain => assert!(rt; self.drain(rt) == Drained::Done),
-            Step::Hold(number, level) => self.holds(rt, number, level),
-            Step::Hand(frame) => {
+            SceneStep::Drain => assert!(rt; self.drain(rt) == Drained::Done),
+            SceneStep::Hold(number, level) => self.holds(rt, number, level),
+            SceneStep::Hand(frame) => {
                 assert!(rt; self.frames() == 1);
                 self.hands(rt, 0, frame);
             }
@@ -310,20 +316,20 @@ impl<'t> Scene<'t> {
     }
 
     // The next record is this.
-    pub(crate) fn tells(&mut self, rt: &impl Abort, expected: Told) {
+    pub(crate) fn expects(&mut self, rt: &impl Abort, expected: Observed) {
         let history = self.conn.history();
         assert!(rt; self.told < history.len());
-        assert!(rt; told_at(history, self.told) == expected);
+        assert!(rt; observed_at(history, self.told) == expected);
         self.told += 1;
     }
 
     // Takes these steps. After all that was compared before, the history has these records, and no more.
-    pub(crate) fn does(&mut self, rt: &impl Abort, steps: &[Step], expected: &[Told]) {
+    pub(crate) fn does(&mut self, rt: &impl Abort, steps: &[SceneStep], expected: &[Observed]) {
         for step in steps {
             self.takes(rt, *step);
         }
         for told in expected {
-            self.tells(rt, *told);
+            self.expects(rt, *told);
         }
         assert!(rt; self.told == self.conn.history().len());
     }
@@ -349,23 +355,23 @@ impl<'t> Scene<'t> {
     }
 
     // The record at an index.
-    fn record(&self, rt: &impl Abort, place: usize) -> &Record {
+    fn record(&self, rt: &impl Abort, place: usize) -> &HistoryRecord {
         let history = self.conn.history();
         assert!(rt; place < history.len());
         history.at(place)
     }
 
     // The record at an index is that a call was sent.
-    pub(crate) fn tells_sent(&self, rt: &impl Abort, place: usize, number: u32) {
+    pub(crate) fn expects_sent(&self, rt: &impl Abort, place: usize, number: u32) {
         let record = self.record(rt, place);
-        assert!(rt; matches!(record, Record::Sent { seq, .. } if *seq == number));
+        assert!(rt; matches!(record, HistoryRecord::Sent { seq, .. } if *seq == number));
     }
 
     // The record at an index is that a call was refused, because the link failed.
-    pub(crate) fn tells_lost(&self, rt: &impl Abort, place: usize, number: u32) {
+    pub(crate) fn expects_lost(&self, rt: &impl Abort, place: usize, number: u32) {
         let record = self.record(rt, place);
         assert!(rt;
-            matches!(record, Record::Refused { seq, by: Refusal::Transport } if *seq == number)
+            matches!(record, HistoryRecord::Refused { seq, by: RecordedCause::Transport } if *seq == number)
         );
     }
 

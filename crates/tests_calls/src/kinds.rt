@@ -14,7 +14,7 @@ use std::process::Abort;
 
 // The policies that tests attach.
 #[derive(Clone, Copy)]
-pub(crate) enum Kind<'a> {
+pub(crate) enum TestPolicy<'a> {
     // Rules, and then a default.
     Access(&'a [&'a [u8]]),
     // One call a second, and this many at once, from 1 to 10; a call below its cost is held.
@@ -29,19 +29,19 @@ pub(crate) enum Kind<'a> {
 
 // The steps of a connection, and the checks between them.
 #[derive(Clone, Copy)]
-pub(crate) enum Step<'a> {
+pub(crate) enum SceneStep<'a> {
     // A value is stored at a place.
     Store(u64, u64),
     // The message at place 2 is accepted this many times.
     Accept(u32),
     // A submission is rejected, because 64 calls are pending.
-    TurnAway,
+    Reject,
     // A policy of a kind is attached at a position under a name.
-    Attach(u32, &'a [u8], Kind<'a>),
+    Attach(u32, &'a [u8], TestPolicy<'a>),
     // The policy with a name is detached.
     Detach(&'a [u8]),
     // The entry with a name is upgraded to a policy of a kind.
-    Upgrade(&'a [u8], Kind<'a>),
+    Upgrade(&'a [u8], TestPolicy<'a>),
     // The clock has a timestamp.
     Clock(u64),
     // The engine at a position takes this many turns.
@@ -75,23 +75,23 @@ fn rate_of(rt: &impl Abort, burst: u64) -> Policy
 }
 
 // The policy of a kind.
-pub(crate) fn policy_of(rt: &impl Abort, alloc: Global, table: &Table, kind: Kind) -> Policy
+pub(crate) fn policy_of(rt: &impl Abort, alloc: Global, table: &Table, kind: TestPolicy) -> Policy
     requires { IsValid table.now }
     ensures { IsPolicy result }
 {
     match kind {
-        Kind::Access(texts) => {
+        TestPolicy::Access(texts) => {
             let lines = lines_of(rt, alloc, texts);
             Policy::Access(read_access(alloc, &lines, table).expect(rt, "a policy"))
         }
-        Kind::Rate(burst) => rate_of(rt, burst),
-        Kind::Quota(cap) => Policy::Quota {
+        TestPolicy::Rate(burst) => rate_of(rt, burst),
+        TestPolicy::Quota(cap) => Policy::Quota {
             tenant: 0,
             per: 1000,
             cap,
         },
-        Kind::Count => Policy::Count,
-        Kind::Redact(texts) => {
+        TestPolicy::Count => Policy::Count,
+        TestPolicy::Redact(texts) => {
             let lines = lines_of(rt, alloc, texts);
             Policy::Redact(read_redact(alloc, &lines, table).expect(rt, "a policy"))
         }

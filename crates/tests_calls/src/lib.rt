@@ -21,13 +21,13 @@ mod kinds;
 #[cfg(test)]
 mod messages;
 #[cfg(test)]
+mod observed;
+#[cfg(test)]
+mod out_of_memory;
+#[cfg(test)]
 mod receiver;
 #[cfg(test)]
 mod receiving;
-#[cfg(test)]
-mod told;
-#[cfg(test)]
-mod wanting;
 
 // What dropping a value does is proved in each function that drops one. Through this function it is one call,
 // so values are moved into it.

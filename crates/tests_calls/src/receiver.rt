@@ -17,19 +17,19 @@ use table_text::read_table;
 
 // The outcome of a turn, without its tree.
 #[derive(Clone, Copy, PartialEq, Eq)]
-pub(crate) enum Told {
+pub(crate) enum Observed {
     Nothing,
     Arrived(u8, Block),
     Dropped(u32, DropCause),
     Waiting { need: u64, largest: u64 },
 }
 
-fn without_tree(arrival: &Arrival) -> Told {
+fn without_tree(arrival: &Arrival) -> Observed {
     match arrival {
-        Arrival::None => Told::Nothing,
-        Arrival::Arrived { kind, block, .. } => Told::Arrived(*kind, *block),
-        Arrival::Dropped { number, why, .. } => Told::Dropped(*number, *why),
-        Arrival::Waiting { need, largest } => Told::Waiting {
+        Arrival::None => Observed::Nothing,
+        Arrival::Arrived { kind, block, .. } => Observed::Arrived(*kind, *block),
+        Arrival::Dropped { number, why, .. } => Observed::Dropped(*number, *why),
+        Arrival::Waiting { need, largest } => Observed::Waiting {
             need: *need,
             largest: *largest,
         },
@@ -59,13 +59,13 @@ impl Drop for Scene {
 
 impl Model for Scene {
     ghost use Rattle.std.specs.Prelude.{ℕ};
-    ghost use Rattle.tests_calls.specs.Receiver.{Receives};
+    ghost use Rattle.tests_calls.specs.Receiver.{IsReceiving};
 
     ghost Value = { ℕ };
 
     ghost view = { λ s. s.calls };
 
-    ghost invariant = { λ s. Receives s.table s.heap s.inbound s.calls };
+    ghost invariant = { λ s. IsReceiving s.table s.heap s.inbound s.calls };
 }
 
 impl Scene {
@@ -97,7 +97,7 @@ impl Scene {
     }
 
     // The outcome of one turn.
-    fn turn(&mut self, policy: Option<&Access>) -> Result<Told, Memory> {
+    fn turn(&mut self, policy: Option<&Access>) -> Result<Observed, Memory> {
         if self.calls > 1000 || self.heap.made() > 1000 {
             return Err(Memory);
         }
@@ -106,18 +106,18 @@ impl Scene {
     }
 
     // One turn without a policy has this outcome.
-    pub(crate) fn tells(&mut self, rt: &impl Abort, expected: Told) {
+    pub(crate) fn expects(&mut self, rt: &impl Abort, expected: Observed) {
         let told = self.turn(None).expect(rt, "a turn");
         assert!(rt; told == expected);
     }
 
     // One turn under the policy of a line has this outcome.
-    pub(crate) fn tells_under(
+    pub(crate) fn expects_under(
         &mut self,
         rt: &impl Abort,
         alloc: Global,
         line: &[u8],
-        expected: Told,
+        expected: Observed,
     ) {
         let policy = self.policy_of(rt, alloc, line);
         let told = self.turn(Some(&policy)).expect(rt, "a turn");
@@ -148,8 +148,8 @@ impl Scene {
     }
 
     // The number of bytes that are in no whole frame.
-    pub(crate) fn rest(&self) -> u64 {
-        self.inbound.left_over()
+    pub(crate) fn unframed_bytes(&self) -> u64 {
+        self.inbound.partial_len()
     }
 
     // The policy of a line.

@@ -1,7 +1,7 @@
 //! Frames that become messages in a heap.
 
 use crate::given::{NUMBERS, SMALL};
-use crate::receiver::{Scene, Told};
+use crate::receiver::{Observed, Scene};
 use frame_transport::FeedFault;
 use receive_core::DropCause;
 use receive_heap::{Block, NotHeld};
@@ -51,17 +51,17 @@ fn a_frame_waits_for_a_hole(rt: HostRuntime) {
     let mut scene = Scene::open(&rt, rt.alloc(), SMALL, 4);
     assert!(rt; feed_bytes(&mut scene));
     assert!(rt; feed_bytes(&mut scene));
-    scene.tells(&rt, Told::Arrived(1, first_block(1, 2)));
-    let waiting = Told::Waiting {
+    scene.expects(&rt, Observed::Arrived(1, first_block(1, 2)));
+    let waiting = Observed::Waiting {
         need: 2,
         largest: 1,
     };
-    scene.tells(&rt, waiting);
-    scene.tells(&rt, waiting);
+    scene.expects(&rt, waiting);
+    scene.expects(&rt, waiting);
     assert!(rt; scene.reclaim(1).is_ok());
-    scene.tells(&rt, Told::Arrived(1, first_block(2, 2)));
+    scene.expects(&rt, Observed::Arrived(1, first_block(2, 2)));
     assert!(rt; matches!(scene.reclaim(1), Err(NotHeld { number: 1 })));
-    scene.tells(&rt, Told::Nothing);
+    scene.expects(&rt, Observed::Nothing);
 }
 
 #[test]
@@ -69,8 +69,8 @@ fn a_message_of_five_words_is_too_large_for_a_heap_of_four(rt: HostRuntime) {
     let mut scene = Scene::open(&rt, rt.alloc(), NUMBERS, 4);
     assert!(rt; scene.feed(LONG_REQUEST));
     let why = DropCause::Oversize { need: 5, words: 4 };
-    scene.tells(&rt, Told::Dropped(1, why));
-    scene.tells(&rt, Told::Nothing);
+    scene.expects(&rt, Observed::Dropped(1, why));
+    scene.expects(&rt, Observed::Nothing);
 }
 
 #[test]
@@ -78,24 +78,24 @@ fn a_message_is_too_large_by_a_word(rt: HostRuntime) {
     let mut scene = Scene::open(&rt, rt.alloc(), NUMBERS, 5);
     assert!(rt; scene.feed(LONG_REQUEST));
     let why = DropCause::Oversize { need: 5, words: 5 };
-    scene.tells(&rt, Told::Dropped(1, why));
+    scene.expects(&rt, Observed::Dropped(1, why));
     let mut scene = Scene::open(&rt, rt.alloc(), NUMBERS, 6);
     assert!(rt; scene.feed(LONG_REQUEST));
-    scene.tells(&rt, Told::Arrived(1, first_block(1, 5)));
+    scene.expects(&rt, Observed::Arrived(1, first_block(1, 5)));
 }
 
 #[test]
 fn frames_are_dropped_by_their_first_cause(rt: HostRuntime) {
     let mut scene = Scene::open(&rt, rt.alloc(), SMALL, 16);
     assert!(rt; scene.feed(DROPPED));
-    scene.tells(&rt, Told::Dropped(0, DropCause::Hello));
-    scene.tells(&rt, Told::Dropped(2, DropCause::NoMethod));
+    scene.expects(&rt, Observed::Dropped(0, DropCause::Hello));
+    scene.expects(&rt, Observed::Dropped(2, DropCause::NoMethod));
     let why = DropCause::Decode {
         reason: DecodeReason::Short,
         place: 1,
     };
-    scene.tells(&rt, Told::Dropped(3, why));
-    scene.tells(&rt, Told::Arrived(2, first_block(1, 2)));
+    scene.expects(&rt, Observed::Dropped(3, why));
+    scene.expects(&rt, Observed::Arrived(2, first_block(1, 2)));
 }
 
 #[test]
@@ -103,15 +103,15 @@ fn the_policy_of_the_turn_counts(rt: HostRuntime) {
     let mut scene = Scene::open(&rt, rt.alloc(), SMALL, 4);
     assert!(rt; scene.feed(REQUEST));
     assert!(rt; scene.feed(REQUEST));
-    scene.tells(&rt, Told::Arrived(1, first_block(1, 2)));
-    let waiting = Told::Waiting {
+    scene.expects(&rt, Observed::Arrived(1, first_block(1, 2)));
+    let waiting = Observed::Waiting {
         need: 2,
         largest: 1,
     };
-    scene.tells(&rt, waiting);
-    let denied = Told::Dropped(1, DropCause::Denied { rule: 0 });
-    scene.tells_under(&rt, rt.alloc(), b"default deny", denied);
-    scene.tells(&rt, Told::Nothing);
+    scene.expects(&rt, waiting);
+    let denied = Observed::Dropped(1, DropCause::Denied { rule: 0 });
+    scene.expects_under(&rt, rt.alloc(), b"default deny", denied);
+    scene.expects(&rt, Observed::Nothing);
 }
 
 // Two frames whose bytes come in two parts, split at an offset, arrive, and nothing else.
@@ -125,9 +125,9 @@ fn check_cut(rt: &impl Abort, alloc: Global, at: usize) {
     let (front, back) = TWO_REQUESTS.split_at(at.min(TWO_REQUESTS.len()));
     assert!(rt; scene.feed(front));
     assert!(rt; scene.feed(back));
-    scene.tells(rt, Told::Arrived(1, first_block(1, 2)));
-    scene.tells(rt, Told::Arrived(1, second));
-    scene.tells(rt, Told::Nothing);
+    scene.expects(rt, Observed::Arrived(1, first_block(1, 2)));
+    scene.expects(rt, Observed::Arrived(1, second));
+    scene.expects(rt, Observed::Nothing);
 }
 
 #[test]
@@ -138,22 +138,22 @@ fn a_stream_may_be_cut_anywhere(rt: HostRuntime) {
 }
 
 #[test]
-fn frames_wait_and_bytes_are_left_over(rt: HostRuntime) {
+fn frames_wait_and_unframed_bytes_remain(rt: HostRuntime) {
     let mut scene = Scene::open(&rt, rt.alloc(), SMALL, 16);
     assert!(rt; scene.feed(TWO_REQUESTS));
     assert!(rt; scene.feed(b"\0\0\x01"));
     assert!(rt; matches!(scene.waiting(1), Some((1, 0, 2))));
     assert!(rt; scene.waiting(2).is_none());
-    assert!(rt; scene.rest() == 3);
+    assert!(rt; scene.unframed_bytes() == 3);
 }
 
 #[test]
-fn a_fault_comes_behind_the_frames_before_it(rt: HostRuntime) {
+fn a_fault_comes_after_the_frames_before_it(rt: HostRuntime) {
     let mut scene = Scene::open(&rt, rt.alloc(), SMALL, 16);
     assert!(rt; scene.feed(REQUEST));
     assert!(rt; !scene.feed(b"\0\x04\0\x01\x01"));
-    scene.tells(&rt, Told::Arrived(1, first_block(1, 2)));
-    scene.tells(&rt, Told::Nothing);
+    scene.expects(&rt, Observed::Arrived(1, first_block(1, 2)));
+    scene.expects(&rt, Observed::Nothing);
 }
 
 // A request, followed by a header of kind 4.
@@ -181,10 +181,10 @@ fn check_faulty_cut(rt: &impl Abort, alloc: Global, at: usize) {
     assert!(rt; first.is_none() || is_kind_four(first));
     assert!(rt; is_kind_four(scene.fault_at(back)));
     assert!(rt; is_kind_four(scene.fault_at(b"")));
-    scene.tells(rt, Told::Arrived(1, first_block(1, 2)));
-    scene.tells(rt, Told::Nothing);
+    scene.expects(rt, Observed::Arrived(1, first_block(1, 2)));
+    scene.expects(rt, Observed::Nothing);
     assert!(rt; is_kind_four(scene.fault_at(REQUEST)));
-    scene.tells(rt, Told::Nothing);
+    scene.expects(rt, Observed::Nothing);
 }
 
 #[test]
@@ -195,7 +195,7 @@ fn a_stream_with_a_fault_may_be_cut_anywhere(rt: HostRuntime) {
 }
 
 #[test]
-fn a_hello_in_front_is_taken(rt: HostRuntime) {
+fn a_leading_hello_is_taken(rt: HostRuntime) {
     let mut scene = Scene::open(&rt, rt.alloc(), SMALL, 16);
     assert!(rt; scene.take_hello().is_none());
     assert!(rt; scene.feed(b"\0\0\0\x02\x03\x02\0\0\0\0\0\x01\0\0\0\0hi"));
@@ -204,5 +204,5 @@ fn a_hello_in_front_is_taken(rt: HostRuntime) {
     assert!(rt; scene.take_hello() == Some((2, 2)));
     assert!(rt; scene.first_version() == Some(1));
     assert!(rt; scene.take_hello().is_none());
-    scene.tells(&rt, Told::Arrived(1, first_block(1, 2)));
+    scene.expects(&rt, Observed::Arrived(1, first_block(1, 2)));
 }

@@ -1,4 +1,4 @@
 //! Commands of `mrpc`.
 
+mod offline;
 mod runs;
-mod still;

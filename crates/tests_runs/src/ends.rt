@@ -7,14 +7,14 @@ use std::process::Abort;
 // The ends that were returned to a fabric, each with its connection, and the number of opened ends that were
 // not.
 #[derive(Drop)]
-pub(crate) struct Ends<L> {
+pub(crate) struct ReturnedEnds<L> {
     pub back: Vec<(u32, L)>,
     pub away: u64,
 }
 
-impl<L> Ends<L> {
-    pub(crate) fn new(alloc: Global) -> Ends<L> {
-        Ends {
+impl<L> ReturnedEnds<L> {
+    pub(crate) fn new(alloc: Global) -> ReturnedEnds<L> {
+        ReturnedEnds {
             back: Vec::new(alloc),
             away: 0,
         }
@@ -29,7 +29,7 @@ impl<L> Ends<L> {
     }
 }
 
-impl<L: Drop> Ends<L> {
+impl<L: Drop> ReturnedEnds<L> {
     // Takes back an end.
     pub(crate) fn keep(&mut self, rt: &impl Abort, conn: u32, end: L)
         requires opened { 0 < self.old.away }

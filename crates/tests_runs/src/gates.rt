@@ -14,7 +14,7 @@ const TURNS: u64 = 10_000_000;
 const LONG: u64 = 100_000;
 
 // The most consecutive calls for one connection.
-const MOST_IN_A_ROW: u64 = 10_000_000;
+const MAX_IN_A_ROW: u64 = 10_000_000;
 
 // Whether a count rises above a value within this many turns, each of which yields the processor.
 pub(crate) fn rises_above(count: &AtomicU64, before: u64) -> bool {
@@ -95,12 +95,12 @@ impl Gate for CountingGate {
 
 // The calls of a gate, by connection.
 #[derive(Drop)]
-struct Calls {
+struct GateCalls {
     conns: Vec<u32>,
     in_a_row: u64,
 }
 
-impl Calls {
+impl GateCalls {
     // Notes a call, which mustn't be the last one of a row.
     fn note(&mut self, rt: &impl Abort, conn: u32) {
         if self.conns.last() == Some(&conn) {
@@ -108,7 +108,7 @@ impl Calls {
         } else {
             self.in_a_row = 1;
         }
-        assert!(rt; self.in_a_row < MOST_IN_A_ROW);
+        assert!(rt; self.in_a_row < MAX_IN_A_ROW);
         self.conns.push(conn).expect(rt, "memory");
     }
 }
@@ -118,7 +118,7 @@ impl Calls {
 #[derive(Drop)]
 pub(crate) struct NotingGate<'r, R> {
     rt: &'r R,
-    calls: Mutex<Calls>,
+    calls: Mutex<GateCalls>,
     firsts: AtomicU64,
     inside: AtomicBool,
 }
@@ -127,7 +127,7 @@ impl<'r, R: Abort + Wait> NotingGate<'r, R> {
     pub(crate) fn new(rt: &'r R, alloc: Global) -> NotingGate<'r, R> {
         NotingGate {
             rt,
-            calls: Mutex::new(Calls {
+            calls: Mutex::new(GateCalls {
                 conns: Vec::new(alloc),
                 in_a_row: 0,
             }),
@@ -144,7 +144,7 @@ impl<'r, R: Abort + Wait> NotingGate<'r, R> {
             firsts: _,
             inside: _,
         } = self;
-        let Calls { conns, in_a_row: _ } = calls.into_inner();
+        let GateCalls { conns, in_a_row: _ } = calls.into_inner();
         conns
     }
 

@@ -7,17 +7,15 @@ mod ends;
 #[cfg(test)]
 mod gates;
 #[cfg(test)]
-mod left;
-#[cfg(test)]
 mod lines;
 #[cfg(test)]
 mod meetings;
 #[cfg(test)]
-mod moments;
-#[cfg(test)]
 mod noting;
 #[cfg(test)]
 mod prepared;
+#[cfg(test)]
+mod remains;
 #[cfg(test)]
 mod rounds;
 #[cfg(test)]
@@ -28,6 +26,8 @@ mod slow;
 mod streams;
 #[cfg(test)]
 mod threads;
+#[cfg(test)]
+mod timestamps;
 #[cfg(test)]
 mod turns;
 

@@ -5,8 +5,8 @@ ghost use Rattle.run_plan.specs.Plans.{IsPlan};
 
 use crate::discard;
 use crate::gates::CountingGate;
-use crate::prepared::{Prepared, PreparedFabric};
-use crate::runs::{ONE_CALL, Told, plan_of, ran};
+use crate::prepared::{PreparedEnd, PreparedFabric};
+use crate::runs::{ONE_CALL, RunOutput, plan_of, ran};
 use crate::streams::{hello_of, longest, nested, push_request};
 use run_plan::Plan;
 use std::alloc::Global;
@@ -37,27 +37,27 @@ fn ran_with<R: Abort + Threads + Wait + Sync>(
     rt: &R,
     alloc: Global,
     plan: Plan,
-    end: Prepared,
-) -> Told
+    end: PreparedEnd,
+) -> RunOutput
     requires { IsPlan plan }
 {
-    let other = Prepared::giving(alloc, Vec::new(alloc));
+    let other = PreparedEnd::giving(alloc, Vec::new(alloc));
     let fabric = PreparedFabric::new(rt, alloc, end, other);
     ran(rt, alloc, plan, fabric, &CountingGate::new())
 }
 
 // The run prints these lines for connection 1, and then `REST`.
-fn assert_lines(rt: &impl Abort, alloc: Global, told: &Told, lines: &[u8]) {
+fn assert_lines(rt: &impl Abort, alloc: Global, told: &RunOutput, lines: &[u8]) {
     let mut expected = lines.to_vec(alloc).expect(rt, "memory");
     expected.extend_from_slice(REST).expect(rt, "memory");
     assert!(rt; told.text.as_slice() == expected.as_slice());
 }
 
 // A listener with this link prints these lines, and no call of the link fails.
-fn assert_told<R: Abort + Threads + Wait + Sync>(
+fn assert_report<R: Abort + Threads + Wait + Sync>(
     rt: &R,
     alloc: Global,
-    end: Prepared,
+    end: PreparedEnd,
     lines: &[u8],
 ) {
     let told = ran_with(rt, alloc, listener(rt, alloc), end);
@@ -68,10 +68,10 @@ fn assert_told<R: Abort + Threads + Wait + Sync>(
 // Bytes that a listener receives, and the lines that it then prints.
 type Row<'a> = (&'a [u8], &'a [u8]);
 
-fn assert_heard<R: Abort + Threads + Wait + Sync>(rt: &R, alloc: Global, rows: &[Row]) {
+fn assert_reports<R: Abort + Threads + Wait + Sync>(rt: &R, alloc: Global, rows: &[Row]) {
     for (bytes, lines) in rows {
         let bytes = bytes.to_vec(alloc).expect(rt, "memory");
-        assert_told(rt, alloc, Prepared::giving(alloc, bytes), *lines);
+        assert_report(rt, alloc, PreparedEnd::giving(alloc, bytes), *lines);
     }
 }
 
@@ -104,7 +104,7 @@ fn what_is_no_hello_leaves_a_connection_unbound(rt: HostRuntime) {
             b"unbound 1 hello 3\n",
         ),
     ];
-    assert_heard(&rt, rt.alloc(), &rows);
+    assert_reports(&rt, rt.alloc(), &rows);
 }
 
 // The hello of a listener's peer, with a version.
@@ -116,7 +116,7 @@ fn peer_hello(rt: &impl Abort, alloc: Global, version: u8) -> Vec<u8> {
 }
 
 // A listener that receives a hello with a version, and these bytes after it, prints these lines.
-fn assert_behind<R: Abort + Threads + Wait + Sync>(
+fn assert_after_hello<R: Abort + Threads + Wait + Sync>(
     rt: &R,
     alloc: Global,
     version: u8,
@@ -125,13 +125,13 @@ fn assert_behind<R: Abort + Threads + Wait + Sync>(
 ) {
     let mut stream = peer_hello(rt, alloc, version);
     stream.extend_from_slice(bytes).expect(rt, "memory");
-    assert_told(rt, alloc, Prepared::giving(alloc, stream), lines);
+    assert_report(rt, alloc, PreparedEnd::giving(alloc, stream), lines);
 }
 
-// Like `assert_behind` for each row, after a hello of version 2.
-fn assert_each_behind<R: Abort + Threads + Wait + Sync>(rt: &R, alloc: Global, rows: &[Row]) {
+// Like `assert_after_hello` for each row, after a hello of version 2.
+fn assert_each_after_hello<R: Abort + Threads + Wait + Sync>(rt: &R, alloc: Global, rows: &[Row]) {
     for (bytes, lines) in rows {
-        assert_behind(rt, alloc, 2, *bytes, *lines);
+        assert_after_hello(rt, alloc, 2, *bytes, *lines);
     }
 }
 
@@ -139,13 +139,13 @@ const MISMATCH: &[u8] = b"unbound 1 mismatch 33 102 109\n";
 
 #[test]
 fn a_hello_of_version_1_asks_for_the_same_text(rt: HostRuntime) {
-    assert_behind(&rt, rt.alloc(), 2, b"", b"");
-    assert_behind(&rt, rt.alloc(), 1, b"", MISMATCH);
+    assert_after_hello(&rt, rt.alloc(), 2, b"", b"");
+    assert_after_hello(&rt, rt.alloc(), 1, b"", MISMATCH);
 }
 
 // An end that receives these bytes, nothing at first, and then one at a time.
-fn slowly(rt: &impl Abort, alloc: Global, bytes: Vec<u8>) -> Prepared {
-    let mut end = Prepared::giving(alloc, bytes);
+fn slowly(rt: &impl Abort, alloc: Global, bytes: Vec<u8>) -> PreparedEnd {
+    let mut end = PreparedEnd::giving(alloc, bytes);
     for at in 0..200_usize {
         end.lengths.push(at % 2).expect(rt, "memory");
     }
@@ -155,7 +155,7 @@ fn slowly(rt: &impl Abort, alloc: Global, bytes: Vec<u8>) -> Prepared {
 #[test]
 fn a_hello_may_come_in_pieces(rt: HostRuntime) {
     let end = slowly(&rt, rt.alloc(), peer_hello(&rt, rt.alloc(), 1));
-    assert_told(&rt, rt.alloc(), end, MISMATCH);
+    assert_report(&rt, rt.alloc(), end, MISMATCH);
 }
 
 #[test]
@@ -168,7 +168,7 @@ fn a_stream_that_ends_within_a_frame_is_cut(rt: HostRuntime) {
         ),
         (b"\0\x04\0\0\x01\x01", b"cut 1 70 Short\n"),
     ];
-    assert_each_behind(&rt, rt.alloc(), &rows);
+    assert_each_after_hello(&rt, rt.alloc(), &rows);
 }
 
 #[test]
@@ -181,7 +181,7 @@ fn a_stream_is_cut_where_it_has_no_frame(rt: HostRuntime) {
         (b"\0\0\0\0\x02\x02", b"cut 1 75 Version\n"),
         (b"\0\0\0\0\x03\x03", b"cut 1 75 Version\n"),
     ];
-    assert_each_behind(&rt, rt.alloc(), &rows);
+    assert_each_after_hello(&rt, rt.alloc(), &rows);
 }
 
 #[test]
@@ -190,7 +190,7 @@ fn a_payload_may_be_as_long_as_the_limit(rt: HostRuntime) {
     let mut bytes = Vec::new(alloc);
     push_request(&rt, alloc, &mut bytes, 1, longest(&rt, alloc).as_slice());
     let lines = b"dropped 1 1 0 1 NumberZero 0\n";
-    assert_behind(&rt, alloc, 2, bytes.as_slice(), lines);
+    assert_after_hello(&rt, alloc, 2, bytes.as_slice(), lines);
 }
 
 // A hello, a request of method 258, one that the policy denies, and one of no field.
@@ -200,10 +200,10 @@ const DROPPED: &[u8] = b"\0\0\0\0\x03\x02\0\0\0\0\0\x02\0\0\0\0\
     \0\0\0\0\x01\x01\0\0\0\0\0\x02\0\0\0\x03";
 
 #[test]
-fn each_cause_of_a_dropped_frame_is_told(rt: HostRuntime) {
+fn each_cause_of_a_dropped_frame_is_reported(rt: HostRuntime) {
     let lines = b"dropped 1 3 0 0 Hello\ndropped 1 1 258 1 NoMethod\n\
         dropped 1 1 0 2 access p seven\ndropped 1 1 0 3 Oversize 8 8\n";
-    assert_behind(&rt, rt.alloc(), 2, DROPPED, lines);
+    assert_after_hello(&rt, rt.alloc(), 2, DROPPED, lines);
 }
 
 // Requests whose payloads are at fault, one for each reason.
@@ -226,12 +226,12 @@ fn faulty(rt: &impl Abort, alloc: Global) -> Vec<u8> {
 }
 
 #[test]
-fn each_fault_of_a_payload_is_told(rt: HostRuntime) {
+fn each_fault_of_a_payload_is_reported(rt: HostRuntime) {
     let lines = b"dropped 1 1 0 1 Varint 1\ndropped 1 1 0 1 TagRange 0\n\
         dropped 1 1 0 1 NumberZero 0\ndropped 1 1 0 1 WireType 0\ndropped 1 1 0 1 Short 1\n\
         dropped 1 1 0 1 Utf8 2\ndropped 1 1 0 1 PackedLength 2\ndropped 1 1 0 1 Depth 64\n";
     let bytes = faulty(&rt, rt.alloc());
-    assert_behind(&rt, rt.alloc(), 2, bytes.as_slice(), lines);
+    assert_after_hello(&rt, rt.alloc(), 2, bytes.as_slice(), lines);
 }
 
 // An end that receives this hello, and whose sends and receives with these numbers fail.
@@ -241,8 +241,8 @@ fn failing(
     hello: Vec<u8>,
     sends: &[u64],
     receives: &[u64],
-) -> Prepared {
-    let mut end = Prepared::giving(alloc, hello);
+) -> PreparedEnd {
+    let mut end = PreparedEnd::giving(alloc, hello);
     end.failing_sends
         .extend_from_slice(sends)
         .expect(rt, "memory");
@@ -266,7 +266,7 @@ fn assert_fails<R: Abort + Threads + Wait + Sync>(
 }
 
 #[test]
-fn a_link_that_fails_before_the_hello_is_told(rt: HostRuntime) {
+fn a_link_that_fails_before_the_hello_is_reported(rt: HostRuntime) {
     let alloc = rt.alloc();
     assert_fails(&rt, alloc, &[1], &[], b"unbound 1 transport\n");
     assert_fails(&rt, alloc, &[], &[1], b"unbound 1 transport\n");

@@ -1,7 +1,7 @@
 //! The two ends of a link that a run returned to a fabric in memory: what each received is what the other was
 //! handed.
 ghost use Rattle.std.specs.Prelude.{◌≡◌, [], IfOk, length};
-ghost use Rattle.mem_fabric.specs.Pair.{ArePair, IsHandedOn};
+ghost use Rattle.mem_fabric.specs.Pair.{ArePair, IsDeliveredInOrder};
 ghost use Rattle.run_plan.specs.Plans.{IsPlan};
 ghost use Rattle.tests_runs.specs.Meeting.{AreTwo};
 
@@ -22,11 +22,11 @@ use std::thread::Threads;
 // Takes back the two ends of a link, and joins them by `meet`.
 fn meet_ends<'r, R: Wait>(fabric: &mut MemFabric<'r, R>) -> (PairLink<'r, R>, PairLink<'r, R>)
     requires { AreTwo ArePair fabric.old.back }
-    ensures to_second { IsHandedOn result.0 result.1 }
-    ensures to_first { IsHandedOn result.1 result.0 }
+    ensures to_second { IsDeliveredInOrder result.0 result.1 }
+    ensures to_first { IsDeliveredInOrder result.1 result.0 }
 {
-    let (_, mut first) = fabric.take_back(0);
-    let (_, mut second) = fabric.take_back(0);
+    let (_, mut first) = fabric.take_kept(0);
+    let (_, mut second) = fabric.take_kept(0);
     meet(&mut first, &mut second);
     (first, second)
 }
@@ -55,8 +55,8 @@ fn met<'r, R: Abort + Threads + Wait + Sync>(
     plan: &Plan,
 ) -> (PairLink<'r, R>, PairLink<'r, R>)
     requires { IsPlan plan.now }
-    ensures to_second { IsHandedOn result.0 result.1 }
-    ensures to_first { IsHandedOn result.1 result.0 }
+    ensures to_second { IsDeliveredInOrder result.0 result.1 }
+    ensures to_first { IsDeliveredInOrder result.1 result.0 }
 {
     let mut fabric = memory(rt, alloc);
     run_over(rt, alloc, plan, &mut fabric)
@@ -84,6 +84,6 @@ fn assert_ends_met<R: Abort + Threads + Wait + Sync>(rt: &R, alloc: Global) {
 
 // The contract of `met` proves that the bytes are equal, in order.
 #[test]
-fn the_ends_of_a_link_meet_behind_a_run(rt: HostRuntime) {
+fn the_ends_of_a_link_meet_after_a_run(rt: HostRuntime) {
     assert_ends_met(&rt, rt.alloc());
 }

@@ -2,7 +2,7 @@
 ghost use Rattle.std.specs.Prelude.{◌≡◌};
 
 use crate::discard;
-use crate::ends::Ends;
+use crate::ends::ReturnedEnds;
 use crate::gates::CountingGate;
 use crate::runs::{ONE_CALL, plan_of};
 use crate::threads::memory;
@@ -33,7 +33,7 @@ impl<'r, R: Abort + Sync, L: Link> Link for NotingLink<'r, R, L> {
 
     ghost peer_finished = { λ old new. L.peer_finished old.inner new.inner };
 
-    ghost faults = { λ l. L.faults l.inner };
+    ghost failures = { λ l. L.failures l.inner };
 
     ghost since = { λ old new. L.since old.inner new.inner };
 
@@ -69,7 +69,7 @@ struct NotingFabric<'r, R, F: Fabric> {
     rt: &'r R,
     alloc: Global,
     inner: F,
-    ends: Ends<NotingLink<'r, R, F::L>>,
+    ends: ReturnedEnds<NotingLink<'r, R, F::L>>,
 }
 
 // An end with nothing recorded.
@@ -91,7 +91,7 @@ impl<'r, R: Abort + Sync, F: Fabric> Fabric for NotingFabric<'r, R, F> {
 
     ghost away = { λ f. f.ends.away };
 
-    ghost faults = { λ f. F.faults f.inner };
+    ghost failures = { λ f. F.failures f.inner };
 
     ghost pair = { λ a b. F.pair a.inner b.inner };
 
@@ -148,7 +148,7 @@ fn assert_noted<R: Abort + Threads + Wait + Sync, F: Fabric + Drop>(
         rt,
         alloc,
         inner,
-        ends: Ends::new(alloc),
+        ends: ReturnedEnds::new(alloc),
     };
     let plan = plan_of(rt, alloc, "", ONE_CALL);
     let run = serve_plan(

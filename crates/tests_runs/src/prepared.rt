@@ -1,14 +1,14 @@
 //! A fabric whose peers are prepared: what each end receives is fixed at the start.
 ghost use Rattle.std.specs.Prelude.{◌≡◌, [], false};
 
-use crate::ends::Ends;
+use crate::ends::ReturnedEnds;
 use mrpc_base::{Fabric, MemLink, OpenFault};
 use std::alloc::Global;
 use std::process::Abort;
 
 // What one end of a link receives, in chunks of which lengths, and which of its sends and receives fail,
 // counted from 1.
-pub(crate) struct Prepared {
+pub(crate) struct PreparedEnd {
     pub bytes: Vec<u8>,
     pub lengths: Vec<usize>,
     pub failing_sends: Vec<u64>,
@@ -16,9 +16,9 @@ pub(crate) struct Prepared {
 }
 
 // Written by hand, like that of the fabric below, so that a drop is one call, not a drop of each part.
-impl Drop for Prepared {
+impl Drop for PreparedEnd {
     fn drop(self) {
-        let Prepared {
+        let PreparedEnd {
             bytes: _bytes,
             lengths: _lengths,
             failing_sends: _failing_sends,
@@ -27,10 +27,10 @@ impl Drop for Prepared {
     }
 }
 
-impl Prepared {
+impl PreparedEnd {
     // An end that receives these bytes, and then the end of the stream.
-    pub(crate) fn giving(alloc: Global, bytes: Vec<u8>) -> Prepared {
-        Prepared {
+    pub(crate) fn giving(alloc: Global, bytes: Vec<u8>) -> PreparedEnd {
+        PreparedEnd {
             bytes,
             lengths: Vec::new(alloc),
             failing_sends: Vec::new(alloc),
@@ -42,9 +42,9 @@ impl Prepared {
         ensures handed { result.handed ≡ [] }
         ensures given { result.given ≡ [] }
         ensures ended { result.ended ≡ false }
-        ensures faults { result.faults ≡ 0 }
+        ensures failures { result.failures ≡ 0 }
     {
-        let Prepared {
+        let PreparedEnd {
             bytes,
             lengths,
             failing_sends,
@@ -58,8 +58,8 @@ impl Prepared {
 pub(crate) struct PreparedFabric<'r, R> {
     rt: &'r R,
     alloc: Global,
-    prepared: Option<(Prepared, Prepared)>,
-    ends: Ends<MemLink>,
+    prepared: Option<(PreparedEnd, PreparedEnd)>,
+    ends: ReturnedEnds<MemLink>,
 }
 
 impl<'r, R> Drop for PreparedFabric<'r, R> {
@@ -77,14 +77,14 @@ impl<'r, R: Abort> PreparedFabric<'r, R> {
     pub(crate) fn new(
         rt: &'r R,
         alloc: Global,
-        first: Prepared,
-        second: Prepared,
+        first: PreparedEnd,
+        second: PreparedEnd,
     ) -> PreparedFabric<'r, R> {
         PreparedFabric {
             rt,
             alloc,
             prepared: Some((first, second)),
-            ends: Ends::new(alloc),
+            ends: ReturnedEnds::new(alloc),
         }
     }
 }
@@ -98,7 +98,7 @@ impl<'r, R: Abort> Fabric for PreparedFabric<'r, R> {
 
     ghost away = { λ f. f.ends.away };
 
-    ghost faults = { λ _. 0 };
+    ghost failures = { λ _. 0 };
 
     // The ends claim nothing of each other.
     ghost pair = { λ _ _. ⊤ };

@@ -2,28 +2,28 @@
 //! first round.
 ghost use Rattle.std.specs.Prelude.{◌≡◌, [], false};
 ghost use Rattle.mrpc_table.specs.Valid.{IsValid};
-ghost use Rattle.descriptor_ring.specs.Rings.{IsOf};
-ghost use Rattle.message_delivery.specs.Arriving.{AreArriving};
-ghost use Rattle.message_delivery.specs.declared.arrivals.Stream.TheVariants.{Open};
+ghost use Rattle.descriptor_ring.specs.Rings.{IsDescriptorOf};
+ghost use Rattle.message_delivery.specs.Arriving.{HasTrace};
+ghost use Rattle.message_delivery.specs.declared.arrivals.StreamState.TheVariants.{Open};
 ghost use Rattle.run_plan.specs.Plans.{IsPlan};
 ghost use Rattle.service_loop.specs.Delivering.{AreDelivering};
-ghost use Rattle.service_loop.specs.Rounds.{IsWhole};
+ghost use Rattle.service_loop.specs.Rounds.{IsConsistent};
 ghost use Rattle.service_loop.specs.Serving.{IsServed};
 
 use crate::discard;
-use crate::prepared::Prepared;
+use crate::prepared::PreparedEnd;
 use crate::runs::{ONE_CALL, plan_of};
 use crate::streams::push_request;
 use conn_core::Conn;
 use descriptor_ring::{Descriptor, Receiver, open, open_numbers};
-use link_handshake::no_arrivals;
+use link_handshake::new_arrivals;
 use message_delivery::Arrivals;
 use mrpc_base::{Clock, FixedClock, Link, MemLink, PlainTickets, Tickets};
 use mrpc_table::{Bytes, Table};
 use receive_core::Inbound;
 use run_plan::Plan;
-use run_report::append_left;
-use service_loop::{Activity, Deliveries, DueStep, Endpoint, Rings, Submissions};
+use run_report::append_stream_remainder;
+use service_loop::{Deliveries, Endpoint, NoticeRings, RoundOutcome, ScheduledOp, Submissions};
 use shared_heap::{Reader, Writer};
 use std::alloc::Global;
 use std::process::Abort;
@@ -35,7 +35,7 @@ const WORDS: u64 = 16;
 const ITEMS: u64 = 4;
 
 // The most bytes that are received at once: three requests, and more.
-const MOST_BYTES: usize = 64;
+const MAX_BYTES: usize = 64;
 
 // The most loads of a call.
 const LOADS: u64 = 16;
@@ -45,7 +45,7 @@ const ROUNDS: u32 = 16;
 
 // A call of method 0, whose message at word 2 is all zeros.
 fn call(writer: &mut Writer) -> Descriptor
-    ensures of_heap { IsOf writer.old.heap result }
+    ensures of_heap { IsDescriptorOf writer.old.heap result }
     ensures same { writer.new ≡ writer.old }
 {
     Descriptor {
@@ -79,7 +79,7 @@ fn submissions<'t, R: Abort + Wait>(
     rt: &R,
     alloc: Global,
     table: &'t Table,
-    steps: &'t [DueStep],
+    steps: &'t [ScheduledOp],
 ) -> Submissions<'t>
     requires valid { IsValid table.now }
     requires no_steps { steps.now ≡ [] }
@@ -105,8 +105,8 @@ fn deliveries<'t, R: Abort + Wait>(rt: &R, alloc: Global, table: &'t Table) -> D
     let (blocks, _numbered) = open_numbers(alloc, ITEMS).expect(rt, "memory");
     let (back, reclaims) = open_numbers(alloc, ITEMS).expect(rt, "memory");
     assert!(rt; back.close(rt).is_ok());
-    let arrivals = no_arrivals(alloc, inbound, writer, table, None);
-    let rings = Rings {
+    let arrivals = new_arrivals(alloc, inbound, writer, table, None);
+    let rings = NoticeRings {
         notices,
         blocks,
         reclaims,
@@ -119,19 +119,19 @@ fn endpoint<'t, R: Abort + Wait, C: Clock, L: Link>(
     rt: &R,
     alloc: Global,
     table: &'t Table,
-    steps: &'t [DueStep],
+    steps: &'t [ScheduledOp],
     clock: &'t C,
     link: L,
 ) -> Endpoint<'t, C, PlainTickets, L>
     requires valid { IsValid table.now }
     requires no_steps { steps.now ≡ [] }
-    ensures whole { IsWhole C.Clock ⟦<PlainTickets as Tickets>⟧ L.Link result }
+    ensures whole { IsConsistent C.Clock ⟦<PlainTickets as Tickets>⟧ L.Link result }
     ensures memory { result.memory ≡ false }
 {
     let calls = submissions(rt, alloc, table, steps);
     let messages = deliveries(rt, alloc, table);
     let tickets = PlainTickets::new(alloc, 0).expect(rt, "memory");
-    let buffer = vec![in alloc; 0; MOST_BYTES].expect(rt, "memory");
+    let buffer = vec![in alloc; 0; MAX_BYTES].expect(rt, "memory");
     Endpoint::new(calls, messages, link, tickets, clock, buffer, None)
 }
 
@@ -141,15 +141,15 @@ fn make_rounds<R: Abort + Wait, C: Clock, Q: Tickets, L: Link>(
     alloc: Global,
     endpoint: &mut Endpoint<'_, C, Q, L>,
 ) -> bool
-    requires whole { IsWhole C.Clock Q.Tickets L.Link endpoint.old }
+    requires whole { IsConsistent C.Clock Q.Tickets L.Link endpoint.old }
     requires memory { endpoint.old.memory ≡ false }
-    ensures { IsWhole C.Clock Q.Tickets L.Link endpoint.new }
+    ensures { IsConsistent C.Clock Q.Tickets L.Link endpoint.new }
 {
     'rounds: for _ in 0..ROUNDS {
-        if endpoint.is_over() {
+        if endpoint.is_finished() {
             return true;
         }
-        assert!(rt; endpoint.round(rt, alloc) != Activity::Memory);
+        assert!(rt; endpoint.round(rt, alloc) != RoundOutcome::Memory);
     }
     false
 }
@@ -157,18 +157,18 @@ fn make_rounds<R: Abort + Wait, C: Clock, Q: Tickets, L: Link>(
 // The results of a connection: how many frames were sent, how many received frames were handled, and the
 // remains.
 #[derive(Drop)]
-struct Served {
+struct RoundResults {
     handed: usize,
     told: usize,
     left: Bytes,
 }
 
 // The lines for the remains of a connection whose link failed, or didn't.
-fn left(rt: &impl Abort, alloc: Global, failed: bool, arrivals: &Arrivals<'_>) -> Bytes
-    requires { AreArriving arrivals.now }
+fn remains(rt: &impl Abort, alloc: Global, failed: bool, arrivals: &Arrivals<'_>) -> Bytes
+    requires { HasTrace arrivals.now }
 {
     let mut text = Bytes::new(alloc);
-    append_left(&mut text, 1, failed, arrivals).expect(rt, "memory");
+    append_stream_remainder(&mut text, 1, failed, arrivals).expect(rt, "memory");
     text
 }
 
@@ -177,15 +177,15 @@ fn tell<R: Abort + Wait>(
     rt: &R,
     alloc: Global,
     end: &mut Endpoint<'_, FixedClock, PlainTickets, MemLink>,
-) -> Served
-    requires whole { IsWhole ⟦<FixedClock as Clock>⟧ ⟦<PlainTickets as Tickets>⟧ ⟦<MemLink as Link>⟧ end.old }
+) -> RoundResults
+    requires whole { IsConsistent ⟦<FixedClock as Clock>⟧ ⟦<PlainTickets as Tickets>⟧ ⟦<MemLink as Link>⟧ end.old }
     requires memory { end.old.memory ≡ false }
 {
     assert!(rt; make_rounds(rt, alloc, end));
-    Served {
+    RoundResults {
         handed: end.link.handed().len(),
         told: end.deliveries.arrivals.lines.len(),
-        left: left(
+        left: remains(
             rt,
             alloc,
             end.submissions.conn.ended(),
@@ -195,7 +195,7 @@ fn tell<R: Abort + Wait>(
 }
 
 // Like `tell`, for a connection over this end of a link, under the table of a plan.
-fn serve<R: Abort + Wait>(rt: &R, alloc: Global, plan: &Plan, link: MemLink) -> Served
+fn serve<R: Abort + Wait>(rt: &R, alloc: Global, plan: &Plan, link: MemLink) -> RoundResults
     requires { IsPlan plan.now }
 {
     let steps = Vec::new(alloc);
@@ -207,12 +207,12 @@ fn serve<R: Abort + Wait>(rt: &R, alloc: Global, plan: &Plan, link: MemLink) -> 
 }
 
 // Like `serve`, for an end that receives three requests at once, and whose sends with these numbers fail.
-fn served_with<R: Abort + Wait>(rt: &R, alloc: Global, failing: &[u64]) -> Served {
+fn served_with<R: Abort + Wait>(rt: &R, alloc: Global, failing: &[u64]) -> RoundResults {
     let mut bytes = Vec::new(alloc);
     for number in 1..4 {
         push_request(rt, alloc, &mut bytes, number, b"\x08\x07");
     }
-    let mut end = Prepared::giving(alloc, bytes);
+    let mut end = PreparedEnd::giving(alloc, bytes);
     end.failing_sends
         .extend_from_slice(failing)
         .expect(rt, "memory");

@@ -5,7 +5,7 @@ ghost use Rattle.run_plan.specs.Plans.{IsPlan};
 use crate::discard;
 use mrpc_base::{Fabric, FixedClock, Gate};
 use mrpc_table::Bytes;
-use run_driver::{Run, serve_plan};
+use run_driver::{RunReport, serve_plan};
 use run_plan::Plan;
 use scenario_reader::read_scenario;
 use std::alloc::Global;
@@ -37,7 +37,7 @@ pub(crate) fn plan_of(rt: &impl Abort, alloc: Global, key: &str, rest: &str) -> 
 
 // The report of a run, and whether a link failed.
 #[derive(Drop)]
-pub(crate) struct Told {
+pub(crate) struct RunOutput {
     pub text: Bytes,
     pub failed: bool,
 }
@@ -49,7 +49,7 @@ pub(crate) fn ran<R: Abort + Threads + Wait + Sync, F: Fabric + Drop, G: Gate>(
     plan: Plan,
     fabric: F,
     gate: &G,
-) -> Told
+) -> RunOutput
     requires { IsPlan plan }
 {
     ran_at(rt, alloc, plan, fabric, 0, gate)
@@ -64,19 +64,19 @@ pub(crate) fn ran_at<R: Abort + Threads + Wait + Sync, F: Fabric + Drop, G: Gate
     mut fabric: F,
     moment: u64,
     gate: &G,
-) -> Told
+) -> RunOutput
     requires { IsPlan plan }
 {
     let run = serve_plan(rt, alloc, &plan, &mut fabric, &FixedClock(moment), gate);
     discard(plan);
-    told_of(rt, alloc, run.ok().expect(rt, "a run"))
+    output_of_run(rt, alloc, run.ok().expect(rt, "a run"))
 }
 
-fn told_of(rt: &impl Abort, alloc: Global, run: Run) -> Told {
+fn output_of_run(rt: &impl Abort, alloc: Global, run: RunReport) -> RunOutput {
     let text = joined(rt, alloc, run.parts.as_slice());
     let failed = run.failed;
     discard(run);
-    Told { text, failed }
+    RunOutput { text, failed }
 }
 
 // The parts of a run's report, joined.

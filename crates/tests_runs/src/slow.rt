@@ -1,7 +1,7 @@
 //! A fabric in which the second send of one link blocks until a gate is called again.
 ghost use Rattle.std.specs.Prelude.{◌≡◌};
 
-use crate::ends::Ends;
+use crate::ends::ReturnedEnds;
 use crate::gates::{CountingGate, rises_above};
 use mrpc_base::{Came, Fabric, Handed, Link, OpenFault};
 use std::alloc::Global;
@@ -12,21 +12,21 @@ use std::sync::atomic::{AtomicU64, Ordering};
 #[derive(Drop)]
 pub(crate) struct SlowLink<'g, L> {
     inner: L,
-    waits: Option<&'g Waits>,
+    waits: Option<&'g GateWaits>,
     sends: u64,
 }
 
 // A gate, how many sends waited for it, and how many of them waited in vain.
 #[derive(Drop)]
-pub(crate) struct Waits {
+pub(crate) struct GateWaits {
     pub gate: CountingGate,
     pub sends: AtomicU64,
     pub missed: AtomicU64,
 }
 
-impl Waits {
-    pub(crate) fn new() -> Waits {
-        Waits {
+impl GateWaits {
+    pub(crate) fn new() -> GateWaits {
+        GateWaits {
             gate: CountingGate::new(),
             sends: AtomicU64::new(0),
             missed: AtomicU64::new(0),
@@ -66,7 +66,7 @@ impl<'g, L: Link> Link for SlowLink<'g, L> {
 
     ghost peer_finished = { λ old new. L.peer_finished old.inner new.inner };
 
-    ghost faults = { λ l. L.faults l.inner };
+    ghost failures = { λ l. L.failures l.inner };
 
     ghost since = { λ old new. L.since old.inner new.inner };
 
@@ -97,8 +97,8 @@ impl<'g, L: Link> Link for SlowLink<'g, L> {
 pub(crate) struct SlowFabric<'g, 'r, R, F: Fabric> {
     rt: &'r R,
     inner: F,
-    waits: &'g Waits,
-    ends: Ends<SlowLink<'g, F::L>>,
+    waits: &'g GateWaits,
+    ends: ReturnedEnds<SlowLink<'g, F::L>>,
 }
 
 impl<'g, 'r, R: Abort, F: Fabric> SlowFabric<'g, 'r, R, F> {
@@ -106,19 +106,19 @@ impl<'g, 'r, R: Abort, F: Fabric> SlowFabric<'g, 'r, R, F> {
         rt: &'r R,
         alloc: Global,
         inner: F,
-        waits: &'g Waits,
+        waits: &'g GateWaits,
     ) -> SlowFabric<'g, 'r, R, F> {
         SlowFabric {
             rt,
             inner,
             waits,
-            ends: Ends::new(alloc),
+            ends: ReturnedEnds::new(alloc),
         }
     }
 }
 
 // The end of the connection with this number.
-fn end<'g, L>(waits: &'g Waits, conn: u32, inner: L) -> SlowLink<'g, L>
+fn end<'g, L>(waits: &'g GateWaits, conn: u32, inner: L) -> SlowLink<'g, L>
     ensures { result.inner ≡ inner }
 {
     let waits = if conn == 1 { Some(waits) } else { None };
@@ -136,7 +136,7 @@ impl<'g, 'r, R: Abort, F: Fabric> Fabric for SlowFabric<'g, 'r, R, F> {
 
     ghost away = { λ f. f.ends.away };
 
-    ghost faults = { λ f. F.faults f.inner };
+    ghost failures = { λ f. F.failures f.inner };
 
     ghost pair = { λ a b. F.pair a.inner b.inner };
 

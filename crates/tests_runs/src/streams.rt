@@ -9,7 +9,7 @@ use std::alloc::Global;
 use std::process::Abort;
 
 // The most bytes of a payload.
-pub(crate) const LONGEST: usize = 262_144;
+pub(crate) const MAX_PAYLOAD: usize = 262_144;
 
 // The hello of connection 2 with the table of the plan and a version.
 pub(crate) fn hello_of(rt: &impl Abort, alloc: Global, plan: &Plan, version: u8) -> Vec<u8>
@@ -31,7 +31,7 @@ pub(crate) fn push_request(
     number: u32,
     payload: &[u8],
 ) {
-    assert!(rt; payload.len() <= LONGEST);
+    assert!(rt; payload.len() <= MAX_PAYLOAD);
     let request = frame(alloc, 1, 0, 2, number, payload).expect(rt, "memory");
     bytes
         .extend_from_slice(request.as_slice())
@@ -51,7 +51,7 @@ pub(crate) fn nested(rt: &impl Abort, alloc: Global) -> Vec<u8> {
 // The longest payload, of zeros.
 pub(crate) fn longest(rt: &impl Abort, alloc: Global) -> Vec<u8> {
     let mut bytes = Vec::new(alloc);
-    for _ in 0..LONGEST {
+    for _ in 0..MAX_PAYLOAD {
         bytes.push(0).expect(rt, "memory");
     }
     bytes

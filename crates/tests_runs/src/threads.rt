@@ -3,8 +3,8 @@ ghost use Rattle.std.specs.Prelude.{◌≡◌, []};
 
 use crate::gates::MeetingGate;
 use crate::runs::{ONE_CALL, plan_of, ran};
-use crate::slow::{SlowFabric, Waits};
-use mem_fabric::{ListedFaults, MemFabric};
+use crate::slow::{GateWaits, SlowFabric};
+use mem_fabric::{InjectedFailures, MemFabric};
 use std::alloc::Global;
 use std::process::Abort;
 use std::sync::Wait;
@@ -21,12 +21,12 @@ const ONE_CALL_TOLD: &[u8] =
 pub(crate) fn memory<'r, R: Abort + Wait>(rt: &'r R, alloc: Global) -> MemFabric<'r, R>
     ensures { result.back ≡ [] }
 {
-    let faults = ListedFaults {
+    let failures = InjectedFailures {
         openings: Vec::new(alloc),
         sends: Vec::new(alloc),
         receives: Vec::new(alloc),
     };
-    MemFabric::new(rt, alloc, faults)
+    MemFabric::new(rt, alloc, failures)
 }
 
 fn assert_workers_meet<R: Abort + Threads + Wait + Sync>(rt: &R, alloc: Global) {
@@ -44,9 +44,9 @@ fn two_workers_run_beside_each_other(rt: HostRuntime) {
     assert_workers_meet(&rt, rt.alloc());
 }
 
-fn assert_worker_goes_on<R: Abort + Threads + Wait + Sync>(rt: &R, alloc: Global) {
+fn assert_worker_continues<R: Abort + Threads + Wait + Sync>(rt: &R, alloc: Global) {
     let plan = plan_of(rt, alloc, "workers = 1\n", ONE_CALL);
-    let waits = Waits::new();
+    let waits = GateWaits::new();
     let fabric = SlowFabric::new(rt, alloc, memory(rt, alloc), &waits);
     let told = ran(rt, alloc, plan, fabric, &waits.gate);
     assert!(rt; waits.sends.load(Ordering::SeqCst) == 1);
@@ -57,6 +57,6 @@ fn assert_worker_goes_on<R: Abort + Threads + Wait + Sync>(rt: &R, alloc: Global
 // A send of connection 1 waits until the worker calls the gate again. A worker that sends by itself never
 // does.
 #[test]
-fn a_worker_goes_on_while_a_frame_is_sent(rt: HostRuntime) {
-    assert_worker_goes_on(&rt, rt.alloc());
+fn a_worker_continues_while_a_frame_is_sent(rt: HostRuntime) {
+    assert_worker_continues(&rt, rt.alloc());
 }

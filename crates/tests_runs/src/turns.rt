@@ -2,7 +2,7 @@
 
 use crate::discard;
 use crate::gates::NotingGate;
-use crate::prepared::{Prepared, PreparedFabric};
+use crate::prepared::{PreparedEnd, PreparedFabric};
 use crate::runs::{plan_of, ran};
 use crate::streams::{hello_of, push_request};
 use crate::threads::memory;
@@ -20,7 +20,7 @@ const TWO_CALLS: &str =
 
 // Whether between two calls for a connection there is one for the other, unless there are no more for that
 // one.
-fn stands_once(conns: &[u32], one: u32, other: u32) -> bool {
+fn alternates(conns: &[u32], one: u32, other: u32) -> bool {
     let mut began = false;
     let mut between = 0_u64;
     let mut is_left = false;
@@ -43,7 +43,7 @@ fn stands_once(conns: &[u32], one: u32, other: u32) -> bool {
 fn take_turns(conns: &[u32]) -> bool {
     for one in 1..5 {
         for other in 1..5 {
-            if one != other && !stands_once(conns, one, other) {
+            if one != other && !alternates(conns, one, other) {
                 return false;
             }
         }
@@ -72,12 +72,12 @@ const WEIGHTED: &str =
     {conn = 2, role = \"echo\"}]\nlink = [{a = 1, b = 2}]\n";
 
 // A hello, followed by this number of requests.
-fn requests(rt: &impl Abort, alloc: Global, hello: &[u8], count: u32) -> Prepared {
+fn requests(rt: &impl Abort, alloc: Global, hello: &[u8], count: u32) -> PreparedEnd {
     let mut bytes = hello.to_vec(alloc).expect(rt, "memory");
     for number in 0..count {
         push_request(rt, alloc, &mut bytes, number + 1, b"\x08\x07");
     }
-    Prepared::giving(alloc, bytes)
+    PreparedEnd::giving(alloc, bytes)
 }
 
 fn assert_weights<R: Abort + Threads + Wait + Sync>(rt: &R, alloc: Global) {

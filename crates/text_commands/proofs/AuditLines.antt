@@ -4,11 +4,11 @@ use Rattle.std.proofs.lemmas.List.Concat.{flat_map-cons}
 use Rattle.mrpc_table.specs.Text.{spaced}
 use Rattle.mrpc_table.specs.declared.table.Table.{Table}
 use Rattle.policy_declarations.specs.Declarations.{Declared}
-use Rattle.audit_text.specs.Lines.{audit, audit_line, happening_words, standing_words}
+use Rattle.audit_text.specs.Lines.{audit, audit_line, happening_words, stands_words}
 use Rattle.call_history.specs.Legal.{History}
 use Rattle.audit_rules.specs.declared.rule.Rule.{Rule}
-use Rattle.audit_check.specs.Checking.{StandsLine, Tells, IsChecked, IsJudged, IsFirstBad, line_of, lines_of}
-use Rattle.audit_check.specs.Checking.IsJudged.{legal, broken, open_end, misplaced, missing}
+use Rattle.audit_check.specs.Checking.{StandsLine, IsAuditOf, IsCheckOfText, IsCheckOfHistory, IsFirstInvalidAuditLine, bytes_of_stands, bytes_of_all_stands}
+use Rattle.audit_check.specs.Checking.IsCheckOfHistory.{legal, broken, open_end, misplaced, missing}
 use Rattle.audit_check.specs.declared.checked.Checked.TheVariants.{Legal, Illegal}
 
 -- each line has its line feed
@@ -24,15 +24,15 @@ some_line : (words : List (List ℕ)) → 0 < length (spaced words ++ 10 ∷ [])
 some_line words = omega (arith, length-append (spaced words) (10 ∷ []))
 
 lines_long : (T : Table) (d : Declared) (text : List ℕ) (h : History) (stands : List StandsLine)
-    → Tells T d text h stands → length h + length stands ≤ length text
+    → IsAuditOf T d text h stands → length h + length stands ≤ length text
 lines_long T d text h stands tells =
     let happenings = flat_long (audit_line T) (λ x. some_line (happening_words T x.conn x.what)) h in
-    let calls = flat_long line_of (λ s. some_line (standing_words s.conn s.seq s.position s.name s.holding)) stands in
+    let calls = flat_long bytes_of_stands (λ s. some_line (stands_words s.conn s.seq s.position s.name s.holding)) stands in
     let whole = ap length tells.is_text in
-    let parts = length-append (audit T h) (lines_of stands) in
+    let parts = length-append (audit T h) (bytes_of_all_stands stands) in
     omega (arith, happenings, calls, whole, parts)
 
-pub bad_near : (T : Table) (d : Declared) (text : List ℕ) (line : ℕ) → IsFirstBad T d text line → line ≤ length text + 1
+pub bad_near : (T : Table) (d : Declared) (text : List ℕ) (line : ℕ) → IsFirstInvalidAuditLine T d text line → line ≤ length text + 1
 bad_near T d text line bad =
     let front = lines_long T d bad.front bad.history bad.stands bad.before in
     let whole = ap length bad.is_text ∙ length-append bad.front bad.rest in
@@ -45,7 +45,7 @@ never_legal : (line happenings calls : ℕ) (rule : Rule) → Illegal line rule 
 never_legal line happenings calls rule e = absurd cc
 
 judged_near : (T : Table) (limit : ℕ) (h : History) (stands : List StandsLine) (line : ℕ) (rule : Rule)
-    → IsJudged T limit h stands (Illegal line rule) → line ≤ length h + length stands + 1
+    → IsCheckOfHistory T limit h stands (Illegal line rule) → line ≤ length h + length stands + 1
 judged_near T limit h stands line rule (legal whole told e) =
     absurd (never_legal line (length h) (length stands) rule e)
 judged_near T limit h stands line rule (broken before after x first whole prefixes breaks e) =
@@ -63,7 +63,7 @@ judged_near T limit h stands line rule (missing whole some may not e) =
     omega (arith, at)
 
 pub illegal_near : (T : Table) (d : Declared) (limit : ℕ) (text : List ℕ) (line : ℕ) (rule : Rule)
-    → IsChecked T d limit text (Illegal line rule) → line ≤ length text + 1
+    → IsCheckOfText T d limit text (Illegal line rule) → line ≤ length text + 1
 illegal_near T d limit text line rule checked =
     let all = lines_long T d text checked.history checked.stands checked.tells in
     omega (arith, all, judged_near T limit checked.history checked.stands line rule checked.judged)

@@ -2,25 +2,25 @@
 use Rattle.std.proofs.Common.{ℕ, ◌+◌, ◌<◌, List, length, inl, inr, arith}
 use Rattle.std.specs.Prelude.{codes}
 use Rattle.mrpc_table.specs.declared.table.Table.{Table}
-use Rattle.proto_set.specs.Bundle.{File as PackedFile, IsBundle, Spells}
+use Rattle.proto_set.specs.Bundle.{BundledFile as PackedFile, IsBundle, IsBundleOf}
 use Rattle.proto_grammar.specs.Reason.{proto_word}
 use Rattle.schema_validation.specs.Reason.{resolve_word}
 use Rattle.schema_files.specs.Reason.{files_word}
-use Rattle.schema_files.specs.Resolving.{IsFirstFault}
+use Rattle.schema_files.specs.Resolving.{IsFirstFilesFault}
 use Rattle.schema_files.specs.declared.fault.FilesFault.{FilesFault}
 use Rattle.schema_files.specs.declared.fault.FilesFault.TheVariants as files_fault
-use Rattle.text_commands.specs.Checking.{ChecksAs, IsCheckFault}
-use Rattle.text_commands.specs.Checking.ChecksAs.{a_file, a_set}
+use Rattle.text_commands.specs.Checking.{HasDeclaredTable, IsCheckFault}
+use Rattle.text_commands.specs.Checking.HasDeclaredTable.{a_file, a_set}
 use Rattle.text_commands.specs.Checking.IsCheckFault.{unread, unresolved, no_such_file, wrong_path, in_set}
 use Rattle.text_commands.specs.Laws.{FileLaw, SetLaw}
-use Rattle.text_commands.specs.declared.check.Spot.{Spot}
-use Rattle.text_commands.specs.declared.check.Spot.TheVariants.{Line, InFile, OfFile}
+use Rattle.text_commands.specs.declared.check.FaultLocation.{FaultLocation}
+use Rattle.text_commands.specs.declared.check.FaultLocation.TheVariants.{Line, InFile, OfFile}
 
 abbrev HasNoTable : List ℕ → Type 0
-HasNoTable text = (T : Table) → ChecksAs text T → ⊥
+HasNoTable text = (T : Table) → HasDeclaredTable text T → ⊥
 
 abbrev HasNoFault : List ℕ → Type 0
-HasNoFault text = (spot : Spot) (word : List ℕ) → IsCheckFault text spot word → ⊥
+HasNoFault text = (spot : FaultLocation) (word : List ℕ) → IsCheckFault text spot word → ⊥
 
 file_neither : FileLaw → (text : List ℕ) → (IsBundle text → ⊥) → HasNoTable text → HasNoFault text → ⊥
 file_neither law text alone no_table no_fault =
@@ -31,8 +31,8 @@ file_neither law text alone no_table no_fault =
       | inr e ↦ no_fault (Line e.1.line) (proto_word e.0) (unread e.0 e.1 alone e.2)
     ]
 
-first_broken : (text : List ℕ) (files : List PackedFile) → IsBundle text → Spells text files → HasNoFault text
-    → (e : FilesFault) → IsFirstFault files e → ⊥
+first_broken : (text : List ℕ) (files : List PackedFile) → IsBundle text → IsBundleOf text files → HasNoFault text
+    → (e : FilesFault) → IsFirstFilesFault files e → ⊥
 first_broken text files set are no_fault (files_fault.Path i) stands =
     no_fault (OfFile (i + 1)) (codes "Path") (wrong_path files i set are stands)
 first_broken text files set are no_fault (files_fault.At i l q) stands =

@@ -4,24 +4,24 @@ use Rattle.std.specs.Prelude.{All, IfErr, IfOk}
 use Rattle.std.specs.Io.KnownBytes.{Appends}
 use Rattle.std.proofs.lemmas.List.Elements.{All-drop}
 use Rattle.mrpc_table.specs.declared.table.Table.{Table}
-use Rattle.text_commands.specs.DecodeInput.{Holds, OnFault}
-use Rattle.text_commands.specs.Decoded.{CutsText, DecodesText}
-use Rattle.text_commands.specs.Decoded.CutsText.{in_stream}
+use Rattle.text_commands.specs.DecodeInput.{IsInputOf, OnFault}
+use Rattle.text_commands.specs.Decoded.{HasDecodedToFault, HasDecodedText}
+use Rattle.text_commands.specs.Decoded.HasDecodedToFault.{in_stream}
 use Rattle.text_commands.specs.Decoding.{IsCutAt}
-use Rattle.text_commands.specs.FaultLines.{WritesFront, fault_line}
+use Rattle.text_commands.specs.FaultLines.{HasWrittenPrefix, fault_line}
 use Rattle.text_commands.specs.Laws.{MeaningLaw}
-use Rattle.text_commands.specs.Stopping.{EndsEarly}
-use Rattle.text_commands.specs.Stopping.EndsEarly.{in_refusal, in_work}
-use Rattle.text_commands.specs.Telling.{IsAllTold, Tells, TellsEarly}
-use Rattle.text_commands.specs.declared.decoding.Cut.{Cut}
-use Rattle.text_commands.specs.declared.decoding.Cut.TheVariants.{Fault, Memory as NoMemory, Out}
+use Rattle.text_commands.specs.Stopping.{HasEndedEarly}
+use Rattle.text_commands.specs.Stopping.HasEndedEarly.{in_rejection, in_work}
+use Rattle.text_commands.specs.LineRanges.{AreAllLines, AreLinesBetween, HasDecodedPrefix}
+use Rattle.text_commands.specs.declared.decoding.DecodeError.{DecodeError}
+use Rattle.text_commands.specs.declared.decoding.DecodeError.TheVariants.{Fault, Memory as NoMemory, Out}
 use Rattle.text_commands.proofs.DecodeNeither.{told_or_cut_from}
 use Rattle.text_commands.proofs.Decodings.{cut_behind, lines-append, splits_more, tells_more}
 use Rattle.text_commands.proofs.Fronts.{front-behind, front-on, front-whole}
 
 -- the lines of the frames before an offset, followed by some text, are all lines of the stream
 all_from : MeaningLaw → (T : Table) (stream : List ℕ) (mid : ℕ) (text : List ℕ) → All (λ byte. byte < 256) stream
-    → Tells T stream 0 mid text → (more : List ℕ) × IsAllTold T stream (text ++ more)
+    → AreLinesBetween T stream 0 mid text → (more : List ℕ) × AreAllLines T stream (text ++ more)
 all_from law T stream mid text bytes x =
     elim (told_or_cut_from law T mid (drop mid stream) (All-drop (λ byte. byte < 256) mid stream bytes)) [
       | inl d ↦ (
@@ -37,7 +37,7 @@ all_from law T stream mid text bytes x =
 
 -- if these lines were written, a prefix of all lines was
 pub told_early : MeaningLaw → (T : Table) (stream : List ℕ) (mid : ℕ) (text : List ℕ) (out out' : Option (List ℕ))
-    → All (λ byte. byte < 256) stream → Tells T stream 0 mid text → Appends out out' text → TellsEarly T stream out out'
+    → All (λ byte. byte < 256) stream → AreLinesBetween T stream 0 mid text → Appends out out' text → HasDecodedPrefix T stream out out'
 told_early law T stream mid text out out' bytes x a =
     let all = all_from law T stream mid text bytes x in
     record {
@@ -48,12 +48,12 @@ told_early law T stream mid text out out' bytes x a =
 
 -- also if a prefix of the next lines was written after them
 pub piece_early : MeaningLaw → (T : Table) (stream : List ℕ) (mid : ℕ) (text old lines : List ℕ)
-    (told : Result ℕ Cut) (out between out' : Option (List ℕ)) → All (λ byte. byte < 256) stream → Tells T stream 0 mid text
-    → old ≡ [] → IfOk told (λ to. (piece : List ℕ) × (lines ≡ old ++ piece) × Tells T stream mid to piece)
+    (told : Result ℕ DecodeError) (out between out' : Option (List ℕ)) → All (λ byte. byte < 256) stream → AreLinesBetween T stream 0 mid text
+    → old ≡ [] → IfOk told (λ to. (piece : List ℕ) × (lines ≡ old ++ piece) × AreLinesBetween T stream mid to piece)
     → IfErr told (OnFault (λ place word. (piece : List ℕ) × (lines ≡ old ++ piece)
     × IsCutAt T mid (drop mid stream) piece place word))
-    → told ≢ Err NoMemory → told ≢ Err Out → Appends out between text → WritesFront between out' lines
-    → TellsEarly T stream out out'
+    → told ≢ Err NoMemory → told ≢ Err Out → Appends out between text → HasWrittenPrefix between out' lines
+    → HasDecodedPrefix T stream out out'
 piece_early law T stream mid text old lines (Ok to) out between out' bytes x none ok cut memory failed a w =
     let same : lines ≡ ok.0 = ok.1 ∙ ap (λ (bs : List ℕ). bs ++ ok.0) none in
     let all = all_from law T stream to (text ++ ok.0) bytes (tells_more law.frames T stream 0 mid to text ok.0 x ok.2) in
@@ -61,14 +61,14 @@ piece_early law T stream mid text old lines (Ok to) out between out' bytes x non
       lines = (text ++ ok.0) ++ all.0;
       all_told = all.1;
       written = front-on out out' (text ++ ok.0) all.0
-          (front-behind out between out' text ok.0 a (subst (WritesFront between out') same w));
+          (front-behind out between out' text ok.0 a (subst (HasWrittenPrefix between out') same w));
     }
 piece_early law T stream mid text old lines (Err (Fault place word)) out between out' bytes x none ok cut memory failed a w =
     let same : lines ≡ cut.0 = cut.1 ∙ ap (λ (bs : List ℕ). bs ++ cut.0) none in
     record {
       lines = text ++ cut.0;
       all_told = inr (place, word.now, cut_behind law.frames T stream 0 mid text cut.0 place word.now x cut.2);
-      written = front-behind out between out' text cut.0 a (subst (WritesFront between out') same w);
+      written = front-behind out between out' text cut.0 a (subst (HasWrittenPrefix between out') same w);
     }
 piece_early law T stream mid text old lines (Err NoMemory) out between out' bytes x none ok cut memory failed a w =
     absurd (memory refl)
@@ -76,14 +76,14 @@ piece_early law T stream mid text old lines (Err Out) out between out' bytes x n
     absurd (failed refl)
 
 -- a prefix of all lines of a stream is a prefix of what is written for its text
-pub decoded_early : (text stream : List ℕ) (T : Table) (out out' : Option (List ℕ)) → Holds text T stream
-    → TellsEarly T stream out out' → EndsEarly (DecodesText text) (CutsText text) out out'
+pub decoded_early : (text stream : List ℕ) (T : Table) (out out' : Option (List ℕ)) → IsInputOf text T stream
+    → HasDecodedPrefix T stream out out' → HasEndedEarly (HasDecodedText text) (HasDecodedToFault text) out out'
 decoded_early text stream T out out' holds t =
     elim t.all_told [
       | inl decoded ↦ in_work t.lines
           (record { table = T; stream = stream; holds = holds; lines = t.lines; decoded = decoded; written = refl })
           t.written
-      | inr cut ↦ in_refusal (t.lines ++ fault_line cut.0 cut.1) (in_stream T stream t.lines cut.0 cut.1 holds cut.2 refl)
+      | inr cut ↦ in_rejection (t.lines ++ fault_line cut.0 cut.1) (in_stream T stream t.lines cut.0 cut.1 holds cut.2 refl)
           (front-on out out' t.lines (fault_line cut.0 cut.1) t.written)
     ]
 

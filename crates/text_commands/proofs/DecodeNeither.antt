@@ -7,23 +7,23 @@ use Rattle.std.proofs.lemmas.List.Elements.{All-cons, All-head, All-nil, All-tai
 use Rattle.mrpc_table.specs.Lines.{line_count}
 use Rattle.mrpc_table.specs.Text.{table_text}
 use Rattle.mrpc_table.specs.declared.table.Table.{Table}
-use Rattle.table_text.specs.Faults.{IsFirstFault as IsTableFault}
-use Rattle.table_text.specs.Reason.{reason_word as table_word}
-use Rattle.table_text.specs.TableText.{HasTableBehind, IsEndless, IsTableBehind}
+use Rattle.table_text.specs.Faults.{IsFirstTableFault as IsTableFault}
+use Rattle.table_text.specs.Reason.{table_reason_word as table_word}
+use Rattle.table_text.specs.TableText.{HasTableAfter, IsEndless, IsTableAfter}
 use Rattle.table_text.specs.declared.fault.TableReason.{TableReason}
-use Rattle.frame_transport.specs.Frames.{IsFrame, bytes_of, joined, StandFrom, IsFaultAt, long, no_kind, no_version, Splits, Ends}
+use Rattle.frame_transport.specs.Frames.{IsFrame, bytes_of_frame, concat_frames, AreConsecutiveFrom, IsFaultAt, long, no_kind, no_version, IsSplitOf, HasFaultSoFar}
 use Rattle.frame_transport.specs.declared.format.Frame.{Frame}
 use Rattle.frame_transport.specs.declared.format.TheConstants.{HEADER_LEN, HELLO, METHOD_PLACE}
 use Rattle.frame_transport.specs.declared.fault.FeedFault.{FeedFault}
 use Rattle.frame_transport.specs.declared.fault.FeedFault.TheVariants.{Version, Kind, TooLong, Memory}
 use Rattle.wire_base.specs.Encoding.{encoding}
-use Rattle.wire_decode.specs.Reason.{reason_word}
-use Rattle.text_commands.specs.DecodeInput.{Holds, IsTextFault, first_line, second_line, head}
-use Rattle.text_commands.specs.DecodeInput.IsTextFault.{no_first_line, no_second_line, in_table, no_end}
-use Rattle.text_commands.specs.Decoding.{hello_line, call_line, IsLineOf, AreLinesOf, IsFaultIn, IsFaultOfHeader, StandInFront, IsDecoded, IsCutAt}
-use Rattle.frame_transport.specs.Messages.{message_in}
-use Rattle.text_commands.specs.Decoding.IsLineOf.{line_of_hello, line_of_call}
-use Rattle.text_commands.specs.Decoding.IsFaultIn.{no_method, in_payload}
+use Rattle.wire_decode.specs.Reason.{decode_reason_word}
+use Rattle.text_commands.specs.DecodeInput.{IsInputOf, IsInputTextFault, decode_header, table_keyword, decode_preamble}
+use Rattle.text_commands.specs.DecodeInput.IsInputTextFault.{no_first_line, no_second_line, in_table, no_end}
+use Rattle.text_commands.specs.Decoding.{hello_line, call_line, IsLineOfFrame, AreLinesOf, IsFaultOfFrame, IsFaultOfHeader, AreFirstFrames, IsDecoded, IsCutAt}
+use Rattle.frame_transport.specs.Messages.{payload_message}
+use Rattle.text_commands.specs.Decoding.IsLineOfFrame.{line_of_hello, line_of_call}
+use Rattle.text_commands.specs.Decoding.IsFaultOfFrame.{no_method, in_payload}
 use Rattle.text_commands.specs.Decoding.IsCutAt.{in_frame, in_header, in_short_frame}
 use Rattle.text_commands.specs.Laws.{TextLaw, MeaningLaw}
 use Rattle.text_commands.proofs.Decodings.{joined-append}
@@ -54,18 +54,18 @@ begins_or_not (x ∷ xs) (y ∷ ys) =
         none rest tail)
 
 abbrev IsHeldOrFaulty : List ℕ → Type 0
-IsHeldOrFaulty text = ((T : Table) × (stream : List ℕ) × Holds text T stream)
-    ⊎ ((line : ℕ) × (word : List ℕ) × IsTextFault text line word)
+IsHeldOrFaulty text = ((T : Table) × (stream : List ℕ) × IsInputOf text T stream)
+    ⊎ ((line : ℕ) × (word : List ℕ) × IsInputTextFault text line word)
 
 -- what follows the first two lines
-table_behind : TextLaw → (text body : List ℕ) → text ≡ head ++ body
-    → ((table : List ℕ) × (rest : List ℕ) × HasTableBehind head text table rest) ⊎ IsEndless head text body
+table_behind : TextLaw → (text body : List ℕ) → text ≡ decode_preamble ++ body
+    → ((table : List ℕ) × (rest : List ℕ) × HasTableAfter decode_preamble text table rest) ⊎ IsEndless decode_preamble text body
 table_behind law text body e =
-    subst (λ (t : List ℕ). ((table : List ℕ) × (rest : List ℕ) × HasTableBehind head t table rest) ⊎ IsEndless head t body)
-    (sym e) (law.some_behind head body)
+    subst (λ (t : List ℕ). ((table : List ℕ) × (rest : List ℕ) × HasTableAfter decode_preamble t table rest) ⊎ IsEndless decode_preamble t body)
+    (sym e) (law.table_or_endless decode_preamble body)
 
-table_fault : (text table : List ℕ) (at : ℕ) (reason : TableReason) → IsTableBehind head text table
-    → IsTableFault table at reason → IsTextFault text (at + 2) (table_word reason)
+table_fault : (text table : List ℕ) (at : ℕ) (reason : TableReason) → IsTableAfter decode_preamble text table
+    → IsTableFault table at reason → IsInputTextFault text (at + 2) (table_word reason)
 table_fault text table at reason behind first = in_table table behind (record {
   at = at;
   reason = reason;
@@ -74,44 +74,44 @@ table_fault text table at reason behind first = in_table table behind (record {
   word_is = refl;
 })
 
-held_of_table : TextLaw → (text table rest : List ℕ) → HasTableBehind head text table rest → IsHeldOrFaulty text
+held_of_table : TextLaw → (text table rest : List ℕ) → HasTableAfter decode_preamble text table rest → IsHeldOrFaulty text
 held_of_table law text table rest has =
     elim (law.table_or_fault table) [
       | inl t ↦
-          let parts : HasTableBehind head text (table_text t.0) rest =
-          subst (λ (x : List ℕ). HasTableBehind head text x rest) t.2 has in
+          let parts : HasTableAfter decode_preamble text (table_text t.0) rest =
+          subst (λ (x : List ℕ). HasTableAfter decode_preamble text x rest) t.2 has in
           inl (t.0, rest, record { valid = t.1; parts = parts })
       | inr e ↦ inr (e.0 + 2, table_word e.1, table_fault text table e.0 e.1 (inl (rest, has)) e.2)
     ]
 
-fault_of_endless : TextLaw → (text table : List ℕ) → IsEndless head text table → IsHeldOrFaulty text
+fault_of_endless : TextLaw → (text table : List ℕ) → IsEndless decode_preamble text table → IsHeldOrFaulty text
 fault_of_endless law text table is =
     elim (law.table_or_fault table) [
       | inl t ↦
-          let endless : IsEndless head text (table_text t.0) = subst (λ (x : List ℕ). IsEndless head text x) t.2 is in
+          let endless : IsEndless decode_preamble text (table_text t.0) = subst (λ (x : List ℕ). IsEndless decode_preamble text x) t.2 is in
           inr (line_count text + 1, codes "Word", no_end t.0 t.1 endless refl refl)
       | inr e ↦ inr (e.0 + 2, table_word e.1, table_fault text table e.0 e.1 (inr is) e.2)
     ]
 
-behind_head : TextLaw → (text body : List ℕ) → text ≡ head ++ body → IsHeldOrFaulty text
+behind_head : TextLaw → (text body : List ℕ) → text ≡ decode_preamble ++ body → IsHeldOrFaulty text
 behind_head law text body e =
     elim (table_behind law text body e) [
       | inl has ↦ held_of_table law text has.0 has.1 has.2
       | inr is ↦ fault_of_endless law text body is
     ]
 
-behind_first_line : TextLaw → (text rest : List ℕ) → text ≡ first_line ++ rest → IsHeldOrFaulty text
+behind_first_line : TextLaw → (text rest : List ℕ) → text ≡ decode_header ++ rest → IsHeldOrFaulty text
 behind_first_line law text rest first =
-    elim (begins_or_not second_line rest) [
+    elim (begins_or_not table_keyword rest) [
       | inl second ↦
           behind_head law text second.0
-          (first ∙ ap (λ (t : List ℕ). first_line ++ t) second.1)
+          (first ∙ ap (λ (t : List ℕ). decode_header ++ t) second.1)
       | inr none ↦ inr (2, codes "Word", no_second_line rest first none refl refl)
     ]
 
 pub held_or_faulty : TextLaw → (text : List ℕ) → IsHeldOrFaulty text
 held_or_faulty law text =
-    elim (begins_or_not first_line text) [
+    elim (begins_or_not decode_header text) [
       | inl first ↦ behind_first_line law text first.0 first.1
       | inr none ↦ inr (1, codes "Header", no_first_line none refl refl)
     ]
@@ -119,13 +119,13 @@ held_or_faulty law text =
 -- ---- the frames
 
 abbrev HasLineOrFault : Table → Frame → Type 0
-HasLineOrFault T f = ((line : List ℕ) × IsLineOf T f line) ⊎ ((place : ℕ) × (word : List ℕ) × IsFaultIn T f place word)
+HasLineOrFault T f = ((line : List ℕ) × IsLineOfFrame T f line) ⊎ ((place : ℕ) × (word : List ℕ) × IsFaultOfFrame T f place word)
 
 call_line_or_fault : MeaningLaw → (T : Table) (f : Frame) → f.kind ≢ HELLO → f.method < length T.methods → HasLineOrFault T f
 call_line_or_fault law T f call known =
-    elim (law.either T (message_in T f) f.payload) [
-      | inl t ↦ inl (call_line f (encoding T (message_in T f) t.0), line_of_call t.0 call known t.1 refl)
-      | inr e ↦ inr (f.place + HEADER_LEN + e.1, reason_word e.0, in_payload e.0 e.1 call known e.2 refl refl)
+    elim (law.either T (payload_message T f) f.payload) [
+      | inl t ↦ inl (call_line f (encoding T (payload_message T f) t.0), line_of_call t.0 call known t.1 refl)
+      | inr e ↦ inr (f.place + HEADER_LEN + e.1, decode_reason_word e.0, in_payload e.0 e.1 call known e.2 refl refl)
     ]
 
 line_or_fault : MeaningLaw → (T : Table) (f : Frame) → HasLineOrFault T f
@@ -148,9 +148,9 @@ record FirstFaulty (T : Table) (fs : List Frame) : Type 0 where
   lines : AreLinesOf T before text
   place : ℕ
   word : List ℕ
-  fault : IsFaultIn T frame place word
+  fault : IsFaultOfFrame T frame place word
 
-lines_on : (T : Table) (f : Frame) (fs : List Frame) (line : List ℕ) → IsLineOf T f line
+lines_on : (T : Table) (f : Frame) (fs : List Frame) (line : List ℕ) → IsLineOfFrame T f line
     → ((text : List ℕ) × AreLinesOf T fs text) ⊎ FirstFaulty T fs
     → ((text : List ℕ) × AreLinesOf T (f ∷ fs) text) ⊎ FirstFaulty T (f ∷ fs)
 lines_on T f fs line is (inl (text, lines)) = inl (line ++ text, (line, text, is, lines, refl))
@@ -194,16 +194,16 @@ front_each (g ∷ gs) f others h =
     All-cons IsFrame g (gs ++ f ∷ []) (All-head IsFrame g (gs ++ f ∷ others) h)
     (front_each gs f others (All-tail IsFrame g (gs ++ f ∷ others) h))
 
-front_places : (start : ℕ) (before : List Frame) (f : Frame) (others : List Frame) → StandFrom start (before ++ f ∷ others)
-    → StandFrom start (before ++ f ∷ [])
+front_places : (start : ℕ) (before : List Frame) (f : Frame) (others : List Frame) → AreConsecutiveFrom start (before ++ f ∷ others)
+    → AreConsecutiveFrom start (before ++ f ∷ [])
 front_places start [] f others h = (h.0, tt)
-front_places start (g ∷ gs) f others h = (h.0, front_places (start + length (bytes_of g)) gs f others h.1)
+front_places start (g ∷ gs) f others h = (h.0, front_places (start + length (bytes_of_frame g)) gs f others h.1)
 
 front_of : (start : ℕ) (stream : List ℕ) (before : List Frame) (f : Frame) (others : List Frame) (rest : List ℕ)
-    → Splits start stream (before ++ f ∷ others) rest → StandInFront start stream (before ++ f ∷ [])
+    → IsSplitOf start stream (before ++ f ∷ others) rest → AreFirstFrames start stream (before ++ f ∷ [])
 front_of start stream before f others rest s = record {
-  more = joined others ++ rest;
-  whole = s.whole ∙ ap (λ (fs : List Frame). joined fs ++ rest) (sym (append_assoc before (f ∷ []) others))
+  more = concat_frames others ++ rest;
+  whole = s.whole ∙ ap (λ (fs : List Frame). concat_frames fs ++ rest) (sym (append_assoc before (f ∷ []) others))
       ∙ joined-append (before ++ f ∷ []) others rest;
   each = front_each before f others s.each;
   places = front_places start before f others s.places;
@@ -212,7 +212,7 @@ front_of start stream before f others rest s = record {
 -- the stream, whose first byte has this offset, is frames to its end, and the text is their lines
 pub record IsDecodedFrom (T : Table) (start : ℕ) (stream text : List ℕ) : Type 0 where
   pub frames : List Frame
-  pub splits : Splits start stream frames []
+  pub splits : IsSplitOf start stream frames []
   pub lines : AreLinesOf T frames text
 
 abbrev pub IsToldOrCut : Table → ℕ → List ℕ → Type 0
@@ -236,29 +236,29 @@ empty_or_not [] = inl refl
 empty_or_not (x ∷ xs) = inr (λ e. cc)
 
 -- if each whole frame has a line
-told_to_end : (T : Table) (start : ℕ) (stream : List ℕ) (fault : Option FeedFault) (e : Ends start stream fault) (text : List ℕ)
+told_to_end : (T : Table) (start : ℕ) (stream : List ℕ) (fault : Option FeedFault) (e : HasFaultSoFar start stream fault) (text : List ℕ)
     → AreLinesOf T e.frames text → IsToldOrCut T start stream
 told_to_end T start stream (Some fault) e text lines =
-    let header = header_word (start + length (joined e.frames)) e.rest fault e.first in
+    let header = header_word (start + length (concat_frames e.frames)) e.rest fault e.first in
     inr (text, header.0, header.1, in_header e.frames e.rest fault e.splits lines e.first header.2)
 told_to_end T start stream None e text lines =
     elim (empty_or_not e.rest) [
       | inl none ↦
-          let splits : Splits start stream e.frames [] = subst (λ (r : List ℕ). Splits start stream e.frames r) none e.splits in
+          let splits : IsSplitOf start stream e.frames [] = subst (λ (r : List ℕ). IsSplitOf start stream e.frames r) none e.splits in
           inl (text, record { frames = e.frames; splits = splits; lines = lines })
       | inr some ↦ inr (
         text,
-        start + length (joined e.frames),
+        start + length (concat_frames e.frames),
         codes "Short",
         in_short_frame e.frames e.rest e.splits lines e.first some refl refl,
       )
     ]
 
-cut_in_front : (T : Table) (start : ℕ) (stream : List ℕ) (fs : List Frame) (rest : List ℕ) → Splits start stream fs rest → FirstFaulty T fs
+cut_in_front : (T : Table) (start : ℕ) (stream : List ℕ) (fs : List Frame) (rest : List ℕ) → IsSplitOf start stream fs rest → FirstFaulty T fs
     → IsToldOrCut T start stream
 cut_in_front T start stream fs rest s u =
-    let splits : Splits start stream (u.before ++ u.frame ∷ u.others) rest =
-    subst (λ (gs : List Frame). Splits start stream gs rest) u.whole s in
+    let splits : IsSplitOf start stream (u.before ++ u.frame ∷ u.others) rest =
+    subst (λ (gs : List Frame). IsSplitOf start stream gs rest) u.whole s in
     inr (
       u.text,
       u.place,

@@ -10,5 +10,5 @@ abbrev pub fault_line : ℕ → List ℕ → List ℕ
 fault_line place word = line_of_fault (decimal place) word
 
 -- a prefix of a text was written
-abbrev pub WritesFront : Option (List ℕ) → Option (List ℕ) → List ℕ → Type 0
-WritesFront out out' text = (many : ℕ) × Appends out out' (take many text)
+abbrev pub HasWrittenPrefix : Option (List ℕ) → Option (List ℕ) → List ℕ → Type 0
+HasWrittenPrefix out out' text = (many : ℕ) × Appends out out' (take many text)

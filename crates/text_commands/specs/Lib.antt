@@ -6,4 +6,4 @@ pub mod Decoding
 pub mod FaultLines
 pub mod Laws
 pub mod Stopping
-pub mod Telling
+pub mod LineRanges

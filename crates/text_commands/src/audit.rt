@@ -1,21 +1,21 @@
 //! Checks an audit: prints whether its history is legal, or the first fault of the input.
 
 ghost use Rattle.std.specs.Prelude.{◌≡◌, ◌≢◌, ◌≤◌, ◌⊎◌, ◌++◌, List, ℕ, length, IfOk, IfErr, OnOk};
-ghost use Rattle.mrpc_base.specs.Faults.{HasCause};
+ghost use Rattle.mrpc_base.specs.Failures.{HasCause};
 ghost use Rattle.mrpc_table.specs.Valid.{IsValid};
-ghost use Rattle.policy_declarations.specs.Declarations.{IsSound};
-ghost use Rattle.audit_check.specs.Inputs.{Says};
-ghost use Rattle.text_commands.specs.Auditing.{AuditsText, IsAnswer, IsAuditFault, IsFailureOf, IsNear, RefusesAudit, answer_line, rule_word};
-ghost use Rattle.text_commands.specs.Stopping.{EndsEarly};
+ghost use Rattle.policy_declarations.specs.Declarations.{AreValidDeclarations};
+ghost use Rattle.audit_check.specs.Inputs.{IsAuditInput};
+ghost use Rattle.text_commands.specs.Auditing.{HasAuditedText, IsAuditAnswer, IsAuditFault, IsFailureOf, HasSmallLineNumber, HasRejectedAudit, answer_line, rule_word};
+ghost use Rattle.text_commands.specs.Stopping.{HasEndedEarly};
 
 use crate::discard;
-use crate::laws::{audit_law, near_law};
-use crate::refusal::refuse;
+use crate::fault_line::write_fault;
+use crate::laws::{audit_law, line_number_law};
 use crate::status::{DONE, FAULTY_INPUT, INPUT_FAILED, NO_COMMAND, NO_MEMORY, OUTPUT_FAILED};
 use audit_check::{AuditInput, Checked, check_audit, read_audit_input};
 use audit_rules::Rule;
 use audit_text::AuditFault;
-use mrpc_base::{INPUT_LIMIT, Sink, write_all};
+use mrpc_base::{MAX_INPUT, Sink, write_all};
 use mrpc_table::{Bytes, Memory};
 use script_grammar::ScriptFault;
 use std::alloc::Global;
@@ -41,29 +41,29 @@ impl From<Memory> for AuditFailure {
 }
 
 /// An input has one answer or one first fault, never both.
-pub fn one_audit()
-    ensures answers { (input one other : List ℕ) → IsAnswer input one → IsAnswer input other → one ≡ other }
+pub fn audit_answer_is_unique()
+    ensures answers { (input one other : List ℕ) → IsAuditAnswer input one → IsAuditAnswer input other → one ≡ other }
     ensures faults { (input word spelled : List ℕ) (line at : ℕ) → IsAuditFault input line word
         → IsAuditFault input at spelled → (line ≡ at) × (word ≡ spelled) }
-    ensures never_both { (input answer word : List ℕ) (line : ℕ) → IsAnswer input answer
+    ensures never_both { (input answer word : List ℕ) (line : ℕ) → IsAuditAnswer input answer
         → IsAuditFault input line word → ⊥ }
-    ensures never_neither { (input : List ℕ) → ((answer : List ℕ) → IsAnswer input answer → ⊥)
+    ensures never_neither { (input : List ℕ) → ((answer : List ℕ) → IsAuditAnswer input answer → ⊥)
         → ((line : ℕ) (word : List ℕ) → IsAuditFault input line word → ⊥) → ⊥ }
 {
     audit_law();
 }
 
-/// Reads an audit with its table and policies from an input of at most [`INPUT_LIMIT`] bytes. Writes whether
+/// Reads an audit with its table and policies from an input of at most [`MAX_INPUT`] bytes. Writes whether
 /// its history is legal, or the first fault of the input as one line.
 pub fn audit_to<K: Sink>(alloc: Global, text: &[u8], out: &mut K) -> u8
-    requires short { length text.now ≤ INPUT_LIMIT }
+    requires short { length text.now ≤ MAX_INPUT }
     ensures statuses { result ≤ OUTPUT_FAILED }
     ensures some { (result ≢ NO_COMMAND) × (result ≢ INPUT_FAILED) }
-    ensures done { result ≡ DONE → AuditsText text.now (K.written out.old) (K.written out.new) }
-    ensures faulty { result ≡ FAULTY_INPUT → RefusesAudit text.now (K.written out.old) (K.written out.new) }
-    ensures early { (result ≡ NO_MEMORY) ⊎ (result ≡ OUTPUT_FAILED) → EndsEarly (AuditsText text.now)
-        (RefusesAudit text.now) (K.written out.old) (K.written out.new) }
-    ensures out_cause { HasCause (result ≡ OUTPUT_FAILED) (K.faults out.old) (K.faults out.new) }
+    ensures done { result ≡ DONE → HasAuditedText text.now (K.written out.old) (K.written out.new) }
+    ensures faulty { result ≡ FAULTY_INPUT → HasRejectedAudit text.now (K.written out.old) (K.written out.new) }
+    ensures early { (result ≡ NO_MEMORY) ⊎ (result ≡ OUTPUT_FAILED) → HasEndedEarly (HasAuditedText text.now)
+        (HasRejectedAudit text.now) (K.written out.old) (K.written out.new) }
+    ensures out_cause { HasCause (result ≡ OUTPUT_FAILED) (K.failures out.old) (K.failures out.new) }
 {
     match audited_text(alloc, text) {
         Ok(answer) => {
@@ -73,20 +73,20 @@ pub fn audit_to<K: Sink>(alloc: Global, text: &[u8], out: &mut K) -> u8
                 OUTPUT_FAILED
             }
         }
-        Err(AuditFailure::At { line, word }) => refuse(alloc, line, word.as_bytes(), out),
+        Err(AuditFailure::At { line, word }) => write_fault(alloc, line, word.as_bytes(), out),
         Err(AuditFailure::Memory) => NO_MEMORY,
     }
 }
 
 // The line for an audit: whether its history is legal.
 fn audited_text(alloc: Global, input: &[u8]) -> Result<Bytes, AuditFailure>
-    requires short { length input.now ≤ INPUT_LIMIT }
-    ensures answer { IfOk result (IsAnswer input.now) }
+    requires short { length input.now ≤ MAX_INPUT }
+    ensures answer { IfOk result (IsAuditAnswer input.now) }
     ensures failure { IfErr result (IsFailureOf input.now) }
 {
     match read_audit_input(alloc, input) {
         Ok(read) => {
-            let answer = judged(alloc, &read);
+            let answer = audit_answer(alloc, &read);
             discard(read);
             answer
         }
@@ -99,20 +99,20 @@ fn audited_text(alloc: Global, input: &[u8]) -> Result<Bytes, AuditFailure>
 }
 
 // Like `audited_text`, for an input that was already read.
-fn judged(alloc: Global, read: &AuditInput<'_>) -> Result<Bytes, AuditFailure>
+fn audit_answer(alloc: Global, read: &AuditInput<'_>) -> Result<Bytes, AuditFailure>
     requires short { (input : List ℕ)
-        × Says input read.now.loads read.now.table read.now.declared read.now.text.now read.now.line
-        × (length input ≤ INPUT_LIMIT) }
+        × IsAuditInput input read.now.loads read.now.table read.now.declared read.now.text.now read.now.line
+        × (length input ≤ MAX_INPUT) }
     requires valid { IsValid read.now.table }
-    requires sound { IsSound read.now.declared }
+    requires sound { AreValidDeclarations read.now.declared }
     ensures answer { (input : List ℕ)
-        → Says input read.now.loads read.now.table read.now.declared read.now.text.now read.now.line
-        → IfOk result (IsAnswer input) }
+        → IsAuditInput input read.now.loads read.now.table read.now.declared read.now.text.now read.now.line
+        → IfOk result (IsAuditAnswer input) }
     ensures failure { (input : List ℕ)
-        → Says input read.now.loads read.now.table read.now.declared read.now.text.now read.now.line
+        → IsAuditInput input read.now.loads read.now.table read.now.declared read.now.text.now read.now.line
         → IfErr result (IsFailureOf input) }
 {
-    near_law();
+    line_number_law();
     match check_audit(alloc, &read.table, &read.declared, read.loads, read.text) {
         Ok(checked) => Ok(answer_line(alloc, read.line, checked)?),
         Err(AuditFault::Bad { line }) => Err(AuditFailure::At {
@@ -125,7 +125,7 @@ fn judged(alloc: Global, read: &AuditInput<'_>) -> Result<Bytes, AuditFailure>
 
 // The line for a text that starts after `before` lines of the input.
 fn answer_line(alloc: Global, before: u64, checked: Checked) -> Result<Bytes, Memory>
-    requires { IsNear before checked }
+    requires { HasSmallLineNumber before checked }
     ensures { IfOk result (λ line. line ≡ answer_line before checked) }
 {
     let mut line = Bytes::new(alloc);
@@ -134,7 +134,7 @@ fn answer_line(alloc: Global, before: u64, checked: Checked) -> Result<Bytes, Me
 }
 
 fn append_answer(line: &mut Bytes, before: u64, checked: Checked) -> Result<(), Memory>
-    requires { IsNear before checked }
+    requires { HasSmallLineNumber before checked }
     ensures { OnOk result (line.new ≡ line.old ++ answer_line before checked) }
 {
     match checked {

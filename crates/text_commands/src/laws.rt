@@ -1,24 +1,29 @@
 //! The laws of the crates below, as the proofs here combine them. These functions do nothing; their clauses
 //! are the laws.
 
-ghost use Rattle.text_commands.specs.Laws.{AuditLaw, FileLaw, FrameLaw, MeaningLaw, NearLaw, SetLaw, TextLaw};
+ghost use Rattle.text_commands.specs.Laws.{AuditLaw, FileLaw, FrameLaw, MeaningLaw, LineNumberLaw, SetLaw, TextLaw};
 
-use audit_check::{a_text_has_one_answer, one_input};
-use frame_transport::{frames_join, one_frame, one_split};
-use proto_schema::{alone_is_ordered, file_or_fault, one_fault as one_proto_fault, one_file};
-use proto_set::one_bundle;
-use schema_files::{one_files_fault, one_files_table, table_or_files_fault};
-use schema_resolve::{one_offence, one_table, table_or_offence};
-use table_text::{one_fault as one_table_fault, one_table_behind, one_text, table_or_fault};
-use wire_decode::{meaning_or_fault, one_fault, one_meaning};
+use audit_check::{audit_input_or_fault, check_is_deterministic};
+use frame_transport::{frame_is_unique, frames_join, split_is_unique};
+use proto_schema::{
+    alone_is_ordered, file_is_unique, file_or_fault, text_fault_is_unique as one_proto_fault,
+};
+use proto_set::bundle_or_fault;
+use schema_files::{files_fault_is_unique, files_table_is_unique, table_or_files_fault};
+use schema_resolve::{file_violation_is_unique, resolved_table_is_unique, table_or_violation};
+use table_text::{
+    table_after_is_unique, table_fault_is_unique as one_table_fault, table_or_fault,
+    table_text_is_unique,
+};
+use wire_decode::{decode_fault_is_unique, meaning_is_unique, meaning_or_fault};
 
 // Laws of a table's text within a text.
 pub(crate) fn text_law()
     ensures { TextLaw }
 {
-    one_text();
+    table_text_is_unique();
     one_table_fault();
-    one_table_behind();
+    table_after_is_unique();
     table_or_fault();
 }
 
@@ -26,8 +31,8 @@ pub(crate) fn text_law()
 pub(crate) fn frame_law()
     ensures { FrameLaw }
 {
-    one_split();
-    one_frame();
+    split_is_unique();
+    frame_is_unique();
     frames_join();
 }
 
@@ -36,8 +41,8 @@ pub(crate) fn meaning_law()
     ensures { MeaningLaw }
 {
     frame_law();
-    one_meaning();
-    one_fault();
+    meaning_is_unique();
+    decode_fault_is_unique();
     meaning_or_fault();
 }
 
@@ -45,22 +50,22 @@ pub(crate) fn meaning_law()
 pub(crate) fn file_law()
     ensures { FileLaw }
 {
-    one_file();
+    file_is_unique();
     alone_is_ordered();
     one_proto_fault();
     file_or_fault();
-    one_table();
-    one_offence();
-    table_or_offence();
+    resolved_table_is_unique();
+    file_violation_is_unique();
+    table_or_violation();
 }
 
 // Laws of sets of files and their tables.
 pub(crate) fn set_law()
     ensures { SetLaw }
 {
-    one_bundle();
-    one_files_table();
-    one_files_fault();
+    bundle_or_fault();
+    files_table_is_unique();
+    files_fault_is_unique();
     table_or_files_fault();
 }
 
@@ -68,11 +73,11 @@ pub(crate) fn set_law()
 pub(crate) fn audit_law()
     ensures { AuditLaw }
 {
-    one_input();
-    a_text_has_one_answer();
+    audit_input_or_fault();
+    check_is_deterministic();
 }
 
 // Laws of the line numbers that a check of an audit reports.
-pub(crate) fn near_law()
-    ensures { NearLaw }
+pub(crate) fn line_number_law()
+    ensures { LineNumberLaw }
 {}

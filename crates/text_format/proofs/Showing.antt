@@ -8,9 +8,9 @@ use Rattle.mrpc_table.specs.declared.table.Kind.{Kind}
 use Rattle.mrpc_table.specs.declared.table.Table.{Table}
 use Rattle.mrpc_table.specs.declared.tree.FieldValue.{FieldValue}
 use Rattle.mrpc_table.specs.declared.tree.Value.{Value}
-use Rattle.text_format.specs.Entries.{name_at, ShowsFields, ShowsContent, ShowsItem, ShowsItems, ShowsPairs}
+use Rattle.text_format.specs.Entries.{field_name, IsTextOfFields, IsTextOfContent, IsTextOfItem, IsTextOfItems, IsTextOfPairs}
 use Rattle.text_format.specs.Lines.{enclosed}
-use Rattle.text_format.specs.Pieces.{ShowsPair}
+use Rattle.text_format.specs.MapEntries.{IsTextOfPair}
 
 -- the list up to the next item
 up_to : {X : Type 0} (xs : List X) (i : ℕ) (x : X) → i < length xs → x ≡ get_or xs i x → take i xs ++ x ∷ [] ≡ take (i + 1) xs
@@ -23,20 +23,20 @@ alone : (text more : List ℕ) → text ≡ [] → text ++ more ≡ more ++ []
 alone text more is = ap (λ (bs : List ℕ). bs ++ more) is ∙ sym (append-nil more)
 
 module _ (T : Table) (name : List ℕ) (k : Kind) (deep : ℕ) where
-  items_more : (xs : List Value) (y : Value) (text more : List ℕ) → ShowsItems T name k deep (items_of xs) text → ShowsItem T name k deep (item_of y) more
-      → ShowsItems T name k deep (items_of (xs ++ y ∷ [])) (text ++ more)
+  items_more : (xs : List Value) (y : Value) (text more : List ℕ) → IsTextOfItems T name k deep (items_of xs) text → IsTextOfItem T name k deep (item_of y) more
+      → IsTextOfItems T name k deep (items_of (xs ++ y ∷ [])) (text ++ more)
   items_more [] y text more h one = (more, [], one, refl, alone text more h)
   items_more (x ∷ xs) y text more h one = (h.0, h.1 ++ more, h.2, items_more xs y h.1 more h.3 one, front_moves h.0 h.1 text more h.4)
 
   -- one element more
-  pub items_step : (xs : List Value) (i : ℕ) (y : Value) (text more : List ℕ) → i < length xs → y ≡ get_or xs i y → ShowsItems T name k deep (items_of (take i xs)) text
-      → ShowsItem T name k deep (item_of y) more → ShowsItems T name k deep (items_of (take (i + 1) xs)) (text ++ more)
+  pub items_step : (xs : List Value) (i : ℕ) (y : Value) (text more : List ℕ) → i < length xs → y ≡ get_or xs i y → IsTextOfItems T name k deep (items_of (take i xs)) text
+      → IsTextOfItem T name k deep (item_of y) more → IsTextOfItems T name k deep (items_of (take (i + 1) xs)) (text ++ more)
   items_step xs i y text more within is h one =
-      subst (λ (ys : List Value). ShowsItems T name k deep (items_of ys) (text ++ more)) (up_to xs i y within is) (items_more (take i xs) y text more h one)
+      subst (λ (ys : List Value). IsTextOfItems T name k deep (items_of ys) (text ++ more)) (up_to xs i y within is) (items_more (take i xs) y text more h one)
 
 module _ (T : Table) (name : List ℕ) (key k : Kind) (deep : ℕ) where
-  pairs_more : (xs : List (Value × Value)) (y : Value × Value) (text inner : List ℕ) → ShowsPairs T name key k deep (pairs_of xs) text
-      → ShowsPair T key k (deep + 1) (item_of y.0) (item_of y.1) inner → ShowsPairs T name key k deep (pairs_of (xs ++ y ∷ [])) (text ++ enclosed deep name inner)
+  pairs_more : (xs : List (Value × Value)) (y : Value × Value) (text inner : List ℕ) → IsTextOfPairs T name key k deep (pairs_of xs) text
+      → IsTextOfPair T key k (deep + 1) (item_of y.0) (item_of y.1) inner → IsTextOfPairs T name key k deep (pairs_of (xs ++ y ∷ [])) (text ++ enclosed deep name inner)
   pairs_more [] y text inner h one =
       (one.0, one.1, [], one.2, one.3, refl, alone text (enclosed deep name inner) h ∙ ap (λ (bs : List ℕ). enclosed deep name bs ++ []) one.4)
   pairs_more (x ∷ xs) y text inner h one =
@@ -44,24 +44,24 @@ module _ (T : Table) (name : List ℕ) (key k : Kind) (deep : ℕ) where
 
   -- one entry more
   pub pairs_step : (xs : List (Value × Value)) (i : ℕ) (y : Value × Value) (text inner : List ℕ) → i < length xs → y ≡ get_or xs i y
-      → ShowsPairs T name key k deep (pairs_of (take i xs)) text → ShowsPair T key k (deep + 1) (item_of y.0) (item_of y.1) inner
-      → ShowsPairs T name key k deep (pairs_of (take (i + 1) xs)) (text ++ enclosed deep name inner)
+      → IsTextOfPairs T name key k deep (pairs_of (take i xs)) text → IsTextOfPair T key k (deep + 1) (item_of y.0) (item_of y.1) inner
+      → IsTextOfPairs T name key k deep (pairs_of (take (i + 1) xs)) (text ++ enclosed deep name inner)
   pairs_step xs i y text inner within is h one =
-      subst (λ (ys : List (Value × Value)). ShowsPairs T name key k deep (pairs_of ys) (text ++ enclosed deep name inner)) (up_to xs i y within is)
+      subst (λ (ys : List (Value × Value)). IsTextOfPairs T name key k deep (pairs_of ys) (text ++ enclosed deep name inner)) (up_to xs i y within is)
       (pairs_more (take i xs) y text inner h one)
 
 module _ (T : Table) (fs : List Field) (deep : ℕ) where
   -- the text of a field with its content
   abbrev pub ShowsPart : ℕ × FieldValue → List ℕ → Type 0
-  ShowsPart x text = ShowsContent T (name_at fs x.0) (label_at fs x.0) (kind_at fs x.0) deep (content_of x.1) text
+  ShowsPart x text = IsTextOfContent T (field_name fs x.0) (label_at fs x.0) (kind_at fs x.0) deep (content_of x.1) text
 
-  fields_more : (xs : List (ℕ × FieldValue)) (y : ℕ × FieldValue) (text more : List ℕ) → ShowsFields T fs deep (node_of xs) text → ShowsPart y more
-      → ShowsFields T fs deep (node_of (xs ++ y ∷ [])) (text ++ more)
+  fields_more : (xs : List (ℕ × FieldValue)) (y : ℕ × FieldValue) (text more : List ℕ) → IsTextOfFields T fs deep (node_of xs) text → ShowsPart y more
+      → IsTextOfFields T fs deep (node_of (xs ++ y ∷ [])) (text ++ more)
   fields_more [] y text more h one = (more, [], one, refl, alone text more h)
   fields_more (x ∷ xs) y text more h one = (h.0, h.1 ++ more, h.2, fields_more xs y h.1 more h.3 one, front_moves h.0 h.1 text more h.4)
 
   -- one field more
   pub fields_step : (xs : List (ℕ × FieldValue)) (i : ℕ) (y : ℕ × FieldValue) (text more : List ℕ) → i < length xs → y ≡ get_or xs i y
-      → ShowsFields T fs deep (node_of (take i xs)) text → ShowsPart y more → ShowsFields T fs deep (node_of (take (i + 1) xs)) (text ++ more)
+      → IsTextOfFields T fs deep (node_of (take i xs)) text → ShowsPart y more → IsTextOfFields T fs deep (node_of (take (i + 1) xs)) (text ++ more)
   fields_step xs i y text more within is h one =
-      subst (λ (ys : List (ℕ × FieldValue)). ShowsFields T fs deep (node_of ys) (text ++ more)) (up_to xs i y within is) (fields_more (take i xs) y text more h one)
+      subst (λ (ys : List (ℕ × FieldValue)). IsTextOfFields T fs deep (node_of ys) (text ++ more)) (up_to xs i y within is) (fields_more (take i xs) y text more h one)

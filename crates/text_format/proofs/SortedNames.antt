@@ -7,7 +7,7 @@ use Rattle.std.proofs.lemmas.Bool.{cases_lt}
 use Rattle.text_format.specs.Numbers.{HasNoName}
 use Rattle.std.proofs.lemmas.Cmp.{int_ranked}
 use Rattle.std.proofs.lemmas.Int.{ints}
-use Rattle.mrpc_table.specs.Valid.{Ascends, IsValueBelow}
+use Rattle.mrpc_table.specs.Valid.{IsAscendingBy, IsValueBelow}
 use Rattle.std.proofs.Common.{inl, inr, sym}
 
 -- the value is below the next one, or equal to it
@@ -15,11 +15,11 @@ not_above : (v w : ℤ × List ℕ) → IsValueBelow v w → v.0 ≤ℤ w.0
 not_above v w (inl less) = let below : v.0 <ℤ w.0 = int_ranked v.0 w.0 Less (sym less) in omega (arith, ints)
 not_above v w (inr same) = let e : v.0 ≡ w.0 = same.0 in omega (arith, ints)
 
-tail_ascends : (v : ℤ × List ℕ) (vs : List (ℤ × List ℕ)) → Ascends IsValueBelow (v ∷ vs) → Ascends IsValueBelow vs
+tail_ascends : (v : ℤ × List ℕ) (vs : List (ℤ × List ℕ)) → IsAscendingBy IsValueBelow (v ∷ vs) → IsAscendingBy IsValueBelow vs
 tail_ascends v [] up = tt
 tail_ascends v (w ∷ ws) up = up.1
 
-first_lowest : (v : ℤ × List ℕ) (vs : List (ℤ × List ℕ)) → Ascends IsValueBelow (v ∷ vs) → (k : ℕ) (d : ℤ × List ℕ) → k < length vs → v.0 ≤ℤ (get_or vs k d).0
+first_lowest : (v : ℤ × List ℕ) (vs : List (ℤ × List ℕ)) → IsAscendingBy IsValueBelow (v ∷ vs) → (k : ℕ) (d : ℤ × List ℕ) → k < length vs → v.0 ≤ℤ (get_or vs k d).0
 first_lowest v [] up k d within = absurd (omega (arith, within))
 first_lowest v (w ∷ ws) up zero d within = not_above v w up.0
 first_lowest v (w ∷ ws) up (suc k) d within =
@@ -28,7 +28,7 @@ first_lowest v (w ∷ ws) up (suc k) d within =
     omega (arith, ints)
 
 -- a value is at or above those before it
-pub values_rise : (vs : List (ℤ × List ℕ)) → Ascends IsValueBelow vs → (i j : ℕ) (d : ℤ × List ℕ) → i ≤ j → j < length vs → (get_or vs i d).0 ≤ℤ (get_or vs j d).0
+pub values_rise : (vs : List (ℤ × List ℕ)) → IsAscendingBy IsValueBelow vs → (i j : ℕ) (d : ℤ × List ℕ) → i ≤ j → j < length vs → (get_or vs i d).0 ≤ℤ (get_or vs j d).0
 values_rise [] up i j d le within = absurd (omega (arith, within))
 values_rise (v ∷ vs) up zero zero d le within = omega (arith, ints)
 values_rise (v ∷ vs) up zero (suc j) d le within = first_lowest v vs up j d (omega (arith, within))
@@ -36,7 +36,7 @@ values_rise (v ∷ vs) up (suc i) zero d le within = absurd (omega (arith, le))
 values_rise (v ∷ vs) up (suc i) (suc j) d le within = values_rise vs (tail_ascends v vs up) i j d (omega (arith, le)) (omega (arith, within))
 
 -- so those below a number come first
-pub parted : (vs : List (ℤ × List ℕ)) (n : ℤ) → Ascends IsValueBelow vs → IsPartitionedBy (λ (v : ℤ × List ℕ). int_lt v.0 n) vs
+pub parted : (vs : List (ℤ × List ℕ)) (n : ℤ) → IsAscendingBy IsValueBelow vs → IsPartitionedBy (λ (v : ℤ × List ℕ). int_lt v.0 n) vs
 parted vs n up i j d le within below =
     let rise : (get_or vs i d).0 ≤ℤ (get_or vs j d).0 = values_rise vs up i j d le within in
     grind (arith, ints)
@@ -52,7 +52,7 @@ pub none_behind : (vs : List (ℤ × List ℕ)) (n : ℤ) (p : ℕ) → AllWithi
 none_behind vs n p before end = record { none = λ k d within same. let below : (get_or vs k d).0 <ℤ n = before k d (omega arith) (omega (arith, within, end)) in omega (arith, ints) }
 
 -- nor if the first one that isn't below it has another number
-pub none_here : (vs : List (ℤ × List ℕ)) (n : ℤ) (p : ℕ) (v : ℤ × List ℕ) → Ascends IsValueBelow vs → AllWithin (λ (w : ℤ × List ℕ). w.0 <ℤ n) vs 0 p
+pub none_here : (vs : List (ℤ × List ℕ)) (n : ℤ) (p : ℕ) (v : ℤ × List ℕ) → IsAscendingBy IsValueBelow vs → AllWithin (λ (w : ℤ × List ℕ). w.0 <ℤ n) vs 0 p
     → AllWithin (λ (w : ℤ × List ℕ). n ≤ℤ w.0) vs p (length vs) → p < length vs → v ≡ get_or vs p v → v.0 ≢ n → HasNoName vs n
 none_here vs n p v up before behind here is other = record {
   none = λ k d within same. elim (cases_lt k p) [

@@ -5,10 +5,10 @@ use Rattle.mrpc_table.specs.declared.table.Kind.TheVariants.{Int32, Int64, Uint3
 use Rattle.mrpc_table.specs.declared.table.Kind.TheVariants.{Bool as TheBool, Fixed32, Fixed64, Sfixed32, Sfixed64}
 use Rattle.mrpc_table.specs.declared.table.Kind.TheVariants.{Float, Double, Text, Octets, Message, Choice}
 use Rattle.mrpc_table.specs.declared.table.Table.{Table}
-use Rattle.text_format.specs.Numbers.{IsNumberText, whole_text}
+use Rattle.text_format.specs.Numbers.{IsNumberText, integral_text}
 
 -- a number of any kind other than an enum, a float or a double is an integer or a boolean
-pub whole_shown : (T : Table) (k : Kind) (n : ℕ) → ((i : ℕ) → k ≢ Choice i) → k ≢ Float → k ≢ Double → IsNumberText T k n (whole_text k n)
+pub whole_shown : (T : Table) (k : Kind) (n : ℕ) → ((i : ℕ) → k ≢ Choice i) → k ≢ Float → k ≢ Double → IsNumberText T k n (integral_text k n)
 whole_shown T Int32 n c f d = refl
 whole_shown T Int64 n c f d = refl
 whole_shown T Uint32 n c f d = refl

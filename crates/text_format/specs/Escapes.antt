@@ -29,5 +29,5 @@ escape_by None b = if is_printable b then b ∷ [] else octal b
 abbrev pub escape : ℕ → List ℕ
 escape b = escape_by (letter_of b) b
 
-abbrev pub quoted : List ℕ → List ℕ
-quoted bytes = (34 ∷ flat_map escape bytes) ++ 34 ∷ []
+abbrev pub quoted_string : List ℕ → List ℕ
+quoted_string bytes = (34 ∷ flat_map escape bytes) ++ 34 ∷ []

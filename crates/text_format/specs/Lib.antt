@@ -2,4 +2,4 @@ pub mod Entries
 pub mod Escapes
 pub mod Lines
 pub mod Numbers
-pub mod Pieces
+pub mod MapEntries

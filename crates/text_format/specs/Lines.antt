@@ -7,11 +7,11 @@ indent zero = []
 indent (suc deep) = 32 ∷ 32 ∷ indent deep
 
 -- the entry of a scalar: its field's name and its value
-abbrev pub scalar_front : ℕ → List ℕ → List ℕ
-scalar_front deep name = indent deep ++ (name ++ codes ": ")
+abbrev pub scalar_prefix : ℕ → List ℕ → List ℕ
+scalar_prefix deep name = indent deep ++ (name ++ codes ": ")
 
 abbrev pub scalar_line : ℕ → List ℕ → List ℕ → List ℕ
-scalar_line deep name value = scalar_front deep name ++ (value ++ codes "\n")
+scalar_line deep name value = scalar_prefix deep name ++ (value ++ codes "\n")
 
 -- the lines around the entries of a message
 abbrev pub opening : ℕ → List ℕ → List ℕ

@@ -11,8 +11,8 @@ use Rattle.mrpc_table.specs.declared.table.Kind.TheVariants.{Uint32, Uint64, Boo
 use Rattle.mrpc_table.specs.declared.table.Table.{Table}
 
 -- the values of the enum with this index in the table
-abbrev pub values_of : Table → ℕ → List (ℤ × List ℕ)
-values_of T i = unwrap_or (option_map (λ e. e.values) (slice_get T.enums i)) []
+abbrev pub enum_values : Table → ℕ → List (ℤ × List ℕ)
+enum_values T i = unwrap_or (option_map (λ e. e.values) (slice_get T.enums i)) []
 
 -- this is the first of the enum's names for a number
 pub record IsFirstName (values : List (ℤ × List ℕ)) (n : ℤ) (name : List ℕ) : Type 0 where
@@ -26,9 +26,9 @@ pub record HasNoName (values : List (ℤ × List ℕ)) (n : ℤ) : Type 0 where
   pub none : (k : ℕ) (d : ℤ × List ℕ) → k < length values → (slice_index_or values k d).0 ≢ n
 
 -- the text of an enum's value: a name, or its number if it has no name
-pub data IsChoiceText (values : List (ℤ × List ℕ)) (n : ℤ) (text : List ℕ) : Type 0 where
-  named : IsFirstName values n text → IsChoiceText values n text
-  unnamed : HasNoName values n → text ≡ signed_decimal n → IsChoiceText values n text
+pub data IsEnumText (values : List (ℤ × List ℕ)) (n : ℤ) (text : List ℕ) : Type 0 where
+  named : IsFirstName values n text → IsEnumText values n text
+  unnamed : HasNoName values n → text ≡ signed_decimal n → IsEnumText values n text
 
 -- the text of a float: any that reads back as it, and `nan` for a NaN
 pub data IsFloatText (f : Format) (bits : ℕ) (text : List ℕ) : Type 0 where
@@ -37,17 +37,17 @@ pub data IsFloatText (f : Format) (bits : ℕ) (text : List ℕ) : Type 0 where
 
 -- the text of an integer: decimal digits, with `-` before them if it is below 0; the text of a boolean: its
 -- name
-abbrev pub whole_text : Kind → ℕ → List ℕ
-whole_text TheBool n = if n == 0 then codes "false" else codes "true"
-whole_text Uint32 n = decimal n
-whole_text Uint64 n = decimal n
-whole_text Fixed32 n = decimal n
-whole_text Fixed64 n = decimal n
-whole_text _ n = signed_decimal (cast_signed w64 n)
+abbrev pub integral_text : Kind → ℕ → List ℕ
+integral_text TheBool n = if n == 0 then codes "false" else codes "true"
+integral_text Uint32 n = decimal n
+integral_text Uint64 n = decimal n
+integral_text Fixed32 n = decimal n
+integral_text Fixed64 n = decimal n
+integral_text _ n = signed_decimal (cast_signed w64 n)
 
 -- the text of a number of a kind
 abbrev pub IsNumberText : Table → Kind → ℕ → List ℕ → Type 0
-IsNumberText T (Choice i) n text = IsChoiceText (values_of T i) (cast_signed w64 n) text
+IsNumberText T (Choice i) n text = IsEnumText (enum_values T i) (cast_signed w64 n) text
 IsNumberText T Float n text = IsFloatText binary32 n text
 IsNumberText T Double n text = IsFloatText binary64 n text
-IsNumberText T k n text = text ≡ whole_text k n
+IsNumberText T k n text = text ≡ integral_text k n

@@ -1,21 +1,21 @@
 //! The entries of the fields of messages.
 
 ghost use Rattle.std.specs.Prelude.{◌≡◌, ◌<◌, ◌++◌, ℕ, List, length, OnOk};
-ghost use Rattle.mrpc_table.specs.Ascending.{FieldsAscend};
+ghost use Rattle.mrpc_table.specs.Ascending.{AreFieldsAscending};
 ghost use Rattle.mrpc_table.specs.Normal.{IsNormal};
 ghost use Rattle.mrpc_table.specs.Valid.{IsValid};
 ghost use Rattle.mrpc_table.specs.View.{item_of, items_of, pairs_of, content_of};
 ghost use Rattle.mrpc_table.specs.Words.{key_kind};
-ghost use Rattle.text_format.specs.Entries.{IsTextOf, ShowsContent, ShowsFields, ShowsItem, ShowsItems, ShowsPairs};
-ghost use Rattle.text_format.specs.Escapes.{quoted};
+ghost use Rattle.text_format.specs.Entries.{IsTextOfMessage, IsTextOfContent, IsTextOfFields, IsTextOfItem, IsTextOfItems, IsTextOfPairs};
+ghost use Rattle.text_format.specs.Escapes.{quoted_string};
 ghost use Rattle.text_format.specs.Lines.{scalar_line};
 ghost use Rattle.text_format.specs.Numbers.{IsNumberText};
-ghost use Rattle.text_format.specs.Pieces.{ShowsPair};
+ghost use Rattle.text_format.specs.MapEntries.{IsTextOfPair};
 
 use crate::escapes::put_quoted;
-use crate::lines::{deeper, put_closing, put_opening, put_scalar_front};
+use crate::field_info::{FieldInfo, field_info_near, fields_at};
+use crate::lines::{deeper, put_closing, put_opening, put_scalar_prefix};
 use crate::numbers::put_number;
-use crate::said::{Said, fields_at, said_near};
 use mrpc_table::{Bytes, Entries, Field, FieldValue, Kind, Memory, Table, Tree, Value, Values};
 use std::alloc::Global;
 
@@ -33,7 +33,8 @@ pub fn append_message(
     requires valid { IsValid table.now }
     requires known { msg < length table.now.messages }
     requires normal { IsNormal table.now msg tree.now }
-    ensures { OnOk result ((text : List ℕ) × IsTextOf table.now msg tree.now text × (out.new ≡ out.old ++ text)) }
+    ensures { OnOk result ((text : List ℕ) × IsTextOfMessage table.now msg tree.now text
+        × (out.new ≡ out.old ++ text)) }
 {
     put_fields(alloc, out, tree, table, fields_at(table, msg), 0)
 }
@@ -48,13 +49,13 @@ fn put_fields(
     deep: usize,
 ) -> Result<(), Memory>
     requires valid { IsValid table.now }
-    requires ascend { FieldsAscend fields.now }
-    ensures { OnOk result ((text : List ℕ) × ShowsFields table.now fields.now deep tree.now text
+    requires ascend { AreFieldsAscending fields.now }
+    ensures { OnOk result ((text : List ℕ) × IsTextOfFields table.now fields.now deep tree.now text
         × (out.new ≡ out.old ++ text)) }
 {
     let mut near = 0;
     for part in &tree.fields {
-        let (said, place) = said_near(fields, part.0, near);
+        let (said, place) = field_info_near(fields, part.0, near);
         near = place;
         put_content(alloc, out, &part.1, table, said, deep)?;
     }
@@ -67,11 +68,11 @@ fn put_content(
     out: &mut Bytes,
     content: &FieldValue,
     table: &Table,
-    said: Said<'_>,
+    said: FieldInfo<'_>,
     deep: usize,
 ) -> Result<(), Memory>
     requires { IsValid table.now }
-    ensures { OnOk result ((text : List ℕ) × ShowsContent table.now said.entry.name.now said.entry.label
+    ensures { OnOk result ((text : List ℕ) × IsTextOfContent table.now said.entry.name.now said.entry.label
         said.entry.kind deep (content_of content.now) text × (out.new ≡ out.old ++ text)) }
 {
     match content {
@@ -94,7 +95,7 @@ fn put_items(
     deep: usize,
 ) -> Result<(), Memory>
     requires { IsValid table.now }
-    ensures { OnOk result ((text : List ℕ) × ShowsItems table.now name.now kind deep (items_of values.now.items) text
+    ensures { OnOk result ((text : List ℕ) × IsTextOfItems table.now name.now kind deep (items_of values.now.items) text
         × (out.new ≡ out.old ++ text)) }
 {
     for value in values {
@@ -109,11 +110,11 @@ fn put_pairs(
     out: &mut Bytes,
     entries: &Entries,
     table: &Table,
-    said: Said<'_>,
+    said: FieldInfo<'_>,
     deep: usize,
 ) -> Result<(), Memory>
     requires { IsValid table.now }
-    ensures { OnOk result ((text : List ℕ) × ShowsPairs table.now said.entry.name.now (key_kind said.entry.label)
+    ensures { OnOk result ((text : List ℕ) × IsTextOfPairs table.now said.entry.name.now (key_kind said.entry.label)
         said.entry.kind deep (pairs_of entries.now.items) text × (out.new ≡ out.old ++ text)) }
 {
     let inner = deeper(deep)?;
@@ -137,7 +138,7 @@ fn put_pair(
     deep: usize,
 ) -> Result<(), Memory>
     requires { IsValid table.now }
-    ensures { OnOk result ((text : List ℕ) × ShowsPair table.now key kind deep (item_of entry.now.0)
+    ensures { OnOk result ((text : List ℕ) × IsTextOfPair table.now key kind deep (item_of entry.now.0)
         (item_of entry.now.1) text × (out.new ≡ out.old ++ text)) }
 {
     put_item(alloc, out, &entry.0, table, b"key", key, deep)?;
@@ -155,7 +156,7 @@ fn put_item(
     deep: usize,
 ) -> Result<(), Memory>
     requires { IsValid table.now }
-    ensures { OnOk result ((text : List ℕ) × ShowsItem table.now name.now kind deep (item_of value.now) text
+    ensures { OnOk result ((text : List ℕ) × IsTextOfItem table.now name.now kind deep (item_of value.now) text
         × (out.new ≡ out.old ++ text)) }
 {
     match value {
@@ -190,15 +191,15 @@ fn put_number_line(
     ensures { OnOk result ((value : List ℕ) × IsNumberText table.now kind word value
         × (out.new ≡ out.old ++ scalar_line deep name.now value)) }
 {
-    put_scalar_front(out, name, deep)?;
+    put_scalar_prefix(out, name, deep)?;
     put_number(alloc, out, table, kind, word)?;
     out.append(b"\n")
 }
 
 fn put_run_line(out: &mut Bytes, bytes: &[u8], name: &[u8], deep: usize) -> Result<(), Memory>
-    ensures { OnOk result (out.new ≡ out.old ++ scalar_line deep name.now (quoted bytes.now)) }
+    ensures { OnOk result (out.new ≡ out.old ++ scalar_line deep name.now (quoted_string bytes.now)) }
 {
-    put_scalar_front(out, name, deep)?;
+    put_scalar_prefix(out, name, deep)?;
     put_quoted(out, bytes)?;
     out.append(b"\n")
 }

@@ -2,13 +2,13 @@
 
 ghost use Rattle.std.specs.Prelude.{◌≡◌, ◌++◌, OnOk};
 ghost use Rattle.std.specs.List.{flat_map};
-ghost use Rattle.text_format.specs.Escapes.{letter_of, is_printable, octal, escape, quoted};
+ghost use Rattle.text_format.specs.Escapes.{letter_of, is_printable, octal, escape, quoted_string};
 
 use mrpc_table::{Bytes, Memory};
 
 // Appends a string or bytes in quotation marks.
 pub(crate) fn put_quoted(out: &mut Bytes, bytes: &[u8]) -> Result<(), Memory>
-    ensures { OnOk result (out.new ≡ out.old ++ quoted bytes.now) }
+    ensures { OnOk result (out.new ≡ out.old ++ quoted_string bytes.now) }
 {
     out.append(b"\"")?;
     put_escaped(out, bytes)?;

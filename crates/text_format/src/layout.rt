@@ -1,7 +1,7 @@
 //! The layout of a float's digits, as C's `%g` has it, which protoc uses. Each text is read back before use,
 //! so that only the look of a float depends on this module.
 
-use mrpc_table::{Bytes, Decimal, Memory, cut, number_of};
+use mrpc_table::{Bytes, Decimal, Memory, number_of, split_once};
 use std::alloc::Global;
 
 const MINUS: &[u8] = b"-";
@@ -18,11 +18,11 @@ pub(crate) fn general(alloc: Global, text: &[u8], digits: u64) -> Result<Bytes, 
 }
 
 fn put_general(alloc: Global, out: &mut Bytes, text: &[u8], digits: u64) -> Result<(), Memory> {
-    match cut(text, b'e') {
+    match split_once(text, b'e') {
         Some((mantissa, power)) => {
             let unsigned = put_sign(out, mantissa)?;
             let shown = without_point(alloc, unsigned)?;
-            put_shown(out, without_zeros(shown.as_slice()), power, digits)
+            put_layout(out, without_zeros(shown.as_slice()), power, digits)
         }
         None => out.append(text),
     }
@@ -65,7 +65,7 @@ fn without_zeros(digits: &[u8]) -> &[u8] {
 }
 
 // Appends a number by its digits and its power of ten.
-fn put_shown(out: &mut Bytes, digits: &[u8], power: &[u8], most: u64) -> Result<(), Memory> {
+fn put_layout(out: &mut Bytes, digits: &[u8], power: &[u8], most: u64) -> Result<(), Memory> {
     match power.strip_prefix(MINUS) {
         Some(power) => put_small(out, digits, small(power)),
         None => put_large(out, digits, small(power), most),

@@ -10,13 +10,13 @@
 //! floats back. Its one contract for the layers above: what is appended is the text of the tree.
 #![tactic(auto)]
 
-mod choices;
 mod entries;
+mod enum_values;
 mod escapes;
+mod field_info;
 mod floats;
 mod layout;
 mod lines;
 mod numbers;
-mod said;
 
 pub use entries::append_message;

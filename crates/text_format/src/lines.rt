@@ -1,7 +1,7 @@
 //! The lines of entries: that of a scalar, and the two around the entries of a message.
 
 ghost use Rattle.std.specs.Prelude.{◌≡◌, ◌+◌, ◌++◌, IfOk, OnOk};
-ghost use Rattle.text_format.specs.Lines.{indent, scalar_front, opening, closing};
+ghost use Rattle.text_format.specs.Lines.{indent, scalar_prefix, opening, closing};
 
 use mrpc_table::{Bytes, Memory};
 
@@ -16,8 +16,8 @@ pub(crate) fn deeper(deep: usize) -> Result<usize, Memory>
 }
 
 // Appends what precedes the value of a scalar.
-pub(crate) fn put_scalar_front(out: &mut Bytes, name: &[u8], deep: usize) -> Result<(), Memory>
-    ensures { OnOk result (out.new ≡ out.old ++ scalar_front deep name.now) }
+pub(crate) fn put_scalar_prefix(out: &mut Bytes, name: &[u8], deep: usize) -> Result<(), Memory>
+    ensures { OnOk result (out.new ≡ out.old ++ scalar_prefix deep name.now) }
 {
     put_indent(out, deep)?;
     out.append(name)?;

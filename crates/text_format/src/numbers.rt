@@ -3,9 +3,9 @@
 ghost use Rattle.std.specs.Prelude.{◌≡◌, ◌==◌, ◌++◌, ℕ, List, codes, if◌then◌else◌, OnOk};
 ghost use Rattle.std.specs.Float.{binary32, binary64};
 ghost use Rattle.mrpc_table.specs.Valid.{IsValid};
-ghost use Rattle.text_format.specs.Numbers.{IsFloatText, IsNumberText, whole_text};
+ghost use Rattle.text_format.specs.Numbers.{IsFloatText, IsNumberText, integral_text};
 
-use crate::choices::{put_choice, put_signed};
+use crate::enum_values::{put_enum_value, put_signed};
 use crate::floats::{double_text, float_text};
 use mrpc_table::{Bytes, Kind, Memory, Table};
 use std::alloc::Global;
@@ -22,19 +22,19 @@ pub(crate) fn put_number(
     ensures { OnOk result ((text : List ℕ) × IsNumberText table.now kind word text × (out.new ≡ out.old ++ text)) }
 {
     match kind {
-        Kind::Choice(choices) => put_choice(out, table, choices, word),
+        Kind::Choice(choices) => put_enum_value(out, table, choices, word),
         Kind::Float => put_float(alloc, out, word),
         Kind::Double => put_double(alloc, out, word),
-        _ => put_whole(out, kind, word),
+        _ => put_integral(out, kind, word),
     }
 }
 
 // Appends the text of an integer or a boolean.
-fn put_whole(out: &mut Bytes, kind: Kind, word: u64) -> Result<(), Memory>
-    ensures { OnOk result (out.new ≡ out.old ++ whole_text kind word) }
+fn put_integral(out: &mut Bytes, kind: Kind, word: u64) -> Result<(), Memory>
+    ensures { OnOk result (out.new ≡ out.old ++ integral_text kind word) }
 {
     match kind {
-        Kind::Bool => put_truth(out, word),
+        Kind::Bool => put_bool(out, word),
         Kind::Uint32 | Kind::Uint64 | Kind::Fixed32 | Kind::Fixed64 => out.append_decimal(word),
         Kind::Int32
         | Kind::Int64
@@ -51,7 +51,7 @@ fn put_whole(out: &mut Bytes, kind: Kind, word: u64) -> Result<(), Memory>
     }
 }
 
-fn put_truth(out: &mut Bytes, word: u64) -> Result<(), Memory>
+fn put_bool(out: &mut Bytes, word: u64) -> Result<(), Memory>
     ensures { OnOk result (out.new ≡ out.old ++ (if word == 0 then codes "false" else codes "true")) }
 {
     if word == 0 {

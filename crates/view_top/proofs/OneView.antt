@@ -2,15 +2,15 @@
 use Rattle.std.proofs.Common.{◌≡◌, ℕ, List, [], ◌∷◌, refl, sym, ap, ◌∙◌, arith}
 use Rattle.std.specs.Prelude.{String}
 use Rattle.std.specs.declared.alloc.Global.{Global}
-use Rattle.view_top.specs.Views.{Names, view_word}
-use Rattle.view_top.specs.declared.view.View.{View}
-use Rattle.view_top.specs.declared.view.View.TheVariants.{Frames, Script, Timeline}
+use Rattle.view_top.specs.Views.{IsNamedView, view_word}
+use Rattle.view_top.specs.declared.view.ViewKind.{ViewKind}
+use Rattle.view_top.specs.declared.view.ViewKind.TheVariants.{Frames, Script, Timeline}
 
 abbrev first_byte : List (List ℕ) → ℕ
 first_byte ((b ∷ bs) ∷ words) = b
 first_byte _ = 0
 
-told_apart : (v w : View) → first_byte (view_word v ∷ []) ≡ first_byte (view_word w ∷ []) → v ≡ w
+told_apart : (v w : ViewKind) → first_byte (view_word v ∷ []) ≡ first_byte (view_word w ∷ []) → v ≡ w
 told_apart Frames Frames e = refl
 told_apart Frames Script e = absurd (omega (arith, e))
 told_apart Frames Timeline e = absurd (omega (arith, e))
@@ -21,5 +21,5 @@ told_apart Timeline Frames e = absurd (omega (arith, e))
 told_apart Timeline Script e = absurd (omega (arith, e))
 told_apart Timeline Timeline e = refl
 
-pub one_view : (words : List (String Global)) (v w : View) → Names words v → Names words w → v ≡ w
+pub one_view : (words : List (String Global)) (v w : ViewKind) → IsNamedView words v → IsNamedView words w → v ≡ w
 one_view words v w p q = told_apart v w (ap first_byte (sym p ∙ q))

@@ -1,7 +1,7 @@
 -- How rows are written: one SVG, with a group for each row. All numbers are pixels.
 use Rattle.std.specs.Prelude.{ℕ, ◌+◌, ◌-◌, ◌*◌, ◌%◌, max, Bool, true, false, List, [], ◌∷◌, ◌++◌, codes, length}
-use Rattle.view_top.specs.Pieces.{text, number, quote, svg}
-use Rattle.view_top.specs.Rows.{Mark, Fate, was_sent, was_refused, stands, Bar, Row}
+use Rattle.view_top.specs.SvgPieces.{text, number, quote, svg}
+use Rattle.view_top.specs.Rows.{Tick, CallOutcome, was_sent, was_refused, stands, Bar, TimelineRow}
 use Rattle.view_top.specs.declared.limits.TheConstants.{LEFT, STEP, RIGHT, ABOVE, LABEL, LABELS, LANE}
 
 -- ---- offsets
@@ -18,51 +18,51 @@ y_of lane = ABOVE + lane * LANE
 abbrev pub label_y : ℕ → ℕ
 label_y label = LABEL + label % LABELS * LABEL
 
-abbrev pub height_of : Row → ℕ
+abbrev pub height_of : TimelineRow → ℕ
 height_of row = y_of (length row.bars + 1)
 
 -- ---- ticks
 
-abbrev pub mark_word : Bool → List ℕ
-mark_word true = codes "step"
-mark_word false = codes "moment"
+abbrev pub tick_word : Bool → List ℕ
+tick_word true = codes "step"
+tick_word false = codes "moment"
 
 abbrev pub unit_of : Bool → List ℕ
 unit_of true = []
 unit_of false = codes " ms"
 
 -- the words, and a line from them down to the end of the row
-unfoldable pub mark_text : (below label : ℕ) → Mark → List ℕ
-mark_text below label m = svg (
-    text (codes "<line class=\"") ∷ text (mark_word m.is_step) ∷ text (codes "\" x1=\"") ∷ number (x_of m.at)
+unfoldable pub tick_text : (below label : ℕ) → Tick → List ℕ
+tick_text below label m = svg (
+    text (codes "<line class=\"") ∷ text (tick_word m.is_step) ∷ text (codes "\" x1=\"") ∷ number (x_of m.at)
     ∷ text (codes "\" y1=\"") ∷ number (label_y label) ∷ text (codes "\" x2=\"") ∷ number (x_of m.at)
-    ∷ text (codes "\" y2=\"") ∷ number below ∷ text (codes "\"/>\n<text class=\"") ∷ text (mark_word m.is_step)
+    ∷ text (codes "\" y2=\"") ∷ number below ∷ text (codes "\"/>\n<text class=\"") ∷ text (tick_word m.is_step)
     ∷ text (codes "\" x=\"") ∷ number (x_of m.at + 3) ∷ text (codes "\" y=\"") ∷ number (label_y label)
     ∷ text (codes "\">") ∷ quote m.words ∷ text (unit_of m.is_step) ∷ text (codes "</text>\n") ∷ [])
 
-abbrev pub marks_text : (below label : ℕ) → List Mark → List ℕ
-marks_text below label [] = []
-marks_text below label (m ∷ ms) = mark_text below label m ++ marks_text below (label + 1) ms
+abbrev pub ticks_text : (below label : ℕ) → List Tick → List ℕ
+ticks_text below label [] = []
+ticks_text below label (m ∷ ms) = tick_text below label m ++ ticks_text below (label + 1) ms
 
 -- ---- calls
 
-abbrev pub fate_word : Fate → List ℕ
-fate_word was_sent = codes "sent"
-fate_word (was_refused cause) = codes "refused"
-fate_word stands = codes "stands"
+abbrev pub outcome_word : CallOutcome → List ℕ
+outcome_word was_sent = codes "sent"
+outcome_word (was_refused cause) = codes "refused"
+outcome_word stands = codes "stands"
 
 -- the bar of a call, from its acceptance to its end, with its number and a tooltip
 unfoldable pub rect_text : (lane : ℕ) → Bar → List ℕ
 rect_text lane b = svg (
-    text (codes "<rect class=\"") ∷ text (fate_word b.end.fate) ∷ text (codes "\" x=\"") ∷ number (x_of b.from)
+    text (codes "<rect class=\"") ∷ text (outcome_word b.end.fate) ∷ text (codes "\" x=\"") ∷ number (x_of b.from)
     ∷ text (codes "\" y=\"") ∷ number (y_of lane) ∷ text (codes "\" width=\"") ∷ number ((b.end.to - b.from) * STEP)
     ∷ text (codes "\" height=\"14\"><title>call ") ∷ number b.seq ∷ text (codes " of method ") ∷ number b.method
-    ∷ text (codes ", ") ∷ text (fate_word b.end.fate) ∷ text (codes "</title></rect>\n<text x=\"")
+    ∷ text (codes ", ") ∷ text (outcome_word b.end.fate) ∷ text (codes "</title></rect>\n<text x=\"")
     ∷ number (x_of b.from + 4) ∷ text (codes "\" y=\"") ∷ number (y_of lane + 11) ∷ text (codes "\">")
     ∷ number b.seq ∷ text (codes "</text>\n") ∷ [])
 
 -- the cause after a call that was refused
-unfoldable pub cause_text : (x y : ℕ) → Fate → List ℕ
+unfoldable pub cause_text : (x y : ℕ) → CallOutcome → List ℕ
 cause_text x y (was_refused cause) = svg (
     text (codes "<text x=\"") ∷ number (x + 4) ∷ text (codes "\" y=\"") ∷ number (y + 11) ∷ text (codes "\">")
     ∷ quote cause ∷ text (codes "</text>\n") ∷ [])
@@ -86,28 +86,28 @@ head_text top conn = svg (
 unfoldable pub foot_text : List ℕ
 foot_text = svg (text (codes "</g>\n") ∷ [])
 
-abbrev pub row_text : (top : ℕ) → Row → List ℕ
+abbrev pub row_text : (top : ℕ) → TimelineRow → List ℕ
 row_text top row =
-    head_text top row.conn ++ (marks_text (y_of (length row.bars)) 0 row.marks ++ (bars_text 0 row.bars ++ foot_text))
+    head_text top row.conn ++ (ticks_text (y_of (length row.bars)) 0 row.marks ++ (bars_text 0 row.bars ++ foot_text))
 
 -- each row is below the previous one
-abbrev pub rows_text : (top : ℕ) → List Row → List ℕ
+abbrev pub rows_text : (top : ℕ) → List TimelineRow → List ℕ
 rows_text top [] = []
 rows_text top (row ∷ rows) = row_text top row ++ rows_text (top + height_of row) rows
 
 -- ---- the whole
 
-abbrev pub total_height : List Row → ℕ
+abbrev pub total_height : List TimelineRow → ℕ
 total_height [] = 0
 total_height (row ∷ rows) = height_of row + total_height rows
 
-abbrev pub longest : List Row → ℕ
+abbrev pub longest : List TimelineRow → ℕ
 longest [] = 0
 longest (row ∷ rows) = max row.happenings (longest rows)
 
 -- the first lines of the drawing, with its size and the style of the shapes
-unfoldable pub front_text : (width height : ℕ) → List ℕ
-front_text width height = svg (
+unfoldable pub svg_opening : (width height : ℕ) → List ℕ
+svg_opening width height = svg (
     text (codes "<svg xmlns=\"http://www.w3.org/2000/svg\" font-family=\"monospace\" font-size=\"11\" width=\"")
     ∷ number width ∷ text (codes "\" height=\"") ∷ number height
     ∷ text (codes "\">\n<style>.sent{fill:#9fd6a8;stroke:#2f7d3b}.refused{fill:#f2b8b5;stroke:#b02020}")
@@ -116,8 +116,8 @@ front_text width height = svg (
     ∷ text (codes "line.moment{stroke:#999999;stroke-dasharray:2,2}text.moment{fill:#777777}")
     ∷ text (codes "</style>\n<rect width=\"100%\" height=\"100%\" fill=\"#ffffff\"/>\n") ∷ [])
 
-unfoldable pub end_text : List ℕ
-end_text = svg (text (codes "</svg>\n") ∷ [])
+unfoldable pub svg_closing : List ℕ
+svg_closing = svg (text (codes "</svg>\n") ∷ [])
 
-abbrev pub drawing : List Row → List ℕ
-drawing rows = front_text (x_of (longest rows) + RIGHT) (total_height rows) ++ (rows_text 0 rows ++ end_text)
+abbrev pub drawing : List TimelineRow → List ℕ
+drawing rows = svg_opening (x_of (longest rows) + RIGHT) (total_height rows) ++ (rows_text 0 rows ++ svg_closing)

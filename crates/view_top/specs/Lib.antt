@@ -2,8 +2,8 @@ pub mod Drawing
 pub mod Ends
 pub mod FaultLines
 pub mod Lines
-pub mod Pieces
+pub mod SvgPieces
 pub mod Plain
 pub mod Rows
-pub mod TimelineViews
+pub mod DrawingData
 pub mod Views

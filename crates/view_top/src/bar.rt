@@ -3,12 +3,12 @@
 ghost use Rattle.std.specs.Prelude.{◌≡◌, ◌≤◌, ◌<◌, ◌+◌, ◌==◌, ◌∷◌, ℕ, Some, None, IfOk, OnOk, if◌then◌else◌, length, map, reverse, vec_len};
 ghost use Rattle.std.specs.List.{cons_option};
 ghost use Rattle.view_top.specs.Ends.{bar_in, end_in};
-ghost use Rattle.view_top.specs.Rows.{bars_from, fate_here, first_end};
-ghost use Rattle.view_top.specs.TimelineViews.{all_told, bar, end_of, fate as fate_view, told_by};
+ghost use Rattle.view_top.specs.Rows.{bars_from, outcome_here, first_end};
+ghost use Rattle.view_top.specs.DrawingData.{line_events, bar, end_view, outcome as fate_view, line_event};
 ghost use Rattle.view_top.specs.declared.limits.TheConstants.{MAX_TEXT};
 
-use crate::line::{Event, What};
-use crate::part::{Bar, End, Fate};
+use crate::line::{Event, EventKind};
+use crate::part::{Bar, CallOutcome, End};
 use mrpc_table::Memory;
 use std::alloc::Global;
 use std::collections::BTreeMap;
@@ -16,7 +16,7 @@ use std::collections::BTreeMap;
 // The calls of a row's events, in the order in which they were accepted.
 pub(crate) fn bars_of<'a>(alloc: Global, events: &[Event<'a>]) -> Result<Vec<Bar<'a>>, Memory>
     requires { length events.now ≤ MAX_TEXT }
-    ensures bars { IfOk result (λ bs. map bar bs.items ≡ bars_from 0 (all_told events.now)) }
+    ensures bars { IfOk result (λ bs. map bar bs.items ≡ bars_from 0 (line_events events.now)) }
     ensures few { IfOk result (λ bs. vec_len bs ≤ length events.now) }
 {
     let last = events.len() as u64;
@@ -26,35 +26,41 @@ pub(crate) fn bars_of<'a>(alloc: Global, events: &[Event<'a>]) -> Result<Vec<Bar
     // Goes from the last event back, so that the end of each call is known when its acceptance is reached.
     while at > 0 {
         at -= 1;
-        step_back(last, at as u64, events[at].what, &mut ends, &mut bars)?;
+        take_event_back(last, at as u64, events[at].what, &mut ends, &mut bars)?;
     }
     bars.reverse();
     Ok(bars)
 }
 
 // Takes the event at an index, given the ends after it and the calls accepted after it, the last first.
-fn step_back<'a>(
+fn take_event_back<'a>(
     last: u64,
     at: u64,
-    what: What<'a>,
+    what: EventKind<'a>,
     ends: &mut BTreeMap<u64, End<'a>>,
     bars: &mut Vec<Bar<'a>>,
 ) -> Result<(), Memory>
     requires short { last ≤ MAX_TEXT }
     requires near { at < last }
     ensures ends { (n : ℕ) → OnOk result (end_in last ends.new.entries n
-        ≡ first_end at (fate_here n (told_by what.entry)) (end_in last ends.old.entries n)) }
+        ≡ first_end at (outcome_here n (line_event what.entry)) (end_in last ends.old.entries n)) }
     ensures bars { OnOk result (map bar (reverse bars.new.items)
-        ≡ cons_option (bar_in last ends.old.entries at (told_by what.entry)) (map bar (reverse bars.old.items))) }
+        ≡ cons_option (bar_in last ends.old.entries at (line_event what.entry)) (map bar (reverse bars.old.items))) }
     ensures few { OnOk result (vec_len bars.new ≤ vec_len bars.old + 1) }
 {
     match what {
-        What::Took { seq, method } => {
+        EventKind::Took { seq, method } => {
             let end = end_of(ends, seq, last);
             push_bar(bars, seq, method, at, end)
         }
-        What::Sent { seq } => close(ends, last, seq, at, Fate::Sent),
-        What::Refused { seq, cause } => close(ends, last, seq, at, Fate::Refused(cause)),
+        EventKind::Sent { seq } => end_call(ends, last, seq, at, CallOutcome::Sent),
+        EventKind::Refused { seq, cause } => end_call(
+            ends,
+            last,
+            seq,
+            at,
+            CallOutcome::Refused(cause),
+        ),
         _ => Ok(()),
     }
 }
@@ -69,7 +75,12 @@ fn push_bar<'a>(
 ) -> Result<(), Memory>
     requires { from ≤ MAX_TEXT }
     ensures bar { OnOk result (map bar (reverse bars.new.items)
-        ≡ record { seq = seq; method = method; from = from; end = end_of end.entry } ∷ map bar (reverse bars.old.items)) }
+        ≡ record {
+          seq = seq;
+          method = method;
+          from = from;
+          end = end_view end.entry;
+        } ∷ map bar (reverse bars.old.items)) }
     ensures len { OnOk result (vec_len bars.new ≡ vec_len bars.old + 1) }
 {
     bars.push(Bar {
@@ -84,24 +95,24 @@ fn push_bar<'a>(
 // The end of a call, from the ends after it; if it has none, it is pending up to the end of the row.
 fn end_of<'a>(ends: &BTreeMap<u64, End<'a>>, seq: u64, last: u64) -> End<'a>
     requires { last ≤ MAX_TEXT }
-    ensures { end_of result ≡ end_in last ends.now.entries seq }
+    ensures { end_view result ≡ end_in last ends.now.entries seq }
 {
     match ends.get(&seq) {
         Some(end) => *end,
         None => End {
             to: last,
-            fate: Fate::Stands,
+            fate: CallOutcome::Stands,
         },
     }
 }
 
 // A call ends here.
-fn close<'a>(
+fn end_call<'a>(
     ends: &mut BTreeMap<u64, End<'a>>,
     last: u64,
     seq: u64,
     to: u64,
-    fate: Fate<'a>,
+    fate: CallOutcome<'a>,
 ) -> Result<(), Memory>
     requires { to ≤ MAX_TEXT }
     ensures { (n : ℕ) → OnOk result (end_in last ends.new.entries n

@@ -1,21 +1,21 @@
 //! The drawing of rows.
 
 ghost use Rattle.std.specs.Prelude.{◌≡◌, ◌≤◌, ◌<◌, ◌^◌, ◌++◌, IfOk, OnOk, length, map};
-ghost use Rattle.view_top.specs.Drawing.{bars_text, drawing, end_text, foot_text, front_text, head_text, height_of, longest, marks_text, row_text, rows_text, total_height};
+ghost use Rattle.view_top.specs.Drawing.{bars_text, drawing, svg_closing, foot_text, svg_opening, head_text, height_of, longest, ticks_text, row_text, rows_text, total_height};
 ghost use Rattle.view_top.specs.Plain.{IsPlain};
-ghost use Rattle.view_top.specs.TimelineViews.{bar, mark, row as row_view};
+ghost use Rattle.view_top.specs.DrawingData.{bar, tick, row as row_view};
 ghost use Rattle.view_top.specs.declared.limits.TheConstants.{MAX_TEXT};
 
 use crate::limits::RIGHT;
-use crate::part::{Bar, Mark, Row};
+use crate::part::{Bar, Tick, TimelineRow};
 use crate::picture::Picture;
-use crate::piece::Piece::{Number, Text};
-use crate::shape::{put_bar, put_mark, x_of, y_of};
+use crate::shape::{put_bar, put_tick, x_of, y_of};
+use crate::svg_piece::SvgPiece::{Number, Text};
 use mrpc_table::{Bytes, Memory};
 use std::alloc::Global;
 
 // Draws rows, each below the previous one.
-pub(crate) fn draw(alloc: Global, rows: &[Row<'_>]) -> Result<Bytes, Memory>
+pub(crate) fn draw(alloc: Global, rows: &[TimelineRow<'_>]) -> Result<Bytes, Memory>
     requires { length rows.now ≤ MAX_TEXT }
     ensures drawn { IfOk result (λ svg. svg ≡ drawing (map row_view rows.now)) }
     ensures plain { IfOk result IsPlain }
@@ -23,21 +23,21 @@ pub(crate) fn draw(alloc: Global, rows: &[Row<'_>]) -> Result<Bytes, Memory>
     let mut picture = Picture::new(alloc);
     let width = x_of(longest(rows)) + RIGHT;
     let height = total_height(rows);
-    put_front(&mut picture, width, height)?;
+    put_svg_opening(&mut picture, width, height)?;
     put_rows(&mut picture, rows)?;
-    put_end(&mut picture)?;
+    put_svg_closing(&mut picture)?;
     Ok(picture.into_bytes())
 }
 
 // The height of a row, with some space below its last bar.
-fn height_of(row: &Row<'_>) -> u64
+fn height_of(row: &TimelineRow<'_>) -> u64
     ensures height { result ≡ height_of (row_view row.now) }
     ensures small { result < 2 ^ 30 }
 {
     y_of(row.bars.len() as u64 + 1)
 }
 
-fn total_height(rows: &[Row<'_>]) -> u64
+fn total_height(rows: &[TimelineRow<'_>]) -> u64
     requires { length rows.now ≤ MAX_TEXT }
     ensures { result ≡ total_height (map row_view rows.now) }
 {
@@ -48,7 +48,7 @@ fn total_height(rows: &[Row<'_>]) -> u64
     height
 }
 
-fn longest(rows: &[Row<'_>]) -> u64
+fn longest(rows: &[TimelineRow<'_>]) -> u64
     ensures longest { result ≡ longest (map row_view rows.now) }
     ensures small { result ≤ MAX_TEXT }
 {
@@ -61,9 +61,9 @@ fn longest(rows: &[Row<'_>]) -> u64
 
 // The first lines of the drawing: a sent call is green, a refused one red, and a pending one has no filling;
 // an operation is blue, and a timestamp gray.
-#[tactic(auto, unfolding(crate::specs::Drawing::front_text))]
-fn put_front(picture: &mut Picture, width: u64, height: u64) -> Result<(), Memory>
-    ensures { OnOk result (picture.new ≡ picture.old ++ front_text width height) }
+#[tactic(auto, unfolding(crate::specs::Drawing::svg_opening))]
+fn put_svg_opening(picture: &mut Picture, width: u64, height: u64) -> Result<(), Memory>
+    ensures { OnOk result (picture.new ≡ picture.old ++ svg_opening width height) }
 {
     picture.put(&[
         Text(
@@ -82,14 +82,14 @@ fn put_front(picture: &mut Picture, width: u64, height: u64) -> Result<(), Memor
     ])
 }
 
-#[tactic(auto, unfolding(crate::specs::Drawing::end_text))]
-fn put_end(picture: &mut Picture) -> Result<(), Memory>
-    ensures { OnOk result (picture.new ≡ picture.old ++ end_text) }
+#[tactic(auto, unfolding(crate::specs::Drawing::svg_closing))]
+fn put_svg_closing(picture: &mut Picture) -> Result<(), Memory>
+    ensures { OnOk result (picture.new ≡ picture.old ++ svg_closing) }
 {
     picture.put(&[Text(b"</svg>\n")])
 }
 
-fn put_rows(picture: &mut Picture, rows: &[Row<'_>]) -> Result<(), Memory>
+fn put_rows(picture: &mut Picture, rows: &[TimelineRow<'_>]) -> Result<(), Memory>
     requires { length rows.now ≤ MAX_TEXT }
     ensures { OnOk result (picture.new ≡ picture.old ++ rows_text 0 (map row_view rows.now)) }
 {
@@ -101,11 +101,11 @@ fn put_rows(picture: &mut Picture, rows: &[Row<'_>]) -> Result<(), Memory>
     Ok(())
 }
 
-fn put_row(picture: &mut Picture, top: u64, row: &Row<'_>) -> Result<(), Memory>
+fn put_row(picture: &mut Picture, top: u64, row: &TimelineRow<'_>) -> Result<(), Memory>
     ensures { OnOk result (picture.new ≡ picture.old ++ row_text top (row_view row.now)) }
 {
     put_head(picture, top, row.conn)?;
-    put_marks(picture, y_of(row.bars.len() as u64), &row.marks)?;
+    put_ticks(picture, y_of(row.bars.len() as u64), &row.marks)?;
     put_bars(picture, &row.bars)?;
     put_foot(picture)
 }
@@ -130,12 +130,12 @@ fn put_foot(picture: &mut Picture) -> Result<(), Memory>
     picture.put(&[Text(b"</g>\n")])
 }
 
-fn put_marks(picture: &mut Picture, below: u64, marks: &[Mark<'_>]) -> Result<(), Memory>
-    ensures { OnOk result (picture.new ≡ picture.old ++ marks_text below 0 (map mark marks.now)) }
+fn put_ticks(picture: &mut Picture, below: u64, marks: &[Tick<'_>]) -> Result<(), Memory>
+    ensures { OnOk result (picture.new ≡ picture.old ++ ticks_text below 0 (map tick marks.now)) }
 {
     let mut label: u64 = 0;
     for mark in marks {
-        put_mark(picture, below, label, mark)?;
+        put_tick(picture, below, label, mark)?;
         label += 1;
     }
     Ok(())

@@ -2,11 +2,11 @@
 
 ghost use Rattle.std.specs.Prelude.{◌≡◌, ◌≢◌, ◌⊎◌, IfOk};
 ghost use Rattle.std.specs.Io.KnownBytes.{Appends};
-ghost use Rattle.mrpc_base.specs.Faults.{HasCause};
+ghost use Rattle.mrpc_base.specs.Failures.{HasCause};
 ghost use Rattle.view_top.specs.FaultLines.{fault_line};
 
 use crate::status::{FAULTY_INPUT, NO_MEMORY, OUTPUT_FAILED};
-use command_diagnostics::explained;
+use command_diagnostics::explain_fault;
 use mrpc_base::{Sink, write_all};
 use mrpc_table::{Bytes, Memory};
 use std::alloc::Global;
@@ -15,7 +15,7 @@ use std::alloc::Global;
 const WIDTH: usize = 100;
 
 // Writes the line of a fault at an offset or on a line, and its diagnostic on `error`.
-pub(crate) fn refuse<K: Sink, E: Sink>(
+pub(crate) fn write_view_fault<K: Sink, E: Sink>(
     alloc: Global,
     text: &[u8],
     place: u64,
@@ -26,13 +26,13 @@ pub(crate) fn refuse<K: Sink, E: Sink>(
     ensures statuses { (result ≡ FAULTY_INPUT) ⊎ ((result ≡ NO_MEMORY) ⊎ (result ≡ OUTPUT_FAILED)) }
     ensures written { result ≡ FAULTY_INPUT
         → Appends (K.written out.old) (K.written out.new) (fault_line place word.now) }
-    ensures cause { HasCause (result ≡ OUTPUT_FAILED) (K.faults out.old) (K.faults out.new) }
+    ensures cause { HasCause (result ≡ OUTPUT_FAILED) (K.failures out.old) (K.failures out.new) }
     ensures quiet { result ≢ FAULTY_INPUT → error.new ≡ error.old }
 {
     match fault_text(alloc, place, word) {
         Ok(line) => {
             if write_all(out, line.as_slice()) {
-                tell(alloc, text, line.as_slice(), error);
+                write_diagnostic(alloc, text, line.as_slice(), error);
                 FAULTY_INPUT
             } else {
                 OUTPUT_FAILED
@@ -54,8 +54,8 @@ fn fault_text(alloc: Global, place: u64, word: &[u8]) -> Result<Bytes, Memory>
 }
 
 // Writes the diagnostic. If it runs out of memory or a write fails, it writes no more.
-fn tell<E: Sink>(alloc: Global, text: &[u8], line: &[u8], error: &mut E) {
-    if let Ok(lines) = explained(alloc, b"decode", text, line, WIDTH) {
+fn write_diagnostic<E: Sink>(alloc: Global, text: &[u8], line: &[u8], error: &mut E) {
+    if let Ok(lines) = explain_fault(alloc, b"decode", text, line, WIDTH) {
         write_all(error, lines.as_slice());
     }
 }

@@ -5,7 +5,7 @@ ghost use Rattle.view_top.specs.declared.limits.TheConstants.{MAX_TEXT};
 
 // A line across a row.
 #[derive(Clone, Copy)]
-pub(crate) struct Mark<'a> {
+pub(crate) struct Tick<'a> {
     pub at: u64,
     pub words: &'a [u8],
     // An operation of an operator, not a timestamp.
@@ -28,13 +28,13 @@ pub(crate) struct Bar<'a> {
 #[derive(Clone, Copy)]
 pub(crate) struct End<'a> {
     pub to: u64,
-    pub fate: Fate<'a>,
+    pub fate: CallOutcome<'a>,
     ghost near: { to ≤ MAX_TEXT },
 }
 
 // The outcome of a call.
 #[derive(Clone, Copy)]
-pub(crate) enum Fate<'a> {
+pub(crate) enum CallOutcome<'a> {
     Sent,
     Refused(&'a [u8]),
     Stands,
@@ -42,11 +42,11 @@ pub(crate) enum Fate<'a> {
 
 // A row.
 #[derive(Drop)]
-pub(crate) struct Row<'a> {
+pub(crate) struct TimelineRow<'a> {
     pub conn: u64,
     // The number of events.
     pub happenings: u64,
-    pub marks: Vec<Mark<'a>>,
+    pub marks: Vec<Tick<'a>>,
     // The calls, in the order in which they were accepted.
     pub bars: Vec<Bar<'a>>,
     ghost near: { happenings ≤ MAX_TEXT },

@@ -3,12 +3,12 @@
 ghost use Rattle.std.specs.Prelude.{◌≡◌, ◌++◌, [], OnOk, map};
 ghost use Rattle.std.specs.Fmt.{decimal};
 ghost use Rattle.std.specs.List.{flat_map};
-ghost use Rattle.view_top.specs.Pieces.{ArePlain, IsPlainPiece, quoted, quoted_byte, svg, written};
+ghost use Rattle.view_top.specs.SvgPieces.{ArePlain, IsPlainPiece, quoted_words, quoted_byte, svg, piece_text};
 ghost use Rattle.view_top.specs.Plain.{IsPlain, is_plain};
-ghost use Rattle.view_top.specs.TimelineViews.{piece as piece_view};
+ghost use Rattle.view_top.specs.DrawingData.{svg_piece as piece_view};
 
 use crate::limits::QUOTED;
-use crate::piece::Piece;
+use crate::svg_piece::SvgPiece;
 use mrpc_table::{Bytes, Memory};
 use std::alloc::Global;
 use std::marker::Model;
@@ -49,8 +49,8 @@ impl Picture {
     }
 
     // Appends pieces in order.
-    #[tactic(auto, unfolding(crate::specs::Pieces::svg))]
-    pub(crate) fn put(&mut self, pieces: &[Piece<'_>]) -> Result<(), Memory>
+    #[tactic(auto, unfolding(crate::specs::SvgPieces::svg))]
+    pub(crate) fn put(&mut self, pieces: &[SvgPiece<'_>]) -> Result<(), Memory>
         requires { ArePlain (map piece_view pieces.now) }
         ensures { OnOk result (self.new ≡ self.old ++ svg (map piece_view pieces.now)) }
     {
@@ -60,14 +60,14 @@ impl Picture {
         Ok(())
     }
 
-    fn put_piece(&mut self, piece: Piece<'_>) -> Result<(), Memory>
+    fn put_piece(&mut self, piece: SvgPiece<'_>) -> Result<(), Memory>
         requires { IsPlainPiece (piece_view piece) }
-        ensures { OnOk result (self.new ≡ self.old ++ written (piece_view piece.entry)) }
+        ensures { OnOk result (self.new ≡ self.old ++ piece_text (piece_view piece.entry)) }
     {
         match piece {
-            Piece::Text(text) => self.put_text(text),
-            Piece::Number(number) => self.put_number(number),
-            Piece::Quote(words) => self.put_quote(words),
+            SvgPiece::Text(text) => self.put_text(text),
+            SvgPiece::Number(number) => self.put_number(number),
+            SvgPiece::Quote(words) => self.put_quote(words),
         }
     }
 
@@ -88,7 +88,7 @@ impl Picture {
 
     #[tactic(auto, using(std::proofs::lemmas::List::take_min))]
     fn put_quote(&mut self, words: &[u8]) -> Result<(), Memory>
-        ensures { OnOk result (self.new ≡ self.old ++ quoted words.now) }
+        ensures { OnOk result (self.new ≡ self.old ++ quoted_words words.now) }
     {
         self.put_bytes(&words[..QUOTED.min(words.len())])
     }

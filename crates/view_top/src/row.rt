@@ -3,21 +3,24 @@
 ghost use Rattle.std.specs.Prelude.{◌≡◌, ◌≤◌, ◌<◌, ◌≢◌, ℕ, IfOk, length, map, slice_index_or, vec_len};
 ghost use Rattle.std.specs.List.Sorted.{IsNonDecreasingBy};
 ghost use Rattle.view_top.specs.Rows.{AreRows, row_of};
-ghost use Rattle.view_top.specs.TimelineViews.{all_told, happening, row};
+ghost use Rattle.view_top.specs.DrawingData.{line_events, conn_line_event, row};
 ghost use Rattle.view_top.specs.declared.limits.TheConstants.{MAX_TEXT};
 ghost use Rattle.view_top.specs.declared.line.Event.{Event};
 
 use crate::bar::bars_of;
 use crate::line::Event;
-use crate::mark::marks_of;
-use crate::part::Row;
+use crate::part::TimelineRow;
+use crate::tick::ticks_of;
 use mrpc_table::Memory;
 use std::alloc::Global;
 
 // The rows of events, by ascending connection.
-pub(crate) fn rows_of<'a>(alloc: Global, events: Vec<Event<'a>>) -> Result<Vec<Row<'a>>, Memory>
+pub(crate) fn rows_of<'a>(
+    alloc: Global,
+    events: Vec<Event<'a>>,
+) -> Result<Vec<TimelineRow<'a>>, Memory>
     requires { vec_len events ≤ MAX_TEXT }
-    ensures rows { IfOk result (λ rs. AreRows (map happening events.entry.items) (map row rs.items)) }
+    ensures rows { IfOk result (λ rs. AreRows (map conn_line_event events.entry.items) (map row rs.items)) }
     ensures few { IfOk result (λ rs. vec_len rs ≤ MAX_TEXT) }
 {
     let mut sorted = events;
@@ -26,10 +29,10 @@ pub(crate) fn rows_of<'a>(alloc: Global, events: Vec<Event<'a>>) -> Result<Vec<R
 }
 
 // The rows of events that are given by ascending connection.
-fn rows_in<'a>(alloc: Global, events: &[Event<'a>]) -> Result<Vec<Row<'a>>, Memory>
+fn rows_in<'a>(alloc: Global, events: &[Event<'a>]) -> Result<Vec<TimelineRow<'a>>, Memory>
     requires short { length events.now ≤ MAX_TEXT }
     requires sorted { IsNonDecreasingBy (λ e. e.conn) events.now }
-    ensures rows { IfOk result (λ rs. AreRows (map happening events.now) (map row rs.items)) }
+    ensures rows { IfOk result (λ rs. AreRows (map conn_line_event events.now) (map row rs.items)) }
     ensures few { IfOk result (λ rs. vec_len rs ≤ length events.now) }
 {
     let mut rows = Vec::new(alloc);
@@ -68,13 +71,13 @@ fn end_of(events: &[Event<'_>], at: usize, conn: u64) -> usize
 }
 
 // The row of a connection's events.
-fn row_of<'a>(alloc: Global, conn: u64, events: &[Event<'a>]) -> Result<Row<'a>, Memory>
+fn row_of<'a>(alloc: Global, conn: u64, events: &[Event<'a>]) -> Result<TimelineRow<'a>, Memory>
     requires { length events.now ≤ MAX_TEXT }
-    ensures { IfOk result (λ r. row r ≡ row_of conn (all_told events.now)) }
+    ensures { IfOk result (λ r. row r ≡ row_of conn (line_events events.now)) }
 {
-    let marks = marks_of(alloc, events)?;
+    let marks = ticks_of(alloc, events)?;
     let bars = bars_of(alloc, events)?;
-    Ok(Row {
+    Ok(TimelineRow {
         conn,
         happenings: events.len() as u64,
         marks,

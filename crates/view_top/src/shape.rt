@@ -1,15 +1,15 @@
 //! The shapes of a row.
 
 ghost use Rattle.std.specs.Prelude.{◌≡◌, ◌≤◌, ◌<◌, ◌+◌, ◌^◌, ◌++◌, OnOk};
-ghost use Rattle.view_top.specs.Drawing.{bar_text, cause_text, fate_word, label_y, mark_text, mark_word, rect_text, unit_of, x_of, y_of};
+ghost use Rattle.view_top.specs.Drawing.{bar_text, cause_text, outcome_word, label_y, tick_text, tick_word, rect_text, unit_of, x_of, y_of};
 ghost use Rattle.view_top.specs.Plain.{IsPlain};
-ghost use Rattle.view_top.specs.TimelineViews.{bar as bar_view, fate as fate_view, mark as mark_view};
+ghost use Rattle.view_top.specs.DrawingData.{bar as bar_view, outcome as fate_view, tick as mark_view};
 ghost use Rattle.view_top.specs.declared.limits.TheConstants.{MAX_TEXT};
 
 use crate::limits::{ABOVE, LABEL, LABELS, LANE, LEFT, STEP};
-use crate::part::{Bar, Fate, Mark};
+use crate::part::{Bar, CallOutcome, Tick};
 use crate::picture::Picture;
-use crate::piece::Piece::{Number, Quote, Text};
+use crate::svg_piece::SvgPiece::{Number, Quote, Text};
 use mrpc_table::Memory;
 
 // The horizontal offset of an event in a row.
@@ -36,16 +36,16 @@ fn label_y(label: u64) -> u64
 }
 
 // Draws a line across a row, down to its end.
-#[tactic(auto, unfolding(crate::specs::Drawing::mark_text))]
-pub(crate) fn put_mark(
+#[tactic(auto, unfolding(crate::specs::Drawing::tick_text))]
+pub(crate) fn put_tick(
     picture: &mut Picture,
     below: u64,
     label: u64,
-    mark: &Mark<'_>,
+    mark: &Tick<'_>,
 ) -> Result<(), Memory>
-    ensures { OnOk result (picture.new ≡ picture.old ++ mark_text below label (mark_view mark.now)) }
+    ensures { OnOk result (picture.new ≡ picture.old ++ tick_text below label (mark_view mark.now)) }
 {
-    let word = mark_word(mark.is_step);
+    let word = tick_word(mark.is_step);
     let x = x_of(mark.at);
     let y = label_y(label);
     picture.put(&[
@@ -72,8 +72,8 @@ pub(crate) fn put_mark(
     ])
 }
 
-fn mark_word(is_step: bool) -> &'static [u8]
-    ensures word { result.now ≡ mark_word is_step }
+fn tick_word(is_step: bool) -> &'static [u8]
+    ensures word { result.now ≡ tick_word is_step }
     ensures plain { IsPlain result.now }
 {
     if is_step { b"step" } else { b"moment" }
@@ -100,7 +100,7 @@ fn put_rect(picture: &mut Picture, lane: u64, bar: &Bar<'_>) -> Result<(), Memor
     requires { lane ≤ MAX_TEXT }
     ensures { OnOk result (picture.new ≡ picture.old ++ rect_text lane (bar_view bar.now)) }
 {
-    let word = fate_word(&bar.end.fate);
+    let word = outcome_word(&bar.end.fate);
     let x = x_of(bar.from);
     let y = y_of(lane);
     picture.put(&[
@@ -128,25 +128,25 @@ fn put_rect(picture: &mut Picture, lane: u64, bar: &Bar<'_>) -> Result<(), Memor
     ])
 }
 
-fn fate_word(fate: &Fate<'_>) -> &'static [u8]
-    ensures word { result.now ≡ fate_word (fate_view fate.now) }
+fn outcome_word(fate: &CallOutcome<'_>) -> &'static [u8]
+    ensures word { result.now ≡ outcome_word (fate_view fate.now) }
     ensures plain { IsPlain result.now }
 {
     match fate {
-        Fate::Sent => b"sent",
-        Fate::Refused(_) => b"refused",
-        Fate::Stands => b"stands",
+        CallOutcome::Sent => b"sent",
+        CallOutcome::Refused(_) => b"refused",
+        CallOutcome::Stands => b"stands",
     }
 }
 
 // The cause after a call that was refused.
 #[tactic(auto, unfolding(crate::specs::Drawing::cause_text))]
-fn put_cause(picture: &mut Picture, x: u64, y: u64, fate: &Fate<'_>) -> Result<(), Memory>
+fn put_cause(picture: &mut Picture, x: u64, y: u64, fate: &CallOutcome<'_>) -> Result<(), Memory>
     requires x { x < 2 ^ 32 }
     requires y { y < 2 ^ 32 }
     ensures { OnOk result (picture.new ≡ picture.old ++ cause_text x y (fate_view fate.now)) }
 {
-    let Fate::Refused(cause) = fate else {
+    let CallOutcome::Refused(cause) = fate else {
         return Ok(());
     };
     picture.put(&[

@@ -6,8 +6,8 @@ use Rattle.std.specs.Int.{w32, w64, from_le_bytes}
 use Rattle.std.proofs.lemmas.Bool.{cases_lt}
 use Rattle.std.proofs.lemmas.List.{length-drop, take_all}
 use Rattle.std.proofs.lemmas.List.Elements.{All-nil}
-use Rattle.wire_base.specs.Records.{group_sum, VarintAt, NoVarintAt, PayloadAt, NoPayloadAt, no_varint, no_length}
-use Rattle.wire_base.specs.Records.{short_i64, short_i32, short_len, IsWireType, TagAt, RecordAt, FaultAt, no_tag}
+use Rattle.wire_base.specs.Records.{group_sum, IsVarintAt, HasNoVarintAt, IsPayloadAt, HasNoPayloadAt, no_varint, no_length}
+use Rattle.wire_base.specs.Records.{short_i64, short_i32, short_len, IsWireType, IsTagAt, IsRecordAt, IsWireFaultAt, no_tag}
 use Rattle.wire_base.specs.Records.{tag_range, number_zero, wire_type, no_payload}
 use Rattle.wire_base.specs.declared.records.Payload.{Payload}
 use Rattle.wire_base.specs.declared.records.Payload.TheVariants.{Varint, I64, I32, Len}
@@ -18,7 +18,7 @@ use Rattle.wire_base.specs.declared.fault.WireFault.{WireFault}
 use Rattle.wire_base.proofs.Varints.{top-more, VarintAt-last}
 
 abbrev pub VarintOr : List ℕ → ℕ → Type 0
-VarintOr bytes at = ((v : ℕ) × (next : ℕ) × VarintAt bytes at v next) ⊎ ((reason : WireReason) × NoVarintAt bytes at reason)
+VarintOr bytes at = ((v : ℕ) × (next : ℕ) × IsVarintAt bytes at v next) ⊎ ((reason : WireReason) × HasNoVarintAt bytes at reason)
 
 -- after this many bytes with the top bit set, the next ones decide
 scanned : (left : ℕ) (bytes : List ℕ) (at i : ℕ) → at ≤ i → i + left ≡ at + 10 → i ≤ length bytes → All (λ b. 128 ≤ b) (slice_range bytes at i) → VarintOr bytes at
@@ -44,7 +44,7 @@ varint-or bytes at within =
     scanned 10 bytes at at (omega arith) (omega arith) within (rw none (All-nil (λ b. 128 ≤ b)))
 
 abbrev pub PayloadOr : List ℕ → ℕ → ℕ → Type 0
-PayloadOr bytes at w = ((p : Payload) × (next : ℕ) × PayloadAt bytes at w p next) ⊎ ((reason : WireReason) × NoPayloadAt bytes at w reason)
+PayloadOr bytes at w = ((p : Payload) × (next : ℕ) × IsPayloadAt bytes at w p next) ⊎ ((reason : WireReason) × HasNoPayloadAt bytes at w reason)
 
 varint_payload : (bytes : List ℕ) (at w : ℕ) → w ≡ 0 → at ≤ length bytes → PayloadOr bytes at w
 varint_payload bytes at w is within =
@@ -104,10 +104,10 @@ type-or w below =
         ⊎_elim (λ e. none (inl (omega (arith, e)))) (⊎_elim (λ e. none (inl (omega (arith, e)))) (⊎_elim (λ e. none (inl (omega (arith, e)))) (λ e. none (inr e)))) known
 
 abbrev pub RecordOr : List ℕ → ℕ → Type 0
-RecordOr bytes at = ((r : Record) × RecordAt bytes at r) ⊎ ((f : WireFault) × FaultAt bytes at f)
+RecordOr bytes at = ((r : Record) × IsRecordAt bytes at r) ⊎ ((f : WireFault) × IsWireFaultAt bytes at f)
 
 -- after a tag with a field number and a known wire type
-tagged : (bytes : List ℕ) (at tag start : ℕ) → TagAt bytes at tag start → IsWireType (tag % 8) → RecordOr bytes at
+tagged : (bytes : List ℕ) (at tag start : ℕ) → IsTagAt bytes at tag start → IsWireType (tag % 8) → RecordOr bytes at
 tagged bytes at tag start h known =
     let within = h.stands.within in
     ⊎_elim
@@ -127,7 +127,7 @@ record-or bytes at within =
     (λ zero_is. inr (record { reason = NumberZero; place = at }, number_zero tag start refl refl v.2 small (omega (arith, zero_is))))
     (λ numbered.
     let some : tag / 8 ≢ 0 = λ e. omega (arith, e, numbered) in
-    let h : TagAt bytes at tag start = record { stands = v.2; small = small; numbered = some } in
+    let h : IsTagAt bytes at tag start = record { stands = v.2; small = small; numbered = some } in
     ⊎_elim
     (λ known. tagged bytes at tag start h known)
     (λ unknown. inr (record { reason = WireType; place = at }, wire_type tag start refl refl h unknown))

@@ -9,7 +9,7 @@ use Rattle.std.proofs.lemmas.List.Elements.{All-head, All-tail, All-push, All-ni
 use Rattle.std.proofs.lemmas.Nat.{pow-add}
 use Rattle.std.proofs.Math.Nat.{add-mod, mul-le-mul_left}
 use Rattle.wire_base.specs.Encoding.{groups, varint}
-use Rattle.wire_base.specs.Records.{HasVarintForm, group_sum, IsVarint, VarintAt}
+use Rattle.wire_base.specs.Records.{HasVarintForm, group_sum, IsVarint, IsVarintAt}
 
 pub groups-small : (m n : ℕ) → n < 128 → groups m n ≡ n ∷ []
 unfolding groups
@@ -90,7 +90,7 @@ top-more bytes at i b from within is high top = rw (slice_range-more bytes at i 
 -- the last byte is there
 pub VarintAt-last : (bytes : List ℕ) (at i b v : ℕ) → at ≤ i → i < at + 10 → i < length bytes → b ≡ get_or bytes i 0
     → b < 128 → All (λ x. 128 ≤ x) (slice_range bytes at i) → v ≡ group_sum (slice_range bytes at (i + 1)) % 2 ^ 64
-    → VarintAt bytes at v (i + 1)
+    → IsVarintAt bytes at v (i + 1)
 VarintAt-last bytes at i b v from near within is low top value = record {
   within = omega arith;
   spelled = record {
@@ -171,7 +171,7 @@ IsVarint-varint v h =
     }
 
 -- what was written as a varint is read back, whatever precedes and follows it
-pub VarintAt-varint : (before after : List ℕ) (v : ℕ) → v < 2 ^ 64 → VarintAt (before ++ (varint v ++ after)) (length before) v (length before + length (varint v))
+pub VarintAt-varint : (before after : List ℕ) (v : ℕ) → v < 2 ^ 64 → IsVarintAt (before ++ (varint v ++ after)) (length before) v (length before + length (varint v))
 VarintAt-varint before after v h =
     let at = length before in
     let n = length (varint v) in
@@ -184,7 +184,7 @@ VarintAt-varint before after v h =
     }
 
 -- a byte without the top bit is a varint by itself
-pub VarintAt-byte : (bytes : List ℕ) (at b v : ℕ) → at < length bytes → b ≡ get_or bytes at b → b < 128 → v ≡ b → VarintAt bytes at v (at + 1)
+pub VarintAt-byte : (bytes : List ℕ) (at b v : ℕ) → at < length bytes → b ≡ get_or bytes at b → b < 128 → v ≡ b → IsVarintAt bytes at v (at + 1)
 VarintAt-byte bytes at b v within is low value =
     let here = get_or_read bytes at b within is 0 in
     let none : slice_range bytes at at ≡ [] = ap (λ n. take n (drop at bytes)) (let e : at - at ≡ 0 = omega arith in e) in

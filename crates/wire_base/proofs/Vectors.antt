@@ -9,7 +9,7 @@ use Rattle.mrpc_table.specs.declared.table.Label.TheVariants.{Plain, Optional, P
 use Rattle.mrpc_table.specs.declared.table.Field.{Field}
 use Rattle.mrpc_table.specs.declared.table.Table.{Table}
 use Rattle.wire_base.specs.Encoding.{varint, groups, zigzag_of, number_bytes, encoding}
-use Rattle.wire_base.specs.Records.{IsVarint, RecordAt, FaultAt, TooLongAt, AreRecords, HasFirstFault, no_tag, no_payload, short_len}
+use Rattle.wire_base.specs.Records.{IsVarint, IsRecordAt, IsWireFaultAt, IsTooLongAt, AreRecords, HasFirstFault, no_tag, no_payload, short_len}
 use Rattle.std.proofs.lemmas.List.Elements.{All-replicate}
 use Rattle.wire_base.specs.declared.records.Payload.TheVariants.{Varint, Len}
 use Rattle.wire_base.specs.declared.fault.WireReason.TheVariants.{Varint as NoVarint, Short}
@@ -32,7 +32,7 @@ zigzag-vectors : (zigzag_of 0 ∷ zigzag_of (2 ^ 64 - 1) ∷ zigzag_of 1 ∷ zig
 zigzag-vectors = refl
 
 -- the guide's record of 150 in field 1
-guide : RecordAt (8 ∷ 150 ∷ 1 ∷ []) 0 (record { number = 1; payload = Varint 150; next = 3 })
+guide : IsRecordAt (8 ∷ 150 ∷ 1 ∷ []) 0 (record { number = 1; payload = Varint 150; next = 3 })
 guide = record {
   tag = 8;
   start = 1;
@@ -55,14 +55,14 @@ testing = (
 )
 
 -- ten bytes with the top bit set, and one that ends
-too_long : TooLongAt (replicate 10 128 ++ 0 ∷ []) 0
+too_long : IsTooLongAt (replicate 10 128 ++ 0 ∷ []) 0
 too_long = record { ten = lit≤ tt; top = All-replicate (λ b. 128 ≤ b) 10 128 (lit≤ tt) }
 
-eleven_bytes : FaultAt (replicate 10 128 ++ 0 ∷ []) 0 (record { reason = NoVarint; place = 0 })
+eleven_bytes : IsWireFaultAt (replicate 10 128 ++ 0 ∷ []) 0 (record { reason = NoVarint; place = 0 })
 eleven_bytes = no_tag refl too_long
 
 -- the bytes end in the tag, and after a length of 2
-ends_in_tag : FaultAt (128 ∷ 128 ∷ []) 0 (record { reason = Short; place = 0 })
+ends_in_tag : IsWireFaultAt (128 ∷ 128 ∷ []) 0 (record { reason = Short; place = 0 })
 ends_in_tag = no_tag refl (record { fewer = lit< tt; top = All-replicate (λ b. 128 ≤ b) 2 128 (lit≤ tt) })
 
 ends_in_payload : HasFirstFault (0x08 ∷ 1 ∷ 0x12 ∷ 2 ∷ 65 ∷ []) (record { reason = Short; place = 3 })

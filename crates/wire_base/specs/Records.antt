@@ -29,36 +29,36 @@ pub record IsVarint (bytes : List ℕ) (v : ℕ) : Type 0 where
   pub value : v ≡ group_sum bytes % 2 ^ 64
 
 -- a varint is at this offset, and ends before the next
-pub record VarintAt (bytes : List ℕ) (at v next : ℕ) : Type 0 where
+pub record IsVarintAt (bytes : List ℕ) (at v next : ℕ) : Type 0 where
   pub within : next ≤ length bytes
   pub spelled : IsVarint (slice_range bytes at next) v
 
 -- ten bytes with the top bit set are at this offset
-pub record TooLongAt (bytes : List ℕ) (at : ℕ) : Type 0 where
+pub record IsTooLongAt (bytes : List ℕ) (at : ℕ) : Type 0 where
   pub ten : at + MAX_VARINT ≤ length bytes
   pub top : All (λ b. 128 ≤ b) (slice_range bytes at (at + MAX_VARINT))
 
 -- the bytes end after fewer than ten bytes with the top bit set
-pub record EndsAt (bytes : List ℕ) (at : ℕ) : Type 0 where
+pub record IsCutShortAt (bytes : List ℕ) (at : ℕ) : Type 0 where
   pub fewer : length bytes < at + MAX_VARINT
   pub top : All (λ b. 128 ≤ b) (drop at bytes)
 
 -- why there is no varint at this offset
-abbrev pub NoVarintAt : List ℕ → ℕ → WireReason → Type 0
-NoVarintAt bytes at NoVarint = TooLongAt bytes at
-NoVarintAt bytes at Short = EndsAt bytes at
-NoVarintAt bytes at TagRange = ⊥
-NoVarintAt bytes at NumberZero = ⊥
-NoVarintAt bytes at WireType = ⊥
+abbrev pub HasNoVarintAt : List ℕ → ℕ → WireReason → Type 0
+HasNoVarintAt bytes at NoVarint = IsTooLongAt bytes at
+HasNoVarintAt bytes at Short = IsCutShortAt bytes at
+HasNoVarintAt bytes at TagRange = ⊥
+HasNoVarintAt bytes at NumberZero = ⊥
+HasNoVarintAt bytes at WireType = ⊥
 
 -- a payload of the wire type is at this offset, and ends before the next
-abbrev pub PayloadAt : List ℕ → ℕ → ℕ → Payload → ℕ → Type 0
-PayloadAt bytes at wire_type (Varint v) next = (wire_type ≡ wire_varint) × VarintAt bytes at v next
-PayloadAt bytes at wire_type (I64 v) next = (wire_type ≡ wire_i64) × (next ≡ at + 8) × (next ≤ length bytes)
+abbrev pub IsPayloadAt : List ℕ → ℕ → ℕ → Payload → ℕ → Type 0
+IsPayloadAt bytes at wire_type (Varint v) next = (wire_type ≡ wire_varint) × IsVarintAt bytes at v next
+IsPayloadAt bytes at wire_type (I64 v) next = (wire_type ≡ wire_i64) × (next ≡ at + 8) × (next ≤ length bytes)
     × (v ≡ from_le_bytes w64 (slice_range bytes at next))
-PayloadAt bytes at wire_type (I32 v) next = (wire_type ≡ wire_i32) × (next ≡ at + 4) × (next ≤ length bytes)
+IsPayloadAt bytes at wire_type (I32 v) next = (wire_type ≡ wire_i32) × (next ≡ at + 4) × (next ≤ length bytes)
     × (v ≡ from_le_bytes w32 (slice_range bytes at next))
-PayloadAt bytes at wire_type (Len start end) next = (wire_type ≡ wire_len) × (n : ℕ) × VarintAt bytes at n start
+IsPayloadAt bytes at wire_type (Len start end) next = (wire_type ≡ wire_len) × (n : ℕ) × IsVarintAt bytes at n start
     × (end ≡ start + n) × (end ≤ length bytes) × (next ≡ end)
 
 -- the bytes of a payload are within the first `len` bytes
@@ -69,58 +69,58 @@ IsWithin len (I64 v) = Unit {0}
 IsWithin len (I32 v) = Unit {0}
 
 -- a tag with a field number is at this offset
-pub record TagAt (bytes : List ℕ) (at tag start : ℕ) : Type 0 where
-  pub stands : VarintAt bytes at tag start
+pub record IsTagAt (bytes : List ℕ) (at tag start : ℕ) : Type 0 where
+  pub stands : IsVarintAt bytes at tag start
   pub small : tag < 2 ^ 32
   pub numbered : tag / 8 ≢ 0
 
 -- a record is at this offset: a tag, followed by a payload of the tag's wire type
-pub record RecordAt (bytes : List ℕ) (at : ℕ) (r : Record) : Type 0 where
+pub record IsRecordAt (bytes : List ℕ) (at : ℕ) (r : Record) : Type 0 where
   pub tag : ℕ
   pub start : ℕ
-  pub tagged : TagAt bytes at tag start
+  pub tagged : IsTagAt bytes at tag start
   pub number : r.number ≡ tag / 8
-  pub payload : PayloadAt bytes start (tag % 8) r.payload r.next
+  pub payload : IsPayloadAt bytes start (tag % 8) r.payload r.next
 
 -- the bytes from this offset to the end are these records, in order
-abbrev pub RecordsFrom : List ℕ → ℕ → List Record → Type 0
-RecordsFrom bytes at [] = at ≡ length bytes
-RecordsFrom bytes at (r ∷ rs) = RecordAt bytes at r × RecordsFrom bytes r.next rs
+abbrev pub AreRecordsFrom : List ℕ → ℕ → List Record → Type 0
+AreRecordsFrom bytes at [] = at ≡ length bytes
+AreRecordsFrom bytes at (r ∷ rs) = IsRecordAt bytes at r × AreRecordsFrom bytes r.next rs
 
 -- the bytes are these records, in order
 abbrev pub AreRecords : List ℕ → List Record → Type 0
-AreRecords bytes rs = RecordsFrom bytes 0 rs
+AreRecords bytes rs = AreRecordsFrom bytes 0 rs
 
 abbrev pub IsWireType : ℕ → Type 0
 IsWireType w = (w ≡ wire_varint) ⊎ (w ≡ wire_i64) ⊎ (w ≡ wire_len) ⊎ (w ≡ wire_i32)
 
 -- why there is no payload of the wire type at this offset
-pub data NoPayloadAt (bytes : List ℕ) (at wire_type : ℕ) (reason : WireReason) : Type 0 where
-  no_varint : wire_type ≡ wire_varint → NoVarintAt bytes at reason → NoPayloadAt bytes at wire_type reason
-  no_length : wire_type ≡ wire_len → NoVarintAt bytes at reason → NoPayloadAt bytes at wire_type reason
-  short_i64 : wire_type ≡ wire_i64 → reason ≡ Short → length bytes < at + 8 → NoPayloadAt bytes at wire_type reason
-  short_i32 : wire_type ≡ wire_i32 → reason ≡ Short → length bytes < at + 4 → NoPayloadAt bytes at wire_type reason
-  short_len : (n start : ℕ) → wire_type ≡ wire_len → reason ≡ Short → VarintAt bytes at n start
-      → length bytes < start + n → NoPayloadAt bytes at wire_type reason
+pub data HasNoPayloadAt (bytes : List ℕ) (at wire_type : ℕ) (reason : WireReason) : Type 0 where
+  no_varint : wire_type ≡ wire_varint → HasNoVarintAt bytes at reason → HasNoPayloadAt bytes at wire_type reason
+  no_length : wire_type ≡ wire_len → HasNoVarintAt bytes at reason → HasNoPayloadAt bytes at wire_type reason
+  short_i64 : wire_type ≡ wire_i64 → reason ≡ Short → length bytes < at + 8 → HasNoPayloadAt bytes at wire_type reason
+  short_i32 : wire_type ≡ wire_i32 → reason ≡ Short → length bytes < at + 4 → HasNoPayloadAt bytes at wire_type reason
+  short_len : (n start : ℕ) → wire_type ≡ wire_len → reason ≡ Short → IsVarintAt bytes at n start
+      → length bytes < start + n → HasNoPayloadAt bytes at wire_type reason
 
 -- why there is no record at this offset, and the offset of the fault: that of the tag, or of the payload
-pub data FaultAt (bytes : List ℕ) (at : ℕ) (f : WireFault) : Type 0 where
-  no_tag : f.place ≡ at → NoVarintAt bytes at f.reason → FaultAt bytes at f
-  tag_range : (tag start : ℕ) → f.place ≡ at → f.reason ≡ TagRange → VarintAt bytes at tag start → 2 ^ 32 ≤ tag
-      → FaultAt bytes at f
-  number_zero : (tag start : ℕ) → f.place ≡ at → f.reason ≡ NumberZero → VarintAt bytes at tag start → tag < 2 ^ 32
-      → tag / 8 ≡ 0 → FaultAt bytes at f
-  wire_type : (tag start : ℕ) → f.place ≡ at → f.reason ≡ WireType → TagAt bytes at tag start
-      → (IsWireType (tag % 8) → ⊥) → FaultAt bytes at f
-  no_payload : (tag start : ℕ) → f.place ≡ start → TagAt bytes at tag start
-      → NoPayloadAt bytes start (tag % 8) f.reason → FaultAt bytes at f
+pub data IsWireFaultAt (bytes : List ℕ) (at : ℕ) (f : WireFault) : Type 0 where
+  no_tag : f.place ≡ at → HasNoVarintAt bytes at f.reason → IsWireFaultAt bytes at f
+  tag_range : (tag start : ℕ) → f.place ≡ at → f.reason ≡ TagRange → IsVarintAt bytes at tag start → 2 ^ 32 ≤ tag
+      → IsWireFaultAt bytes at f
+  number_zero : (tag start : ℕ) → f.place ≡ at → f.reason ≡ NumberZero → IsVarintAt bytes at tag start → tag < 2 ^ 32
+      → tag / 8 ≡ 0 → IsWireFaultAt bytes at f
+  wire_type : (tag start : ℕ) → f.place ≡ at → f.reason ≡ WireType → IsTagAt bytes at tag start
+      → (IsWireType (tag % 8) → ⊥) → IsWireFaultAt bytes at f
+  no_payload : (tag start : ℕ) → f.place ≡ start → IsTagAt bytes at tag start
+      → HasNoPayloadAt bytes start (tag % 8) f.reason → IsWireFaultAt bytes at f
 
 -- these records follow each other from this offset on, and there is no record after them
-abbrev pub FaultFrom : List ℕ → ℕ → List Record → WireFault → Type 0
-FaultFrom bytes at [] f = (at < length bytes) × FaultAt bytes at f
-FaultFrom bytes at (r ∷ rs) f = RecordAt bytes at r × FaultFrom bytes r.next rs f
+abbrev pub IsWireFaultAfter : List ℕ → ℕ → List Record → WireFault → Type 0
+IsWireFaultAfter bytes at [] f = (at < length bytes) × IsWireFaultAt bytes at f
+IsWireFaultAfter bytes at (r ∷ rs) f = IsRecordAt bytes at r × IsWireFaultAfter bytes r.next rs f
 
 -- the first fault of a byte string that isn't a list of records
 pub record HasFirstFault (bytes : List ℕ) (f : WireFault) : Type 0 where
   pub before : List Record
-  pub first : FaultFrom bytes 0 before f
+  pub first : IsWireFaultAfter bytes 0 before f

@@ -18,4 +18,4 @@ pub use fixed::{read_fixed32, read_fixed64};
 pub use laws::{payload_or_reason, record_or_fault, records_or_fault, varint_is_read_back};
 pub use records::{Payload, Record, read_delimited, read_record, read_tag};
 pub use sign::{unzigzag, zigzag};
-pub use varint::{MAX_VARINT, Spelling, fill_varint, put_varint, read_varint, varint_len};
+pub use varint::{MAX_VARINT, VarintBytes, fill_varint, put_varint, read_varint, varint_len};

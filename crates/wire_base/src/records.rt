@@ -2,7 +2,7 @@
 //! Structure").
 
 ghost use Rattle.std.specs.Prelude.{◌≡◌, ℕ, ◌+◌, ◌%◌, ◌<◌, ◌≤◌, length, IfOk, IfErr};
-ghost use Rattle.wire_base.specs.Records.{RecordAt, FaultAt, PayloadAt, NoPayloadAt, TagAt, IsWireType, IsWithin};
+ghost use Rattle.wire_base.specs.Records.{IsRecordAt, IsWireFaultAt, IsPayloadAt, HasNoPayloadAt, IsTagAt, IsWireType, IsWithin};
 ghost use Rattle.wire_base.specs.declared.records.Record.{Record};
 ghost use Rattle.wire_base.specs.declared.fault.WireFault.{WireFault};
 ghost use Rattle.wire_base.specs.declared.fault.WireReason.TheVariants.{Short};
@@ -43,15 +43,15 @@ pub struct Record {
 /// that of the payload. A payload with a length starts at its length.
 pub fn read_record(bytes: &[u8], at: usize) -> Result<Record, WireFault>
     requires { at ≤ length bytes.now }
-    ensures found { IfOk result (λ r. RecordAt bytes.now at r) }
-    ensures fault { IfErr result (λ f. FaultAt bytes.now at f) }
+    ensures found { IfOk result (λ r. IsRecordAt bytes.now at r) }
+    ensures fault { IfErr result (λ f. IsWireFaultAt bytes.now at f) }
     ensures ahead { IfOk result (λ r. at < r.next) }
     ensures within { IfOk result (λ r. r.next ≤ length bytes.now) }
     ensures span { IfOk result (λ r. IsWithin (length bytes.now) r.payload) }
 
     // Each record is found, and so is each fault.
-    ensures each { (r : Record) → RecordAt bytes.now at r → result ≡ Ok r }
-    ensures each_fault { (f : WireFault) → FaultAt bytes.now at f → result ≡ Err f }
+    ensures each { (r : Record) → IsRecordAt bytes.now at r → result ≡ Ok r }
+    ensures each_fault { (f : WireFault) → IsWireFaultAt bytes.now at f → result ≡ Err f }
 {
     let (tag, start) = read_tag(bytes, at)?;
     let (payload, next) = read_payload(bytes, start, tag % 8)?;
@@ -65,12 +65,12 @@ pub fn read_record(bytes: &[u8], at: usize) -> Result<Record, WireFault>
 /// The tag at an offset, and the offset after it. The faults are the first four of `read_record`.
 pub fn read_tag(bytes: &[u8], at: usize) -> Result<(u32, usize), WireFault>
     requires { at ≤ length bytes.now }
-    ensures found { IfOk result (λ t. TagAt bytes.now at t.0 t.1) }
+    ensures found { IfOk result (λ t. IsTagAt bytes.now at t.0 t.1) }
     ensures known { IfOk result (λ t. IsWireType (t.0 % 8)) }
-    ensures fault { IfErr result (λ f. FaultAt bytes.now at f) }
+    ensures fault { IfErr result (λ f. IsWireFaultAt bytes.now at f) }
 
     // Each tag is found, whatever follows it.
-    ensures each { (tag start : ℕ) → TagAt bytes.now at tag start → IsWireType (tag % 8) → result ≡ Ok (tag, start) }
+    ensures each { (tag start : ℕ) → IsTagAt bytes.now at tag start → IsWireType (tag % 8) → result ≡ Ok (tag, start) }
 {
     let (tag, start) = read_varint(bytes, at)?;
     if tag >= 1 << 32 {
@@ -98,9 +98,9 @@ pub fn read_tag(bytes: &[u8], at: usize) -> Result<(u32, usize), WireFault>
 fn read_payload(bytes: &[u8], start: usize, wire_type: u32) -> Result<(Payload, usize), WireFault>
     requires place { start ≤ length bytes.now }
     requires known { IsWireType wire_type }
-    ensures found { IfOk result (λ p. PayloadAt bytes.now start wire_type p.0 p.1) }
+    ensures found { IfOk result (λ p. IsPayloadAt bytes.now start wire_type p.0 p.1) }
     ensures fault { IfErr result
-        (λ f. (f.place ≡ start) × NoPayloadAt bytes.now start wire_type f.reason) }
+        (λ f. (f.place ≡ start) × HasNoPayloadAt bytes.now start wire_type f.reason) }
 {
     match wire_type {
         0 => varint_payload(bytes, start),
@@ -112,8 +112,8 @@ fn read_payload(bytes: &[u8], start: usize, wire_type: u32) -> Result<(Payload, 
 
 fn varint_payload(bytes: &[u8], start: usize) -> Result<(Payload, usize), WireFault>
     requires { start ≤ length bytes.now }
-    ensures found { IfOk result (λ p. PayloadAt bytes.now start 0 p.0 p.1) }
-    ensures fault { IfErr result (λ f. (f.place ≡ start) × NoPayloadAt bytes.now start 0 f.reason) }
+    ensures found { IfOk result (λ p. IsPayloadAt bytes.now start 0 p.0 p.1) }
+    ensures fault { IfErr result (λ f. (f.place ≡ start) × HasNoPayloadAt bytes.now start 0 f.reason) }
 {
     let (v, next) = read_varint(bytes, start)?;
     Ok((Payload::Varint(v), next))
@@ -121,8 +121,8 @@ fn varint_payload(bytes: &[u8], start: usize) -> Result<(Payload, usize), WireFa
 
 fn i64_payload(bytes: &[u8], start: usize) -> Result<(Payload, usize), WireFault>
     requires { start ≤ length bytes.now }
-    ensures found { IfOk result (λ p. PayloadAt bytes.now start 1 p.0 p.1) }
-    ensures fault { IfErr result (λ f. (f.place ≡ start) × NoPayloadAt bytes.now start 1 f.reason) }
+    ensures found { IfOk result (λ p. IsPayloadAt bytes.now start 1 p.0 p.1) }
+    ensures fault { IfErr result (λ f. (f.place ≡ start) × HasNoPayloadAt bytes.now start 1 f.reason) }
 {
     match read_fixed64(bytes, start) {
         Some((v, next)) => Ok((Payload::I64(v), next)),
@@ -132,8 +132,8 @@ fn i64_payload(bytes: &[u8], start: usize) -> Result<(Payload, usize), WireFault
 
 fn i32_payload(bytes: &[u8], start: usize) -> Result<(Payload, usize), WireFault>
     requires { start ≤ length bytes.now }
-    ensures found { IfOk result (λ p. PayloadAt bytes.now start 5 p.0 p.1) }
-    ensures fault { IfErr result (λ f. (f.place ≡ start) × NoPayloadAt bytes.now start 5 f.reason) }
+    ensures found { IfOk result (λ p. IsPayloadAt bytes.now start 5 p.0 p.1) }
+    ensures fault { IfErr result (λ f. (f.place ≡ start) × HasNoPayloadAt bytes.now start 5 f.reason) }
 {
     match read_fixed32(bytes, start) {
         Some((v, next)) => Ok((Payload::I32(v), next)),
@@ -143,8 +143,8 @@ fn i32_payload(bytes: &[u8], start: usize) -> Result<(Payload, usize), WireFault
 
 fn len_payload(bytes: &[u8], start: usize) -> Result<(Payload, usize), WireFault>
     requires { start ≤ length bytes.now }
-    ensures found { IfOk result (λ p. PayloadAt bytes.now start 2 p.0 p.1) }
-    ensures fault { IfErr result (λ f. (f.place ≡ start) × NoPayloadAt bytes.now start 2 f.reason) }
+    ensures found { IfOk result (λ p. IsPayloadAt bytes.now start 2 p.0 p.1) }
+    ensures fault { IfErr result (λ f. (f.place ≡ start) × HasNoPayloadAt bytes.now start 2 f.reason) }
 {
     let (first, end) = read_delimited(bytes, start)?;
     Ok((Payload::Len { start: first, end }, end))
@@ -155,8 +155,8 @@ fn len_payload(bytes: &[u8], start: usize) -> Result<(Payload, usize), WireFault
 #[inline(always)]
 pub fn read_delimited(bytes: &[u8], at: usize) -> Result<(usize, usize), WireFault>
     requires { at ≤ length bytes.now }
-    ensures found { IfOk result (λ r. PayloadAt bytes.now at wire_len (Len r.0 r.1) r.1) }
-    ensures fault { IfErr result (λ f. (f.place ≡ at) × NoPayloadAt bytes.now at wire_len f.reason) }
+    ensures found { IfOk result (λ r. IsPayloadAt bytes.now at wire_len (Len r.0 r.1) r.1) }
+    ensures fault { IfErr result (λ f. (f.place ≡ at) × HasNoPayloadAt bytes.now at wire_len f.reason) }
     ensures ahead { IfOk result (λ r. at < r.0) }
     ensures order { IfOk result (λ r. r.0 ≤ r.1) }
     ensures within { IfOk result (λ r. r.1 ≤ length bytes.now) }

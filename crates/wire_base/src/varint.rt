@@ -3,7 +3,7 @@
 
 ghost use Rattle.std.specs.Prelude.{◌≡◌, ℕ, ◌+◌, ◌<◌, ◌≤◌, ◌^◌, List, ◌++◌, length, take, OnOk, OnErr, IfOk, IfErr};
 ghost use Rattle.wire_base.specs.Encoding.{varint};
-ghost use Rattle.wire_base.specs.Records.{IsVarint, VarintAt, NoVarintAt};
+ghost use Rattle.wire_base.specs.Records.{IsVarint, IsVarintAt, HasNoVarintAt};
 ghost use Rattle.wire_base.specs.declared.fault.WireReason.{WireReason};
 
 use crate::fault::{WireFault, WireReason};
@@ -16,12 +16,12 @@ pub const MAX_VARINT: usize = 10;
 
 /// The shortest varint of a number. Contracts see its bytes.
 #[derive(Drop)]
-pub struct Spelling {
+pub struct VarintBytes {
     bytes: [u8; MAX_VARINT],
     len: usize,
 }
 
-impl Model for Spelling {
+impl Model for VarintBytes {
     ghost use Rattle.std.specs.Prelude.{ℕ, List, ◌≤◌, take};
     ghost use Rattle.wire_base.specs.declared.varint.TheConstants.{MAX_VARINT};
 
@@ -32,9 +32,9 @@ impl Model for Spelling {
     ghost invariant = { λ s. s.len ≤ MAX_VARINT };
 }
 
-impl Spelling {
+impl VarintBytes {
     /// The shortest varint of `v`.
-    pub fn of(v: u64) -> Spelling
+    pub fn of(v: u64) -> VarintBytes
         ensures value { result ≡ varint v }
         ensures read { IsVarint result v }
         ensures shortest { (bytes : List ℕ) → IsVarint bytes v → length result ≤ length bytes }
@@ -44,7 +44,7 @@ impl Spelling {
         for place in 0..MAX_VARINT - 1 {
             if rest < 128 {
                 bytes[place] = rest as u8;
-                return Spelling {
+                return VarintBytes {
                     bytes,
                     len: place + 1,
                 };
@@ -53,7 +53,7 @@ impl Spelling {
             rest /= 128;
         }
         bytes[MAX_VARINT - 1] = rest as u8;
-        Spelling {
+        VarintBytes {
             bytes,
             len: MAX_VARINT,
         }
@@ -72,7 +72,7 @@ pub fn put_varint(out: &mut Bytes, v: u64) -> Result<(), Memory>
     ensures ok { OnOk result (out.new ≡ out.old ++ varint v) }
     ensures err { OnErr result (out.new ≡ out.old) }
 {
-    out.append(Spelling::of(v).as_slice())
+    out.append(VarintBytes::of(v).as_slice())
 }
 
 /// Writes the shortest varint of `v` to a buffer of exactly its length.
@@ -138,14 +138,14 @@ fn long_len(v: u64) -> usize
 /// than ten such bytes.
 pub fn read_varint(bytes: &[u8], at: usize) -> Result<(u64, usize), WireFault>
     requires { at ≤ length bytes.now }
-    ensures found { IfOk result (λ r. VarintAt bytes.now at r.0 r.1) }
-    ensures fault { IfErr result (λ f. (f.place ≡ at) × NoVarintAt bytes.now at f.reason) }
+    ensures found { IfOk result (λ r. IsVarintAt bytes.now at r.0 r.1) }
+    ensures fault { IfErr result (λ f. (f.place ≡ at) × HasNoVarintAt bytes.now at f.reason) }
     ensures ahead { IfOk result (λ r. at < r.1) }
     ensures within { IfOk result (λ r. r.1 ≤ length bytes.now) }
 
     // Each varint is found, and so is each fault.
-    ensures each { (v next : ℕ) → VarintAt bytes.now at v next → result ≡ Ok (v, next) }
-    ensures each_fault { (reason : WireReason) → NoVarintAt bytes.now at reason
+    ensures each { (v next : ℕ) → IsVarintAt bytes.now at v next → result ≡ Ok (v, next) }
+    ensures each_fault { (reason : WireReason) → HasNoVarintAt bytes.now at reason
         → result ≡ Err (record { reason = reason; place = at }) }
 {
     match bytes.get(at) {
@@ -157,8 +157,8 @@ pub fn read_varint(bytes: &[u8], at: usize) -> Result<(u64, usize), WireFault>
 // Like `read_varint`, a byte at a time.
 fn read_long(bytes: &[u8], at: usize) -> Result<(u64, usize), WireFault>
     requires { at ≤ length bytes.now }
-    ensures found { IfOk result (λ r. VarintAt bytes.now at r.0 r.1) }
-    ensures fault { IfErr result (λ f. (f.place ≡ at) × NoVarintAt bytes.now at f.reason) }
+    ensures found { IfOk result (λ r. IsVarintAt bytes.now at r.0 r.1) }
+    ensures fault { IfErr result (λ f. (f.place ≡ at) × HasNoVarintAt bytes.now at f.reason) }
 {
     let end = bytes.len().min(at + MAX_VARINT);
     let mut value = 0u64;

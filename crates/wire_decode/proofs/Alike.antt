@@ -14,18 +14,18 @@ use Rattle.mrpc_table.specs.declared.table.Label.{Label}
 use Rattle.mrpc_table.specs.declared.table.Label.TheVariants.{Plain, Optional, Repeated, Packed, Map, Member}
 use Rattle.mrpc_table.specs.declared.table.Field.{Field}
 use Rattle.mrpc_table.specs.declared.table.Table.{Table}
-use Rattle.wire_base.specs.Records.{RecordAt, RecordsFrom, IsWithin}
+use Rattle.wire_base.specs.Records.{IsRecordAt, AreRecordsFrom, IsWithin}
 use Rattle.wire_base.specs.declared.records.Record.{Record}
 use Rattle.wire_base.specs.declared.records.Payload.{Payload}
 use Rattle.wire_base.specs.declared.records.Payload.TheVariants.{Len}
-use Rattle.wire_decode.specs.Words.{word_of, number_in, is_list, is_map, may_be_packed, AreElements}
-use Rattle.wire_decode.specs.Reads.{Reads, read_end, read_other, read_known, Holds, holds_number, holds_piece}
-use Rattle.wire_decode.specs.Reads.{holds_text, holds_octets, holds_message, holds_entry}
-use Rattle.wire_decode.specs.Known.{is_message, entry_fields}
-use Rattle.wire_decode.specs.Reads.{numbers}
-use Rattle.wire_decode.specs.Merged.{contents_of, is_overtaken, counted}
+use Rattle.wire_decode.specs.Words.{word_form_of, payload_number, is_list, is_map, may_be_packed, AreElements}
+use Rattle.wire_decode.specs.RawMessages.{IsRawMessage, read_end, read_other, read_known, IsContentUnder, holds_number, holds_piece}
+use Rattle.wire_decode.specs.RawMessages.{holds_text, holds_octets, holds_message, holds_entry}
+use Rattle.wire_decode.specs.Known.{is_message_kind, entry_fields}
+use Rattle.wire_decode.specs.RawMessages.{numbers}
+use Rattle.wire_decode.specs.Merged.{contents_of, is_overtaken, counted_records}
 use Rattle.wire_decode.specs.Oneofs.{are_rivals}
-use Rattle.wire_decode.specs.Meaning.{Value, single, packed, delimited, has_rival, counted_values, values_of}
+use Rattle.wire_decode.specs.Meaning.{RecordValue, single, packed, delimited, has_rival, counted_values, values_with_number}
 use Rattle.wire_decode.specs.Meaning.{values_but, MeansIn, HaveValues, no_more, skipped, known, HasValue, a_number}
 use Rattle.wire_decode.specs.Meaning.{a_piece, a_text, some_octets, a_message, an_entry}
 use Rattle.wire_decode.proofs.Payloads.{PayloadAt-span}
@@ -36,28 +36,28 @@ use Rattle.wire_decode.proofs.Taken.{contents_but, meaning}
 
 -- ---- a value and a content
 
-pub data Alike (T : Table) : ℕ → Label → Kind → Value → Content → Type 0 where
-  alike_number : {room : ℕ} {label : Label} {k : Kind} {v : Value} {c : Content} (n : ℕ) → is_map label ≡ false
-      → is_message k ≡ false → v ≡ single n → c ≡ one (number n) → Alike T room label k v c
-  alike_piece : {room : ℕ} {label : Label} {k : Kind} {v : Value} {c : Content} (ns : List ℕ) → is_list label ≡ true
-      → is_message k ≡ false → v ≡ packed ns → c ≡ many (numbers ns) → Alike T room label k v c
-  alike_run : {room : ℕ} {label : Label} {k : Kind} {v : Value} {c : Content} (bytes : List ℕ) → is_map label ≡ false
-      → is_message k ≡ false → v ≡ delimited bytes → c ≡ one (run bytes) → Alike T room label k v c
-  alike_message : {room : ℕ} {label : Label} {k : Kind} {v : Value} {c : Content} (i inside : ℕ) (bytes : List ℕ)
+pub data Alike (T : Table) : ℕ → Label → Kind → RecordValue → Content → Type 0 where
+  alike_number : {room : ℕ} {label : Label} {k : Kind} {v : RecordValue} {c : Content} (n : ℕ) → is_map label ≡ false
+      → is_message_kind k ≡ false → v ≡ single n → c ≡ one (number n) → Alike T room label k v c
+  alike_piece : {room : ℕ} {label : Label} {k : Kind} {v : RecordValue} {c : Content} (ns : List ℕ) → is_list label ≡ true
+      → is_message_kind k ≡ false → v ≡ packed ns → c ≡ many (numbers ns) → Alike T room label k v c
+  alike_run : {room : ℕ} {label : Label} {k : Kind} {v : RecordValue} {c : Content} (bytes : List ℕ) → is_map label ≡ false
+      → is_message_kind k ≡ false → v ≡ delimited bytes → c ≡ one (run bytes) → Alike T room label k v c
+  alike_message : {room : ℕ} {label : Label} {k : Kind} {v : RecordValue} {c : Content} (i inside : ℕ) (bytes : List ℕ)
       (t : Node) → is_map label ≡ false → k ≡ OfMessage i → room ≡ suc inside → v ≡ delimited bytes
-      → Reads T inside (fields_of T i) bytes 0 t → c ≡ one (node t) → Alike T room label k v c
-  alike_entry : {room : ℕ} {label : Label} {k : Kind} {v : Value} {c : Content} (key : Kind) (bytes : List ℕ)
-      (t : Node) → label ≡ Map key → v ≡ delimited bytes → Reads T room (entry_fields key k) bytes 0 t
+      → IsRawMessage T inside (fields_of T i) bytes 0 t → c ≡ one (node t) → Alike T room label k v c
+  alike_entry : {room : ℕ} {label : Label} {k : Kind} {v : RecordValue} {c : Content} (key : Kind) (bytes : List ℕ)
+      (t : Node) → label ≡ Map key → v ≡ delimited bytes → IsRawMessage T room (entry_fields key k) bytes 0 t
       → c ≡ one (node t) → Alike T room label k v c
 
-abbrev pub AllAlike : Table → ℕ → Label → Kind → List Value → List Content → Type 0
+abbrev pub AllAlike : Table → ℕ → Label → Kind → List RecordValue → List Content → Type 0
 AllAlike T room label k [] [] = Unit {0}
 AllAlike T room label k [] (c ∷ cs) = ⊥
 AllAlike T room label k (v ∷ vs) [] = ⊥
 AllAlike T room label k (v ∷ vs) (c ∷ cs) = Alike T room label k v c × AllAlike T room label k vs cs
 
 -- each value corresponds to the content at the same index
-abbrev pub Match : Table → ℕ → List Field → List (ℕ × Value) → Node → Type 0
+abbrev pub Match : Table → ℕ → List Field → List (ℕ × RecordValue) → Node → Type 0
 Match T room fs [] no_fields = Unit {0}
 Match T room fs [] (field n c t) = ⊥
 Match T room fs (w ∷ ws) no_fields = ⊥
@@ -67,7 +67,7 @@ some-same : (f g : Field) (o : Option Field) → o ≡ Some f → o ≡ Some g �
 some-same f g o a b = (let e : Some f ≡ Some g = sym a ∙ b in cc)
 
 -- whether a value counts
-rival-same : (T : Table) (room : ℕ) (fs gs : List Field) (n : ℕ) (vs : List (ℕ × Value)) (t : Node) → Match T room fs vs t → has_rival gs n vs ≡ is_overtaken gs n t
+rival-same : (T : Table) (room : ℕ) (fs gs : List Field) (n : ℕ) (vs : List (ℕ × RecordValue)) (t : Node) → Match T room fs vs t → has_rival gs n vs ≡ is_overtaken gs n t
 rival-same T room fs gs n [] no_fields h = refl
 rival-same T room fs gs n [] (field m c t) h = absurd h
 rival-same T room fs gs n (w ∷ ws) no_fields h = absurd h
@@ -80,7 +80,7 @@ eq-of m n h = ⊎_elim (λ s. s.1) (λ s. absurd (let e : true ≡ false = sym h
 not-of : (m n : ℕ) → (m == n) ≡ false → m ≢ n
 not-of m n h = ⊎_elim (λ s. absurd (let e : true ≡ false = sym s.0 ∙ h in cc)) (λ s. s.1) (eqb_tells m n)
 
-counted-go : (T : Table) (room : ℕ) (fs : List Field) (w : ℕ × Value) (ws : List (ℕ × Value)) (m : ℕ) (c : Content) (t : Node) (a b : Bool) → a ≡ b
+counted-go : (T : Table) (room : ℕ) (fs : List Field) (w : ℕ × RecordValue) (ws : List (ℕ × RecordValue)) (m : ℕ) (c : Content) (t : Node) (a b : Bool) → a ≡ b
     → (w.0 ≡ m) → ((f : Field) × (field_at fs m ≡ Some f) × Alike T room f.label f.kind w.1 c) → Match T room fs ws t
     → Match T room fs (if a then ws else w ∷ ws) (if b then t else field m c t)
 counted-go T room fs w ws m c t true true e n h more = more
@@ -88,15 +88,15 @@ counted-go T room fs w ws m c t true false e n h more = absurd (cc)
 counted-go T room fs w ws m c t false true e n h more = absurd (cc)
 counted-go T room fs w ws m c t false false e n h more = (n, h, more)
 
-pub match-counted : (T : Table) (room : ℕ) (fs gs : List Field) (vs : List (ℕ × Value)) (t : Node) → Match T room fs vs t → Match T room fs (counted_values gs vs) (counted gs t)
+pub match-counted : (T : Table) (room : ℕ) (fs gs : List Field) (vs : List (ℕ × RecordValue)) (t : Node) → Match T room fs vs t → Match T room fs (counted_values gs vs) (counted_records gs t)
 match-counted T room fs gs [] no_fields h = tt
 match-counted T room fs gs [] (field m c t) h = absurd h
 match-counted T room fs gs (w ∷ ws) no_fields h = absurd h
 match-counted T room fs gs (w ∷ ws) (field m c t) h =
-    counted-go T room fs w (counted_values gs ws) m c (counted gs t) (has_rival gs w.0 ws) (is_overtaken gs m t)
+    counted-go T room fs w (counted_values gs ws) m c (counted_records gs t) (has_rival gs w.0 ws) (is_overtaken gs m t)
     (ap (λ x. has_rival gs x ws) h.0 ∙ rival-same T room fs gs m ws t h.2) h.0 h.1 (match-counted T room fs gs ws t h.2)
 
-field-go : (T : Table) (room : ℕ) (label : Label) (k : Kind) (v : Value) (vs : List Value) (c : Content) (cs : List Content) (a b : Bool) → a ≡ b
+field-go : (T : Table) (room : ℕ) (label : Label) (k : Kind) (v : RecordValue) (vs : List RecordValue) (c : Content) (cs : List Content) (a b : Bool) → a ≡ b
     → (b ≡ true → Alike T room label k v c) → AllAlike T room label k vs cs → AllAlike T room label k (if a then v ∷ vs else vs) (if b then c ∷ cs else cs)
 field-go T room label k v vs c cs true true e h more = (h refl, more)
 field-go T room label k v vs c cs true false e h more = absurd (cc)
@@ -104,9 +104,9 @@ field-go T room label k v vs c cs false true e h more = absurd (cc)
 field-go T room label k v vs c cs false false e h more = more
 
 -- the values of one field
-pub match-field : (T : Table) (room : ℕ) (fs : List Field) (n : ℕ) (f : Field) (vs : List (ℕ × Value)) (t : Node)
+pub match-field : (T : Table) (room : ℕ) (fs : List Field) (n : ℕ) (f : Field) (vs : List (ℕ × RecordValue)) (t : Node)
     → field_at fs n ≡ Some f → Match T room fs vs t
-    → AllAlike T room f.label f.kind (values_of n vs) (contents_of n t)
+    → AllAlike T room f.label f.kind (values_with_number n vs) (contents_of n t)
 match-field T room fs n f [] no_fields at h = tt
 match-field T room fs n f [] (field m c t) at h = absurd h
 match-field T room fs n f (w ∷ ws) no_fields at h = absurd h
@@ -116,9 +116,9 @@ match-field T room fs n f (w ∷ ws) (field m c t) at h =
     let same : g.0 ≡ f = some-same g.0 f (field_at fs n) (subst (λ (x : ℕ). field_at fs x ≡ Some g.0) (eq-of m n test) g.1) at in
     subst (λ (x : Field). Alike T room x.label x.kind w.1 c) same g.2
     in
-    field-go T room f.label f.kind w.1 (values_of n ws) c (contents_of n t) (w.0 == n) (m == n) (ap (λ x. x == n) h.0) here (match-field T room fs n f ws t at h.2)
+    field-go T room f.label f.kind w.1 (values_with_number n ws) c (contents_of n t) (w.0 == n) (m == n) (ap (λ x. x == n) h.0) here (match-field T room fs n f ws t at h.2)
 
-but-go : (T : Table) (room : ℕ) (fs : List Field) (w : ℕ × Value) (ws : List (ℕ × Value)) (m : ℕ) (c : Content) (t : Node) (a b : Bool) → a ≡ b
+but-go : (T : Table) (room : ℕ) (fs : List Field) (w : ℕ × RecordValue) (ws : List (ℕ × RecordValue)) (m : ℕ) (c : Content) (t : Node) (a b : Bool) → a ≡ b
     → (w.0 ≡ m) → (b ≡ false → (f : Field) × (field_at fs m ≡ Some f) × Alike T room f.label f.kind w.1 c) → Match T room fs ws t
     → Match T room fs (if a then ws else w ∷ ws) (if b then t else field m c t)
 but-go T room fs w ws m c t true true e n h more = more
@@ -127,7 +127,7 @@ but-go T room fs w ws m c t false true e n h more = absurd (cc)
 but-go T room fs w ws m c t false false e n h more = (n, h refl, more)
 
 -- the values of the other fields
-pub match-but : (T : Table) (room : ℕ) (f : Field) (fs : List Field) (vs : List (ℕ × Value)) (t : Node)
+pub match-but : (T : Table) (room : ℕ) (f : Field) (fs : List Field) (vs : List (ℕ × RecordValue)) (t : Node)
     → Match T room (f ∷ fs) vs t → Match T room fs (values_but f.number vs) (contents_but f.number t)
 match-but T room f fs [] no_fields h = tt
 match-but T room f fs [] (field m c t) h = absurd h
@@ -142,8 +142,8 @@ match-but T room f fs (w ∷ ws) (field m c t) h =
 -- ---- the relation between meaning and merging
 
 pub record Agree (T : Table) (room : ℕ) (fs : List Field) : Type 0 where
-  pub to : (bytes : List ℕ) (raw : Node) → Reads T room fs bytes 0 raw → MeansIn T room fs bytes (meaning T room fs raw)
-  pub back : (bytes : List ℕ) (t : Node) → MeansIn T room fs bytes t → (raw : Node) × Reads T room fs bytes 0 raw × (t ≡ meaning T room fs raw)
+  pub to : (bytes : List ℕ) (raw : Node) → IsRawMessage T room fs bytes 0 raw → MeansIn T room fs bytes (meaning T room fs raw)
+  pub back : (bytes : List ℕ) (t : Node) → MeansIn T room fs bytes t → (raw : Node) × IsRawMessage T room fs bytes 0 raw × (t ≡ meaning T room fs raw)
 
 -- nested messages, and entries
 abbrev pub Inner : Table → ℕ → Type 0
@@ -166,7 +166,7 @@ entries-at T room (g ∷ gs) n f h at =
 
 -- ---- payloads
 
-numeric-plain : (k : Kind) → is_numeric k ≡ true → is_message k ≡ false
+numeric-plain : (k : Kind) → is_numeric k ≡ true → is_message_kind k ≡ false
 numeric-plain (OfMessage i) h = absurd (cc)
 numeric-plain _ h = refl
 
@@ -197,22 +197,22 @@ whole-elements k bytes s e ns w h =
     (elements-to s (take e bytes) (cut-long bytes s e w) k 0 ns (subst (λ (xs : List ℕ). AreElements k xs 0 ns) (sym (cut-slice bytes s e w.0)) h))
 
 pub slice-reads : (T : Table) (room : ℕ) (fs : List Field) (bytes : List ℕ) (s e : ℕ) (t : Node)
-    → IsWithin (length bytes) (Len s e) → Reads T room fs (take e bytes) s t
-    → Reads T room fs (slice_range bytes s e) 0 t
+    → IsWithin (length bytes) (Len s e) → IsRawMessage T room fs (take e bytes) s t
+    → IsRawMessage T room fs (slice_range bytes s e) 0 t
 slice-reads T room fs bytes s e t w h =
-    subst (λ (xs : List ℕ). Reads T room fs xs 0 t) (cut-slice bytes s e w.0) (reads-back s (take e bytes) (cut-long bytes s e w) 0 (let x : s ≡ s + 0 = omega arith in x) h)
+    subst (λ (xs : List ℕ). IsRawMessage T room fs xs 0 t) (cut-slice bytes s e w.0) (reads-back s (take e bytes) (cut-long bytes s e w) 0 (let x : s ≡ s + 0 = omega arith in x) h)
 
 pub whole-reads : (T : Table) (room : ℕ) (fs : List Field) (bytes : List ℕ) (s e : ℕ) (t : Node)
-    → IsWithin (length bytes) (Len s e) → Reads T room fs (slice_range bytes s e) 0 t
-    → Reads T room fs (take e bytes) s t
+    → IsWithin (length bytes) (Len s e) → IsRawMessage T room fs (slice_range bytes s e) 0 t
+    → IsRawMessage T room fs (take e bytes) s t
 whole-reads T room fs bytes s e t w h =
-    subst (λ (x : ℕ). Reads T room fs (take e bytes) x t) (let x : s + 0 ≡ s = omega arith in x)
+    subst (λ (x : ℕ). IsRawMessage T room fs (take e bytes) x t) (let x : s + 0 ≡ s = omega arith in x)
     (reads-to s (take e bytes) (slice_range bytes s e) (cut-long bytes s e w) (sym (cut-slice bytes s e w.0)) h)
 
 pub value-of : (T : Table) (room : ℕ) (label : Label) (k : Kind) (bytes : List ℕ) (p : Payload) (c : Content) → Inner T room → Entries T room label k → IsWithin (length bytes) p
-    → Holds T room label k bytes p c → (v : Value) × HasValue T room label k bytes p v × Alike T room label k v c
+    → IsContentUnder T room label k bytes p c → (v : RecordValue) × HasValue T room label k bytes p v × Alike T room label k v c
 value-of T room label k bytes p c inner entries w (holds_number no_map numeric typed is) =
-    let n = word_of k (number_in p) in
+    let n = word_form_of k (payload_number p) in
     (single n, a_number no_map numeric typed refl, alike_number n no_map (numeric-plain k numeric) refl is)
 value-of T room label k bytes p c inner entries w (holds_piece s e ns packable at whole is) =
     let v = subst (IsWithin (length bytes)) at w in (
@@ -222,10 +222,10 @@ value-of T room label k bytes p c inner entries w (holds_piece s e ns packable a
     )
 value-of T room label k bytes p c inner entries w (holds_text s e no_map kind at utf8 is) =
     let piece = slice_range bytes s e in
-    (delimited piece, a_text s e no_map kind at utf8 refl, alike_run piece no_map (ap is_message kind) refl is)
+    (delimited piece, a_text s e no_map kind at utf8 refl, alike_run piece no_map (ap is_message_kind kind) refl is)
 value-of T room label k bytes p c inner entries w (holds_octets s e no_map kind at is) =
     let piece = slice_range bytes s e in
-    (delimited piece, some_octets s e no_map kind at refl, alike_run piece no_map (ap is_message kind) refl is)
+    (delimited piece, some_octets s e no_map kind at refl, alike_run piece no_map (ap is_message_kind kind) refl is)
 value-of T room label k bytes p c inner entries w (holds_message inside i s e t no_map kind at room_is reads is) =
     let piece = slice_range bytes s e in
     let r = slice-reads T inside (fields_of T i) bytes s e t (subst (IsWithin (length bytes)) at w) reads in (
@@ -241,10 +241,10 @@ value-of T room label k bytes p c inner entries w (holds_entry key s e t map at 
       alike_entry key piece t map refl r is,
     )
 
-pub content-of : (T : Table) (room : ℕ) (label : Label) (k : Kind) (bytes : List ℕ) (p : Payload) (v : Value) → Inner T room → Entries T room label k → IsWithin (length bytes) p
-    → HasValue T room label k bytes p v → (c : Content) × Holds T room label k bytes p c × Alike T room label k v c
+pub content-of : (T : Table) (room : ℕ) (label : Label) (k : Kind) (bytes : List ℕ) (p : Payload) (v : RecordValue) → Inner T room → Entries T room label k → IsWithin (length bytes) p
+    → HasValue T room label k bytes p v → (c : Content) × IsContentUnder T room label k bytes p c × Alike T room label k v c
 content-of T room label k bytes p v inner entries w (a_number no_map numeric typed is) =
-    let n = word_of k (number_in p) in
+    let n = word_form_of k (payload_number p) in
     (one (number n), holds_number no_map numeric typed refl, alike_number n no_map (numeric-plain k numeric) is refl)
 content-of T room label k bytes p v inner entries w (a_piece s e ns packable at whole is) =
     let u = subst (IsWithin (length bytes)) at w in (
@@ -254,10 +254,10 @@ content-of T room label k bytes p v inner entries w (a_piece s e ns packable at 
     )
 content-of T room label k bytes p v inner entries w (a_text s e no_map kind at utf8 is) =
     let piece = slice_range bytes s e in
-    (one (run piece), holds_text s e no_map kind at utf8 refl, alike_run piece no_map (ap is_message kind) is refl)
+    (one (run piece), holds_text s e no_map kind at utf8 refl, alike_run piece no_map (ap is_message_kind kind) is refl)
 content-of T room label k bytes p v inner entries w (some_octets s e no_map kind at is) =
     let piece = slice_range bytes s e in
-    (one (run piece), holds_octets s e no_map kind at refl, alike_run piece no_map (ap is_message kind) is refl)
+    (one (run piece), holds_octets s e no_map kind at refl, alike_run piece no_map (ap is_message_kind kind) is refl)
 content-of T room label k bytes p v inner entries w (a_message i inside s e t no_map kind room_is at m is) =
     let piece = slice_range bytes s e in
     let b = (inner inside i room_is).back piece t m in
@@ -271,8 +271,8 @@ content-of T room label k bytes p v inner entries w (an_entry key s e t map at m
 
 -- ---- records
 
-pub values-of : (T : Table) (room : ℕ) (fs : List Field) → Inner T room → AllEntries T room fs → (bytes : List ℕ) (at : ℕ) (raw : Node) → Reads T room fs bytes at raw
-    → (rs : List Record) × (vs : List (ℕ × Value)) × RecordsFrom bytes at rs × HaveValues T room fs bytes rs vs × Match T room fs vs raw
+pub values-of : (T : Table) (room : ℕ) (fs : List Field) → Inner T room → AllEntries T room fs → (bytes : List ℕ) (at : ℕ) (raw : Node) → IsRawMessage T room fs bytes at raw
+    → (rs : List Record) × (vs : List (ℕ × RecordValue)) × AreRecordsFrom bytes at rs × HaveValues T room fs bytes rs vs × Match T room fs vs raw
 values-of T room fs inner entries bytes at raw (read_end a is) = ([], [], a, no_more refl refl, subst (λ (x : Node). Match T room fs [] x) (sym is) tt)
 values-of T room fs inner entries bytes at raw (read_other r here other g) =
     let h = values-of T room fs inner entries bytes r.next raw g in
@@ -289,22 +289,22 @@ values-of T room fs inner entries bytes at raw (read_known r f c rest here at_f 
     )
 
 pub contents-of : (T : Table) (room : ℕ) (fs : List Field) → Inner T room → AllEntries T room fs
-    → (bytes : List ℕ) (rs : List Record) (vs : List (ℕ × Value)) → HaveValues T room fs bytes rs vs
-    → (at : ℕ) → RecordsFrom bytes at rs → (raw : Node) × Reads T room fs bytes at raw × Match T room fs vs raw
+    → (bytes : List ℕ) (rs : List Record) (vs : List (ℕ × RecordValue)) → HaveValues T room fs bytes rs vs
+    → (at : ℕ) → AreRecordsFrom bytes at rs → (raw : Node) × IsRawMessage T room fs bytes at raw × Match T room fs vs raw
 contents-of T room fs inner entries bytes rs vs (no_more e is) at h =
-    let ends : at ≡ length bytes = subst (λ (xs : List Record). RecordsFrom bytes at xs) e h in
-    (no_fields, read_end ends refl, subst (λ (xs : List (ℕ × Value)). Match T room fs xs no_fields) (sym is) tt)
+    let ends : at ≡ length bytes = subst (λ (xs : List Record). AreRecordsFrom bytes at xs) e h in
+    (no_fields, read_end ends refl, subst (λ (xs : List (ℕ × RecordValue)). Match T room fs xs no_fields) (sym is) tt)
 contents-of T room fs inner entries bytes rs vs (skipped r rest e other g) at h =
-    let k : RecordAt bytes at r × RecordsFrom bytes r.next rest = subst (λ (xs : List Record). RecordsFrom bytes at xs) e h in
+    let k : IsRecordAt bytes at r × AreRecordsFrom bytes r.next rest = subst (λ (xs : List Record). AreRecordsFrom bytes at xs) e h in
     let m = contents-of T room fs inner entries bytes rest vs g r.next k.1 in
     (m.0, read_other r k.0 other m.1, m.2)
 contents-of T room fs inner entries bytes rs vs (known r rest f v others e at_f has g is) at h =
-    let k : RecordAt bytes at r × RecordsFrom bytes r.next rest = subst (λ (xs : List Record). RecordsFrom bytes at xs) e h in
+    let k : IsRecordAt bytes at r × AreRecordsFrom bytes r.next rest = subst (λ (xs : List Record). AreRecordsFrom bytes at xs) e h in
     let here = k.0 in
     let c = content-of T room f.label f.kind bytes r.payload v inner (entries-at T room fs r.number f entries at_f)
     (PayloadAt-span bytes here.start (here.tag % 8) r.payload r.next here.payload) has in
     let m = contents-of T room fs inner entries bytes rest others g r.next k.1 in (
       field r.number c.0 m.0,
       read_known r f c.0 m.0 here at_f c.1 refl m.1,
-      subst (λ (xs : List (ℕ × Value)). Match T room fs xs (field r.number c.0 m.0)) (sym is) (refl, (f, at_f, c.2), m.2),
+      subst (λ (xs : List (ℕ × RecordValue)). Match T room fs xs (field r.number c.0 m.0)) (sym is) (refl, (f, at_f, c.2), m.2),
     )

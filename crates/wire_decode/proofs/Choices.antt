@@ -17,18 +17,18 @@ use Rattle.mrpc_table.specs.declared.table.Label.TheVariants.{Map}
 use Rattle.mrpc_table.specs.declared.table.Field.{Field}
 use Rattle.mrpc_table.specs.declared.table.Table.{Table}
 use Rattle.mrpc_table.specs.WireTypes.{wire_type_of}
-use Rattle.wire_base.specs.Records.{PayloadAt, IsWireType, IsWithin}
+use Rattle.wire_base.specs.Records.{IsPayloadAt, IsWireType, IsWithin}
 use Rattle.wire_base.specs.declared.records.Payload.{Payload}
 use Rattle.wire_base.specs.declared.records.Payload.TheVariants.{Varint, I64, I32, Len}
 use Rattle.wire_base.specs.declared.records.Record.{Record}
-use Rattle.wire_decode.specs.Words.{word_of, number_in, payload_type, is_map, suits, AreElements}
-use Rattle.wire_decode.specs.Reads.{Reads, read_end, read_other, read_known, Holds, holds_piece, holds_text}
-use Rattle.wire_decode.specs.Reads.{holds_octets, holds_message, holds_entry}
-use Rattle.wire_decode.specs.Known.{HasRoom, is_message, is_known}
+use Rattle.wire_decode.specs.Words.{word_form_of, payload_number, payload_type, is_map, accepts_payload, AreElements}
+use Rattle.wire_decode.specs.RawMessages.{IsRawMessage, read_end, read_other, read_known, IsContentUnder, holds_piece, holds_text}
+use Rattle.wire_decode.specs.RawMessages.{holds_octets, holds_message, holds_entry}
+use Rattle.wire_decode.specs.Known.{HasRoom, is_message_kind, is_known_record}
 use Rattle.wire_decode.specs.Known.{entry_fields}
-use Rattle.wire_decode.specs.Reads.{numbers}
-use Rattle.wire_decode.specs.Reason.{reason_of}
-use Rattle.wire_decode.specs.FaultWalk.{MeetsFault, no_record, behind_other, behind_known, in_payload, Fails, no_elements, no_text, too_deep, in_message, in_entry, no_room}
+use Rattle.wire_decode.specs.RawMessages.{numbers}
+use Rattle.wire_decode.specs.Reason.{decode_reason_of}
+use Rattle.wire_decode.specs.FaultWalk.{IsFaultReached, no_record, behind_other, behind_known, in_payload, IsPayloadFault, no_elements, no_text, too_deep, in_message, in_entry, no_room}
 use Rattle.wire_decode.specs.Parts.{IsFixedOrVarint}
 use Rattle.wire_decode.specs.declared.fault.DecodeReason.{DecodeReason}
 use Rattle.wire_decode.specs.declared.fault.DecodeReason.TheVariants.{Utf8, PackedLength, Depth}
@@ -51,13 +51,13 @@ abbrev ElementsOr : Kind → List ℕ → ℕ → Type 0
 ElementsOr k bytes at = ((ws : List ℕ) × AreElements k bytes at ws) ⊎ ((ws : List ℕ) → AreElements k bytes at ws → ⊥)
 
 -- there is no element at an offset before the end
-no_first : (k : Kind) (bytes : List ℕ) (at : ℕ) → at < length bytes → ((p : Payload) (next : ℕ) → PayloadAt bytes at (wire_type_of k) p next → ⊥)
+no_first : (k : Kind) (bytes : List ℕ) (at : ℕ) → at < length bytes → ((p : Payload) (next : ℕ) → IsPayloadAt bytes at (wire_type_of k) p next → ⊥)
     → (ws : List ℕ) → AreElements k bytes at ws → ⊥
 no_first k bytes at more none [] h = omega (arith, more, h)
 no_first k bytes at more none (w ∷ ws) h = none h.0 h.1 h.2
 
 -- if no elements follow the only one there, the bytes are no elements
-no_rest : Law → (k : Kind) (bytes : List ℕ) (at : ℕ) (p : Payload) (next : ℕ) → at < length bytes → PayloadAt bytes at (wire_type_of k) p next
+no_rest : Law → (k : Kind) (bytes : List ℕ) (at : ℕ) (p : Payload) (next : ℕ) → at < length bytes → IsPayloadAt bytes at (wire_type_of k) p next
     → ((ws : List ℕ) → AreElements k bytes next ws → ⊥) → (ws : List ℕ) → AreElements k bytes at ws → ⊥
 no_rest law k bytes at p next more here none [] h = omega (arith, more, h)
 no_rest law k bytes at p next more here none (w ∷ ws) h =
@@ -74,7 +74,7 @@ elements-or law (suc left) k bytes at numeric within few =
     (λ h.
     let ahead = PayloadAt-ahead bytes at (wire_type_of k) h.0 h.1 h.2 in
     ⊎_elim
-    (λ rest. inl (word_of k (number_in h.0) ∷ rest.0, (h.0, h.1, h.2, refl, rest.1)))
+    (λ rest. inl (word_form_of k (payload_number h.0) ∷ rest.0, (h.0, h.1, h.2, refl, rest.1)))
     (λ none. inr (no_rest law k bytes at h.0 h.1 more h.2 none))
     (elements-or law left k bytes h.1 numeric (PayloadAt-within bytes at (wire_type_of k) h.0 h.1 h.2) (omega (arith, ahead, few))))
     (λ f. inr (no_first k bytes at more (λ p next here. law.no_payload bytes at (wire_type_of k) p next f.0 here f.1)))
@@ -85,10 +85,10 @@ elements-or law (suc left) k bytes at numeric within few =
 -- ---- one payload
 
 abbrev ReadsOr : Table → ℕ → List Field → List ℕ → ℕ → Type 0
-ReadsOr T room fs bytes at = ((t : Node) × Reads T room fs bytes at t) ⊎ ((reason : DecodeReason) × (place : ℕ) × MeetsFault T room fs bytes at reason place)
+ReadsOr T room fs bytes at = ((t : Node) × IsRawMessage T room fs bytes at t) ⊎ ((reason : DecodeReason) × (place : ℕ) × IsFaultReached T room fs bytes at reason place)
 
 abbrev HoldsOr : Table → ℕ → Label → Kind → List ℕ → Payload → Type 0
-HoldsOr T room label k bytes p = ((c : Content) × Holds T room label k bytes p c) ⊎ ((reason : DecodeReason) × (place : ℕ) × Fails T room label k bytes p reason place)
+HoldsOr T room label k bytes p = ((c : Content) × IsContentUnder T room label k bytes p c) ⊎ ((reason : DecodeReason) × (place : ℕ) × IsPayloadFault T room label k bytes p reason place)
 
 -- bytes of at most this length are read or have a fault
 abbrev Reader : Table → ℕ → Type 0
@@ -99,7 +99,7 @@ room-or room k =
     ⊎_elim
     (λ yes. ⊎_elim (λ some. inl (λ e. some)) (λ none. inr (λ h. let some = h yes in omega (arith, some, none))) (cases_lt 0 room))
     (λ no. inl (λ e. absurd (let clash : true ≡ false = sym e ∙ no in cc)))
-    (tells (is_message k))
+    (tells (is_message_kind k))
 
 -- the bytes of a payload, cut after it
 cut-within : (bytes : List ℕ) (s e : ℕ) → IsWithin (length bytes) (Len s e) → s ≤ length (take e bytes)
@@ -136,7 +136,7 @@ text-or T room label k bytes s e single kind =
     (λ no. inr (Utf8, s, no_text e single kind refl refl (λ h. let clash : true ≡ false = sym (is_utf8-from_IsUtf8 (slice_range bytes s e) h) ∙ no in cc)))
     (tells (is_utf8 (slice_range bytes s e)))
 
-piece-or : Law → (T : Table) (left room : ℕ) (label : Label) (k : Kind) (bytes : List ℕ) (s e : ℕ) → suits label k (Len s e) ≡ true → is_map label ≡ false
+piece-or : Law → (T : Table) (left room : ℕ) (label : Label) (k : Kind) (bytes : List ℕ) (s e : ℕ) → accepts_payload label k (Len s e) ≡ true → is_map label ≡ false
     → is_numeric k ≡ true → IsWithin (length bytes) (Len s e) → e ≤ s + left → HoldsOr T room label k bytes (Len s e)
 piece-or law T left room label k bytes s e suited single numeric within few =
     let packed = packs label k s e suited single numeric in
@@ -146,7 +146,7 @@ piece-or law T left room label k bytes s e suited single numeric within few =
     (elements-or law left k (take e bytes) s numeric (cut-within bytes s e within) (cut-few bytes s e left within few))
 
 -- a delimited payload of a field that is no map
-single-or : Law → (T : Table) (left room : ℕ) (label : Label) (k : Kind) (bytes : List ℕ) (s e : ℕ) → Reader T left → suits label k (Len s e) ≡ true → is_map label ≡ false
+single-or : Law → (T : Table) (left room : ℕ) (label : Label) (k : Kind) (bytes : List ℕ) (s e : ℕ) → Reader T left → accepts_payload label k (Len s e) ≡ true → is_map label ≡ false
     → IsWithin (length bytes) (Len s e) → e ≤ s + left → HoldsOr T room label k bytes (Len s e)
 single-or law T left room label Text bytes s e read suited single within few = text-or T room label Text bytes s e single refl
 single-or law T left room label Octets bytes s e read suited single within few = inl (one (run (slice_range bytes s e)), holds_octets s e single refl refl refl)
@@ -154,15 +154,15 @@ single-or law T left room label (OfMessage i) bytes s e read suited single withi
 single-or law T left room label k bytes s e read suited single within few =
     piece-or law T left room label k bytes s e suited single (numeric-kind k (λ x. cc) (λ x. cc) (λ i x. cc)) within few
 
-delimited-or : Law → (T : Table) (left room : ℕ) (label : Label) (k : Kind) (bytes : List ℕ) (s e : ℕ) → Reader T left → suits label k (Len s e) ≡ true
+delimited-or : Law → (T : Table) (left room : ℕ) (label : Label) (k : Kind) (bytes : List ℕ) (s e : ℕ) → Reader T left → accepts_payload label k (Len s e) ≡ true
     → IsWithin (length bytes) (Len s e) → e ≤ s + left → HoldsOr T room label k bytes (Len s e)
 delimited-or law T left room (Map key) k bytes s e read suited within few = entry-or T left room (Map key) key k bytes s e read refl within few
 delimited-or law T left room label k bytes s e read suited within few = single-or law T left room label k bytes s e read suited refl within few
 
-number-or : (T : Table) (room : ℕ) (label : Label) (k : Kind) (bytes : List ℕ) (p : Payload) → suits label k p ≡ true → payload_type p ≢ 2 → HoldsOr T room label k bytes p
+number-or : (T : Table) (room : ℕ) (label : Label) (k : Kind) (bytes : List ℕ) (p : Payload) → accepts_payload label k p ≡ true → payload_type p ≢ 2 → HoldsOr T room label k bytes p
 number-or T room label k bytes p suited short = inl (_, number-holds T room label k bytes p suited short)
 
-holds-or : Law → (T : Table) (left room : ℕ) (label : Label) (k : Kind) (bytes : List ℕ) (p : Payload) → Reader T left → suits label k p ≡ true
+holds-or : Law → (T : Table) (left room : ℕ) (label : Label) (k : Kind) (bytes : List ℕ) (p : Payload) → Reader T left → accepts_payload label k p ≡ true
     → IsWithin (length bytes) p → (payload_size p ≤ left) → HoldsOr T room label k bytes p
 holds-or law T left room label k bytes (Varint v) read suited within few = number-or T room label k bytes (Varint v) suited (λ e. omega (arith, e))
 holds-or law T left room label k bytes (I64 v) read suited within few = number-or T room label k bytes (I64 v) suited (λ e. omega (arith, e))
@@ -172,10 +172,10 @@ holds-or law T left room label k bytes (Len s e) read suited within few = delimi
 -- ---- the records
 
 -- a record that is known is of a field
-known-field : (fs : List Field) (r : Record) → is_known fs r ≡ true → (f : Field) × (field_at fs r.number ≡ Some f) × (suits f.label f.kind r.payload ≡ true)
+known-field : (fs : List Field) (r : Record) → is_known_record fs r ≡ true → (f : Field) × (field_at fs r.number ≡ Some f) × (accepts_payload f.label f.kind r.payload ≡ true)
 known-field fs r h = go (field_at fs r.number) h
   where
-    go : (o : Option Field) → unwrap_or (option_map (λ f. suits f.label f.kind r.payload) o) false ≡ true → (f : Field) × (o ≡ Some f) × (suits f.label f.kind r.payload ≡ true)
+    go : (o : Option Field) → unwrap_or (option_map (λ f. accepts_payload f.label f.kind r.payload) o) false ≡ true → (f : Field) × (o ≡ Some f) × (accepts_payload f.label f.kind r.payload ≡ true)
     go None e = absurd (cc)
     go (Some f) e = (f, refl, e)
 
@@ -208,12 +208,12 @@ reads-or law T (suc left) room fs bytes at within few =
     (λ t. inl (t.0, read_other r here other t.1))
     (λ g. inr (g.0, g.1, behind_other r here other g.2))
     rest)
-    (tells (is_known fs r)))
-    (λ f. inr (reason_of f.0.reason, f.0.place, no_record f.0 more f.1 refl refl))
+    (tells (is_known_record fs r)))
+    (λ f. inr (decode_reason_of f.0.reason, f.0.place, no_record f.0 more f.1 refl refl))
     (law.some_record bytes at within))
     (λ past. inl (no_fields, read_end (omega (arith, within, past)) refl))
     (cases_lt at (length bytes))
 
 pub reading-or : Law → (T : Table) (msg : ℕ) (bytes : List ℕ)
-    → ((raw : Node) × Reads T 31 (fields_of T msg) bytes 0 raw) ⊎ ((reason : DecodeReason) × (place : ℕ) × MeetsFault T 31 (fields_of T msg) bytes 0 reason place)
+    → ((raw : Node) × IsRawMessage T 31 (fields_of T msg) bytes 0 raw) ⊎ ((reason : DecodeReason) × (place : ℕ) × IsFaultReached T 31 (fields_of T msg) bytes 0 reason place)
 reading-or law T msg bytes = reads-or law T (length bytes) 31 (fields_of T msg) bytes 0 (omega arith) (omega arith)

@@ -9,22 +9,22 @@ use Rattle.mrpc_table.specs.declared.table.Kind.TheVariants.{Int32, Int64, Uint3
 use Rattle.mrpc_table.specs.declared.table.Kind.TheVariants.{Bool as TheBool, Fixed32, Fixed64, Sfixed32, Sfixed64}
 use Rattle.mrpc_table.specs.declared.table.Kind.TheVariants.{Float, Double, Text, Octets, Message, Choice}
 use Rattle.mrpc_table.specs.WireTypes.{wire_type_of}
-use Rattle.wire_base.specs.Records.{PayloadAt, VarintAt}
+use Rattle.wire_base.specs.Records.{IsPayloadAt, IsVarintAt}
 use Rattle.wire_base.specs.declared.records.Payload.{Payload}
 use Rattle.wire_base.specs.declared.records.Payload.TheVariants.{Varint, I64}
 use Rattle.wire_decode.proofs.WireLaws.{OnePayload}
-use Rattle.wire_decode.specs.Words.{AreElements, number_in, word_of}
-use Rattle.wire_decode.specs.Reads.{numbers}
+use Rattle.wire_decode.specs.Words.{AreElements, payload_number, word_form_of}
+use Rattle.wire_decode.specs.RawMessages.{numbers}
 use Rattle.wire_decode.specs.Parts.{IsFixedOrVarint}
 
 abbrev pub IsElement : List ℕ → ℕ → ℕ → ℕ × ℕ → Type 0
-IsElement bytes at w e = (p : Payload) × PayloadAt bytes at w p e.1 × (e.0 ≡ number_in p)
+IsElement bytes at w e = (p : Payload) × IsPayloadAt bytes at w p e.1 × (e.0 ≡ payload_number p)
 
-pub eight-element : (bytes : List ℕ) (at w : ℕ) (r : Option (ℕ × ℕ)) → w ≡ 1 → IfSome r (λ e. PayloadAt bytes at 1 (I64 e.0) e.1) → IfSome r (IsElement bytes at w)
+pub eight-element : (bytes : List ℕ) (at w : ℕ) (r : Option (ℕ × ℕ)) → w ≡ 1 → IfSome r (λ e. IsPayloadAt bytes at 1 (I64 e.0) e.1) → IfSome r (IsElement bytes at w)
 eight-element bytes at w None is h = tt
 eight-element bytes at w (Some e) is h = (I64 e.0, (is, h.1, h.2, h.3), refl)
 
-pub varint-element : (bytes : List ℕ) (at w : ℕ) (r : Option (ℕ × ℕ)) → w ≡ 0 → IfSome r (λ e. VarintAt bytes at e.0 e.1) → IfSome r (IsElement bytes at w)
+pub varint-element : (bytes : List ℕ) (at w : ℕ) (r : Option (ℕ × ℕ)) → w ≡ 0 → IfSome r (λ e. IsVarintAt bytes at e.0 e.1) → IfSome r (IsElement bytes at w)
 varint-element bytes at w None is h = tt
 varint-element bytes at w (Some e) is h = (Varint e.0, (is, h), refl)
 
@@ -78,10 +78,10 @@ rest-behind one_payload k bytes at e (w ∷ ws) more here h =
     (ws, subst P same.1 h.4)
 
 pub sofar-more : OnePayload → (k : Kind) (bytes : List ℕ) (start at next v w : ℕ) (done : List ℕ) → at < length bytes
-    → SoFar k bytes start at done → IsElement bytes at (wire_type_of k) (v, next) → w ≡ word_of k v
+    → SoFar k bytes start at done → IsElement bytes at (wire_type_of k) (v, next) → w ≡ word_form_of k v
     → SoFar k bytes start next (done ++ w ∷ [])
 sofar-more one_payload k bytes start at next v w done more h e is = record {
-  front = λ ws g. let P : List ℕ → Type 0 = λ xs. AreElements k bytes start xs in subst P (append_one done w ws) (h.front (w ∷ ws) (e.0, next, e.1, is ∙ ap (word_of k) e.2, g));
+  front = λ ws g. let P : List ℕ → Type 0 = λ xs. AreElements k bytes start xs in subst P (append_one done w ws) (h.front (w ∷ ws) (e.0, next, e.1, is ∙ ap (word_form_of k) e.2, g));
   back = λ ws g. let rest = h.back ws g in rest-behind one_payload k bytes at (v, next) rest.0 more e rest.1;
 }
 
@@ -89,7 +89,7 @@ pub sofar-end : (k : Kind) (bytes : List ℕ) (start at : ℕ) (done : List ℕ)
 sofar-end k bytes start at done ends h = let P : List ℕ → Type 0 = λ xs. AreElements k bytes start xs in subst P (append-nil done) (h.front [] ends)
 
 pub sofar-stuck : (k : Kind) (bytes : List ℕ) (start at : ℕ) (done : List ℕ) → at < length bytes
-    → SoFar k bytes start at done → ((p : Payload) (next : ℕ) → PayloadAt bytes at (wire_type_of k) p next → ⊥)
+    → SoFar k bytes start at done → ((p : Payload) (next : ℕ) → IsPayloadAt bytes at (wire_type_of k) p next → ⊥)
     → (ws : List ℕ) → AreElements k bytes start ws → ⊥
 sofar-stuck k bytes start at done more h none ws g = let rest = h.back ws g in go rest.0 rest.1
   where

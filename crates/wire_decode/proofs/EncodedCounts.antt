@@ -4,7 +4,7 @@ use Rattle.std.proofs.Common.{false, not, cond, refl, ap, sym, subst, ◌∙◌,
 use Rattle.std.proofs.lemmas.Bool.{eq-eqb}
 use Rattle.std.proofs.lemmas.Bool.Decides.{eqb_tells}
 use Rattle.mrpc_table.specs.Node.{Node, no_fields, field, Content, one, many, pairs, Items, no_items, item, Pairs, no_pairs, pair}
-use Rattle.mrpc_table.specs.Normal.{field_at, membership, members_in, HasFields, HasContent, OneMemberEach, kind_at, label_at}
+use Rattle.mrpc_table.specs.Normal.{field_at, membership, members_in, HasFields, HasContent, HasOneMemberEach, kind_at, label_at}
 use Rattle.mrpc_table.specs.declared.table.Kind.{Kind}
 use Rattle.mrpc_table.specs.declared.table.Label.{Label}
 use Rattle.mrpc_table.specs.declared.table.Label.TheVariants.{Plain, Optional, Repeated, Packed, Map, Member}
@@ -12,8 +12,8 @@ use Rattle.mrpc_table.specs.declared.table.Field.{Field}
 use Rattle.mrpc_table.specs.declared.table.Table.{Table}
 use Rattle.wire_base.specs.Encoding.{is_packed}
 use Rattle.mrpc_table.specs.Words.{key_kind}
-use Rattle.wire_decode.specs.Merged.{contents_of, join_fields, is_overtaken, counted}
-use Rattle.wire_decode.specs.Oneofs.{oneof_of, oneof_at, is_same, are_rivals}
+use Rattle.wire_decode.specs.Merged.{contents_of, join_fields, is_overtaken, counted_records}
+use Rattle.wire_decode.specs.Oneofs.{oneof_of, oneof_at, are_same_oneof, are_rivals}
 use Rattle.wire_decode.proofs.Adding.{contents-here, contents-other}
 use Rattle.wire_decode.proofs.Oneofs.{and-false, overtaken-none, counted-kept, oneof-found}
 use Rattle.wire_decode.proofs.Members.{or-parts, is-member, members-first}
@@ -94,9 +94,9 @@ of-quiet fs n m no_fields rivals h = refl
 of-quiet fs n m (field k c t) rivals h = ap (λ x. x || is_overtaken fs n t) (ap (are_rivals fs n) h.0 ∙ rivals) ∙ of-quiet fs n m t rivals h.1
 
 no-rival-itself : (fs : List Field) (n : ℕ) → are_rivals fs n n ≡ false
-no-rival-itself fs n = ap (λ b. not b && is_same (oneof_at fs n) (oneof_at fs n)) (eq-eqb n n refl)
+no-rival-itself fs n = ap (λ b. not b && are_same_oneof (oneof_at fs n) (oneof_at fs n)) (eq-eqb n n refl)
 
-not-member : (label : Label) (o : ℕ) → membership label o ≡ 0 → is_same (Some o) (oneof_of label) ≡ false
+not-member : (label : Label) (o : ℕ) → membership label o ≡ 0 → are_same_oneof (Some o) (oneof_of label) ≡ false
 not-member (Member p) o h =
     ⊎_elim
     (λ s. absurd (let one : membership (Member p) o ≡ 1 = ap (λ b. cond b 1 0) s.0 in omega (arith, h, one)))
@@ -110,7 +110,7 @@ not-member (Map key) o h = refl
 
 no-rival : (fs : List Field) (n m o : ℕ) (f : Field) → oneof_at fs n ≡ Some o → field_at fs m ≡ Some f → membership f.label o ≡ 0 → are_rivals fs n m ≡ false
 no-rival fs n m o f at found h =
-    ap (λ x. not (m == n) && is_same x (oneof_at fs m)) at ∙ ap (λ x. not (m == n) && is_same (Some o) x) (oneof-found fs m f found)
+    ap (λ x. not (m == n) && are_same_oneof x (oneof_at fs m)) at ∙ ap (λ x. not (m == n) && are_same_oneof (Some o) x) (oneof-found fs m f found)
     ∙ ap (λ b. not (m == n) && b) (not-member f.label o h) ∙ and-false (not (m == n))
 
 -- no member of the oneof has a record
@@ -129,7 +129,7 @@ none-overtakes T fs n o last (field m c t) at h none =
 member-one : (label : Label) (o : ℕ) → oneof_of label ≡ Some o → membership label o ≡ 1
 member-one label o e =
     ⊎_elim
-    (λ zero. absurd (let bad : true ≡ false = sym (ap (is_same (Some o)) e ∙ eq-eqb o o refl) ∙ not-member label o zero in cc))
+    (λ zero. absurd (let bad : true ≡ false = sym (ap (are_same_oneof (Some o)) e ∙ eq-eqb o o refl) ∙ not-member label o zero in cc))
     (λ one. one.0)
     (is-member label o)
 
@@ -139,7 +139,7 @@ option-cases None P a b = a refl
 option-cases (Some n) P a b = b n refl
 
 none-behind : (T : Table) (fs : List Field) (n : ℕ) (c : Content) (t : Node) → HasContent T fs n c
-    → HasFields T fs n t → OneMemberEach fs (field n c t) → is_overtaken fs n (raw_fields T fs t) ≡ false
+    → HasFields T fs n t → HasOneMemberEach fs (field n c t) → is_overtaken fs n (raw_fields T fs t) ≡ false
 none-behind T fs n c t has fields members =
     let f = field-of T fs n c has in
     option-cases (oneof_at fs n) (is_overtaken fs n (raw_fields T fs t) ≡ false)
@@ -150,18 +150,18 @@ none-behind T fs n c t has fields members =
     let most = members o in
     none-overtakes T fs n o n t at fields (omega (arith, e, label, most)))
 
-counted-join : (fs : List Field) (n : ℕ) (t u : Node) → AreOf n t → is_overtaken fs n u ≡ false → counted fs u ≡ u → counted fs (join_fields t u) ≡ join_fields t u
+counted-join : (fs : List Field) (n : ℕ) (t u : Node) → AreOf n t → is_overtaken fs n u ≡ false → counted_records fs u ≡ u → counted_records fs (join_fields t u) ≡ join_fields t u
 counted-join fs n no_fields u of quiet rest = rest
 counted-join fs n (field m c t) u of quiet rest =
     let here : is_overtaken fs n (join_fields t u) ≡ false = overtaken-join fs n t u (of-quiet fs n n t (no-rival-itself fs n) of.1) quiet in
     let behind : is_overtaken fs m (join_fields t u) ≡ false = ap (λ x. is_overtaken fs x (join_fields t u)) of.0 ∙ here in
     counted-kept fs m c (join_fields t u) (sym (ap not behind)) ∙ ap (field m c) (counted-join fs n t u of.1 quiet rest)
 
-members-fewer : (fs : List Field) (n : ℕ) (c : Content) (t : Node) (f : Field) → field_at fs n ≡ Some f → OneMemberEach fs (field n c t) → OneMemberEach fs t
+members-fewer : (fs : List Field) (n : ℕ) (c : Content) (t : Node) (f : Field) → field_at fs n ≡ Some f → HasOneMemberEach fs (field n c t) → HasOneMemberEach fs t
 members-fewer fs n c t f found h o = let e = members-first fs o n f c t found in let most = h o in omega (arith, e, most)
 
 -- if each oneof has one member, each record counts
-pub counted-raw : (T : Table) (fs : List Field) (last : ℕ) (t : Node) → HasFields T fs last t → OneMemberEach fs t → counted fs (raw_fields T fs t) ≡ raw_fields T fs t
+pub counted-raw : (T : Table) (fs : List Field) (last : ℕ) (t : Node) → HasFields T fs last t → HasOneMemberEach fs t → counted_records fs (raw_fields T fs t) ≡ raw_fields T fs t
 counted-raw T fs last no_fields h members = refl
 counted-raw T fs last (field n c t) h members =
     let f = field-of T fs n c h.1 in

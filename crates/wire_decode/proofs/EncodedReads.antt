@@ -7,7 +7,7 @@ use Rattle.std.specs.Str.{IsUtf8}
 use Rattle.std.proofs.lemmas.List.{length-append}
 use Rattle.std.proofs.lemmas.Bool.Decides.{eqb_tells}
 use Rattle.mrpc_table.specs.Node.{Node, no_fields, field, Content, one, many, pairs, Item, number, run, node, Items, no_items, item, Pairs, no_pairs, pair}
-use Rattle.mrpc_table.specs.Normal.{fields_of, field_at, IsRun, HasFields, HasContent, TakesOne, TakesMany, IsItem, label_at}
+use Rattle.mrpc_table.specs.Normal.{fields_of, field_at, IsRun, HasFields, HasContent, CanHaveOne, CanHaveMany, IsItem, label_at}
 use Rattle.mrpc_table.specs.Normal.{AreItems, ArePairs, depth, content_depth, item_depth, items_depth, pairs_depth}
 use Rattle.mrpc_table.specs.Normal.{kind_at}
 use Rattle.mrpc_table.specs.Words.{is_numeric, IsWordForm, key_kind, nested_message}
@@ -19,12 +19,12 @@ use Rattle.mrpc_table.specs.declared.table.Field.{Field}
 use Rattle.mrpc_table.specs.declared.table.Table.{Table}
 use Rattle.wire_base.specs.Encoding.{number_bytes, tag, delimited, is_packed, fields_bytes, content_bytes, item_bytes, joined_bytes, records_bytes, entries_bytes}
 use Rattle.mrpc_table.specs.WireTypes.{wire_type_of}
-use Rattle.wire_base.specs.Records.{PayloadAt}
+use Rattle.wire_base.specs.Records.{IsPayloadAt}
 use Rattle.wire_base.specs.declared.records.Payload.{Payload}
 use Rattle.wire_base.specs.declared.records.Payload.TheVariants.{Len}
 use Rattle.wire_base.specs.declared.records.Record.{Record}
 use Rattle.wire_decode.specs.Words.{is_map, may_be_packed, AreElements}
-use Rattle.wire_decode.specs.Reads.{Reads, read_end, read_known, Holds, holds_number, holds_piece, holds_text, holds_octets, holds_message, holds_entry, numbers}
+use Rattle.wire_decode.specs.RawMessages.{IsRawMessage, read_end, read_known, IsContentUnder, holds_number, holds_piece, holds_text, holds_octets, holds_message, holds_entry, numbers}
 use Rattle.wire_decode.specs.Known.{HasRoom, entry_fields}
 use Rattle.wire_decode.specs.Merged.{join_fields}
 use Rattle.wire_decode.proofs.WireLaws.{ReadsBack}
@@ -87,15 +87,15 @@ depth-positive (field n c t) = let d = depth-positive t in omega (arith, d)
 record-read : ReadsBack → (T : Table) (room : ℕ) (fs : List Field) (n : ℕ) (f : Field) (bytes : List ℕ) (at w : ℕ)
     (body : List ℕ) (p : Payload) (c : Content) → field_at fs n ≡ Some f → 0 < n → n < 2 ^ 29 → w < 8
     → Stands bytes at (tag n w ++ body)
-    → PayloadAt bytes (at + length (tag n w)) w p (at + length (tag n w) + length body)
-    → Holds T room f.label f.kind bytes p c → (t : Node) → Reads T room fs bytes (at + length (tag n w ++ body)) t
-    → Reads T room fs bytes at (field n c t)
+    → IsPayloadAt bytes (at + length (tag n w)) w p (at + length (tag n w) + length body)
+    → IsContentUnder T room f.label f.kind bytes p c → (t : Node) → IsRawMessage T room fs bytes (at + length (tag n w ++ body)) t
+    → IsRawMessage T room fs bytes at (field n c t)
 record-read back_read T room fs n f bytes at w body p c found positive small type h payload holds t rest =
     let next = at + length (tag n w) + length body in
     let e : at + length (tag n w ++ body) ≡ next = omega (arith, length-append (tag n w) body) in
     let r : Record = record { number = n; payload = p; next = next } in
     read_known r f c t (stands-record back_read bytes at n w p next positive small type (stands-left (tag n w) body h)
-    payload) found holds refl (subst (λ (x : ℕ). Reads T room fs bytes x t) e rest)
+    payload) found holds refl (subst (λ (x : ℕ). IsRawMessage T room fs bytes x t) e rest)
 
 -- the numbers among items
 abbrev numbers_in : Items → List ℕ
@@ -129,15 +129,15 @@ elements-stand back_read T k bytes at (item (node t) is) numeric h stands ends =
 -- the payload of a value is at an offset
 record ItemAt (T : Table) (room : ℕ) (label : Label) (k : Kind) (bytes : List ℕ) (at : ℕ) (i : Item) : Type 0 where
   payload : Payload
-  stands : PayloadAt bytes at (wire_type_of k) payload (at + length (item_bytes T k i))
-  holds : Holds T room label k bytes payload (one (raw_item T k i))
+  stands : IsPayloadAt bytes at (wire_type_of k) payload (at + length (item_bytes T k i))
+  holds : IsContentUnder T room label k bytes payload (one (raw_item T k i))
 
 -- records from one offset to another are read as these contents, followed by those after them
 abbrev AreReadInFront : Table → ℕ → List Field → List ℕ → ℕ → ℕ → Node → Type 0
-AreReadInFront T room fs bytes at next raw = (t : Node) → Reads T room fs bytes next t → Reads T room fs bytes at (join_fields raw t)
+AreReadInFront T room fs bytes at next raw = (t : Node) → IsRawMessage T room fs bytes next t → IsRawMessage T room fs bytes at (join_fields raw t)
 
 read-nothing : (T : Table) (room : ℕ) (fs : List Field) (bytes : List ℕ) (at next : ℕ) → next ≡ at → AreReadInFront T room fs bytes at next no_fields
-read-nothing T room fs bytes at next e t h = subst (λ (x : ℕ). Reads T room fs bytes x t) e h
+read-nothing T room fs bytes at next e t h = subst (λ (x : ℕ). IsRawMessage T room fs bytes x t) e h
 
 read-both : (T : Table) (room : ℕ) (fs : List Field) (bytes : List ℕ) (at : ℕ) (a b : List ℕ) (t u : Node)
     → AreReadInFront T room fs bytes at (at + length a) t
@@ -145,7 +145,7 @@ read-both : (T : Table) (room : ℕ) (fs : List Field) (bytes : List ℕ) (at : 
     → AreReadInFront T room fs bytes at (at + length (a ++ b)) (join_fields t u)
 read-both T room fs bytes at a b t u first second v rest =
     let e : at + length (a ++ b) ≡ at + length a + length b = omega (arith, length-append a b) in
-    subst (λ (x : Node). Reads T room fs bytes at x) (sym (join-assoc t u v)) (first (join_fields u v) (second v (subst (λ (x : ℕ). Reads T room fs bytes x v) e rest)))
+    subst (λ (x : Node). IsRawMessage T room fs bytes at x) (sym (join-assoc t u v)) (first (join_fields u v) (second v (subst (λ (x : ℕ). IsRawMessage T room fs bytes x v) e rest)))
 
 number-item : ReadsBack → (T : Table) (room : ℕ) (label : Label) (k : Kind) (bytes : List ℕ) (at n : ℕ)
     → is_map label ≡ false → IsWordForm k n → Stands bytes at (number_bytes k n)
@@ -199,7 +199,7 @@ message-item back_read T room inside label k bytes at t i single few kind has_ro
     let raw = raw_fields T fs t in
     let here = stands-delimited back_read bytes at body few stands in
     let ends : end ≡ length (take end bytes) = sym (cut-length bytes start body end refl (stands-inner body stands)) in
-    let reads : Reads T inside fs (take end bytes) start raw = subst (λ (x : Node). Reads T inside fs (take end bytes) start x) (join-none raw) (read no_fields (read_end ends refl)) in
+    let reads : IsRawMessage T inside fs (take end bytes) start raw = subst (λ (x : Node). IsRawMessage T inside fs (take end bytes) start x) (join-none raw) (read no_fields (read_end ends refl)) in
     let type : wire_type_of k ≡ 2 = ap wire_type_of kind in
     let named : k ≡ OfMessage (nested_message k) = kind ∙ ap OfMessage (sym (ap nested_message kind)) in
     record {
@@ -220,14 +220,14 @@ entry-reads : ReadsBack → (T : Table) (room : ℕ) (key k : Kind) (bytes : Lis
     → length bytes ≡ at + length ((tag 1 (wire_type_of key) ++ item_bytes T key i) ++ (tag 2 (wire_type_of k) ++ item_bytes T k j))
     → ItemAt T room Optional key bytes (at + length (tag 1 (wire_type_of key))) i
     → ItemAt T room Optional k bytes (at + length (tag 1 (wire_type_of key) ++ item_bytes T key i) + length (tag 2 (wire_type_of k))) j
-    → Reads T room (entry_fields key k) bytes at (field 1 (one (raw_item T key i)) (field 2 (one (raw_item T k j)) no_fields))
+    → IsRawMessage T room (entry_fields key k) bytes at (field 1 (one (raw_item T key i)) (field 2 (one (raw_item T k j)) no_fields))
 entry-reads back_read T room key k bytes at i j stands ends first second =
     let fs = entry_fields key k in
     let f : Field = record { number = 1; name = []; kind = key; label = Optional } in
     let g : Field = record { number = 2; name = []; kind = k; label = Optional } in
     let a = tag 1 (wire_type_of key) ++ item_bytes T key i in
     let b = tag 2 (wire_type_of k) ++ item_bytes T k j in
-    let done : Reads T room fs bytes (at + length a + length b) no_fields = read_end (omega (arith, ends, length-append a b)) refl in
+    let done : IsRawMessage T room fs bytes (at + length a + length b) no_fields = read_end (omega (arith, ends, length-append a b)) refl in
     record-read back_read T room fs 1 f bytes at (wire_type_of key) (item_bytes T key i) first.payload
     (one (raw_item T key i)) refl (omega arith) (omega arith) (type-below key)
     (stands-left a b stands) first.stands first.holds (field 2 (one (raw_item T k j)) no_fields)
@@ -235,11 +235,11 @@ entry-reads back_read T room key k bytes at i j stands ends first second =
     (one (raw_item T k j)) refl (omega arith) (omega arith) (type-below k) (stands-right a b stands) second.stands
     second.holds no_fields done)
 
-takes-single : (label : Label) (i : Item) → TakesOne label i → is_map label ≡ false
+takes-single : (label : Label) (i : Item) → CanHaveOne label i → is_map label ≡ false
 takes-single (Map key) i h = absurd h
 takes-single _ i h = refl
 
-takes-list : (label : Label) → TakesMany label → is_map label ≡ false
+takes-list : (label : Label) → CanHaveMany label → is_map label ≡ false
 takes-list (Map key) h = absurd h
 takes-list _ h = refl
 
@@ -257,7 +257,7 @@ one-read : ReadsBack → (T : Table) (room : ℕ) (fs : List Field) (n : ℕ) (f
 one-read back_read T room fs n f k bytes at i found kind is stands here t rest =
     let small : n < 2 ^ 29 = (let a = is.usable.small in let b = is.number in omega (arith, a, b)) in
     record-read back_read T room fs n f bytes at (wire_type_of k) (item_bytes T k i) here.payload (one (raw_item T k i)) found is.above small (type-below k) stands here.stands
-    (subst (λ (x : Kind). Holds T room f.label x bytes here.payload (one (raw_item T k i))) kind here.holds) t rest
+    (subst (λ (x : Kind). IsContentUnder T room f.label x bytes here.payload (one (raw_item T k i))) kind here.holds) t rest
 
 -- a packed record
 packed-read : ReadsBack → (T : Table) (room : ℕ) (fs : List Field) (n : ℕ) (f : Field) (k : Kind) (bytes : List ℕ)
@@ -279,7 +279,7 @@ packed-read back_read T room fs n f k bytes at is found kind fits few packed ite
     let whole : AreElements k (take end bytes) start (numbers_in is) =
     elements-stand back_read T k (take end bytes) start is word items (stands-cut bytes start body end refl inner)
     (cut-length bytes start body end refl inner) in
-    let holds : Holds T room f.label f.kind bytes (Len start end) (many is) =
+    let holds : IsContentUnder T room f.label f.kind bytes (Len start end) (many is) =
     holds_piece start end (numbers_in is) listed refl
     (subst (λ (x : Kind). AreElements x (take end bytes) start (numbers_in is)) kind whole)
     (ap many (sym (numbers-back T k is word items))) in
@@ -303,7 +303,7 @@ raw_entry T key k i j = field 1 (one (raw_item T key i)) (field 2 (one (raw_item
 entry-read : ReadsBack → (T : Table) (room : ℕ) (fs : List Field) (n : ℕ) (f : Field) (key k : Kind) (bytes : List ℕ)
     (at : ℕ) (i j : Item) → field_at fs n ≡ Some f → k ≡ f.kind → f.label ≡ Map key → IsFound 0 n f
     → length bytes < 2 ^ 64 → HasRoom room k → Stands bytes at (tag n 2 ++ delimited (entry_bytes T key k i j))
-    → Reads T room (entry_fields key k) (take (end_of (at + length (tag n 2)) (entry_bytes T key k i j)) bytes)
+    → IsRawMessage T room (entry_fields key k) (take (end_of (at + length (tag n 2)) (entry_bytes T key k i j)) bytes)
     (start_of (at + length (tag n 2)) (entry_bytes T key k i j)) (raw_entry T key k i j)
     → AreReadInFront T room fs bytes at (at + length (tag n 2 ++ delimited (entry_bytes T key k i j))) (field n (one (node (raw_entry T key k i j))) no_fields)
 entry-read back_read T room fs n f key k bytes at i j found kind map fits few has_room stands reads t rest =
@@ -313,9 +313,9 @@ entry-read back_read T room fs n f key k bytes at i j found kind map fits few ha
     let place = at + length (tag n 2) in
     let start = start_of place body in
     let end = end_of place body in
-    let holds : Holds T room f.label f.kind bytes (Len start end) (one (node raw)) =
+    let holds : IsContentUnder T room f.label f.kind bytes (Len start end) (one (node raw)) =
     holds_entry key start end raw map refl
-    (subst (λ (x : Kind). Reads T room (entry_fields key x) (take end bytes) start raw) kind reads)
+    (subst (λ (x : Kind). IsRawMessage T room (entry_fields key x) (take end bytes) start raw) kind reads)
     (subst (λ (x : Kind). HasRoom room x) kind has_room) refl in
     record-read back_read T room fs n f bytes at 2 (delimited body) (Len start end) (one (node raw)) found fits.above
     small (omega arith) stands

@@ -9,9 +9,9 @@ use Rattle.mrpc_table.specs.Normal.{field_at, membership, members_in}
 use Rattle.mrpc_table.specs.declared.table.Label.{Label}
 use Rattle.mrpc_table.specs.declared.table.Label.TheVariants.{Plain, Optional, Repeated, Packed, Map, Member}
 use Rattle.mrpc_table.specs.declared.table.Field.{Field}
-use Rattle.wire_decode.specs.Merged.{contents_of, field_content, with_fields, is_overtaken, counted}
+use Rattle.wire_decode.specs.Merged.{contents_of, field_content, with_fields, is_overtaken, counted_records}
 use Rattle.wire_decode.specs.Contents.{with_content}
-use Rattle.wire_decode.specs.Oneofs.{oneof_of, oneof_at, is_same, are_rivals}
+use Rattle.wire_decode.specs.Oneofs.{oneof_of, oneof_at, are_same_oneof, are_rivals}
 use Rattle.wire_decode.proofs.Adding.{contents-other}
 use Rattle.wire_decode.proofs.Merging.{content-none}
 use Rattle.wire_decode.proofs.Oneofs.{oneof-found}
@@ -32,11 +32,11 @@ fewer-go fs n m c u true a h = h
 fewer-go fs n m c u false a h = ap (λ x. x || is_overtaken fs n u) a ∙ h
 
 -- a record that isn't overtaken by all records isn't overtaken by those that count
-fewer-overtake : (fs : List Field) (n : ℕ) (t : Node) → is_overtaken fs n t ≡ false → is_overtaken fs n (counted fs t) ≡ false
+fewer-overtake : (fs : List Field) (n : ℕ) (t : Node) → is_overtaken fs n t ≡ false → is_overtaken fs n (counted_records fs t) ≡ false
 fewer-overtake fs n no_fields h = refl
 fewer-overtake fs n (field m c t) h =
     let parts = or-parts (are_rivals fs n m) (is_overtaken fs n t) h in
-    fewer-go fs n m c (counted fs t) (is_overtaken fs m t) parts.0 (fewer-overtake fs n t parts.1)
+    fewer-go fs n m c (counted_records fs t) (is_overtaken fs m t) parts.0 (fewer-overtake fs n t parts.1)
 
 counted-go : (fs : List Field) (n : ℕ) (c : Content) (t u : Node) (b : Bool) → is_overtaken fs n t ≡ b
     → (is_overtaken fs n t ≡ false → is_overtaken fs n u ≡ false) → HasNoRivals fs u
@@ -44,9 +44,9 @@ counted-go : (fs : List Field) (n : ℕ) (c : Content) (t u : Node) (b : Bool) �
 counted-go fs n c t u true e fewer h = h
 counted-go fs n c t u false e fewer h = (fewer e, h)
 
-pub counted-no_rivals : (fs : List Field) (t : Node) → HasNoRivals fs (counted fs t)
+pub counted-no_rivals : (fs : List Field) (t : Node) → HasNoRivals fs (counted_records fs t)
 counted-no_rivals fs no_fields = tt
-counted-no_rivals fs (field n c t) = counted-go fs n c t (counted fs t) (is_overtaken fs n t) refl (fewer-overtake fs n t) (counted-no_rivals fs t)
+counted-no_rivals fs (field n c t) = counted-go fs n c t (counted_records fs t) (is_overtaken fs n t) refl (fewer-overtake fs n t) (counted-no_rivals fs t)
 
 -- a rival has no later record
 none-behind : (fs : List Field) (n m : ℕ) (t : Node) → are_rivals fs n m ≡ true → is_overtaken fs n t ≡ false → contents_of m t ≡ []
@@ -81,7 +81,7 @@ not-same m n h = grind (arith, nat_tests)
 -- two members of one oneof are rivals
 pub members-rival : (fs : List Field) (n m o : ℕ) → n ≢ m → oneof_at fs n ≡ Some o → oneof_at fs m ≡ Some o → are_rivals fs n m ≡ true
 members-rival fs n m o differ e f =
-    ap (λ x. not (m == n) && is_same x (oneof_at fs m)) e ∙ ap (λ x. not (m == n) && is_same (Some o) x) f
+    ap (λ x. not (m == n) && are_same_oneof x (oneof_at fs m)) e ∙ ap (λ x. not (m == n) && are_same_oneof (Some o) x) f
     ∙ ap (λ b. b && (o == o)) (not-same m n (λ z. differ (sym z))) ∙ eq-eqb o o refl
 
 -- a label is of a member of a oneof, or it isn't

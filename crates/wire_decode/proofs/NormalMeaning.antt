@@ -5,9 +5,9 @@ use Rattle.std.proofs.lemmas.Bool.{eq-eqb}
 use Rattle.std.proofs.lemmas.Str.{IsUtf8-nil}
 use Rattle.std.proofs.lemmas.List.Elements.{All-nil}
 use Rattle.mrpc_table.specs.Node.{Node, no_fields, field, Content, one, many, pairs, Item, number, run, node, no_items, Pairs, no_pairs, pair}
-use Rattle.mrpc_table.specs.Normal.{fields_of, field_at, IsDefault, TakesOne, TakesMany, KeysAscend, HasFields}
+use Rattle.mrpc_table.specs.Normal.{fields_of, field_at, IsDefault, CanHaveOne, CanHaveMany, AreKeysAscending, HasFields}
 use Rattle.mrpc_table.specs.Normal.{IsItem, AreItems, ArePairs, IsNormal, depth, item_depth, items_depth, pairs_depth}
-use Rattle.mrpc_table.specs.Fits.{FitsWithin}
+use Rattle.mrpc_table.specs.NormalParts.{IsNormalWithin}
 use Rattle.mrpc_table.specs.declared.table.Kind.{Kind}
 use Rattle.mrpc_table.specs.declared.table.Kind.TheVariants.{Int32, Int64, Uint32, Uint64, Sint32, Sint64}
 use Rattle.mrpc_table.specs.declared.table.Kind.TheVariants.{Bool as TheBool, Fixed32, Fixed64, Sfixed32, Sfixed64}
@@ -18,14 +18,14 @@ use Rattle.mrpc_table.specs.declared.table.Label.TheVariants.{Plain, Optional, R
 use Rattle.mrpc_table.specs.declared.table.Field.{Field}
 use Rattle.mrpc_table.specs.declared.table.Table.{Table}
 use Rattle.wire_decode.specs.Words.{is_map}
-use Rattle.wire_decode.specs.Known.{is_message, HasRoom, entry_fields}
-use Rattle.wire_decode.specs.Merges.{Merges}
-use Rattle.wire_decode.specs.Merged.{contents_of, values_in, singles_in, join_fields, joined, last_value}
+use Rattle.wire_decode.specs.Known.{is_message_kind, HasRoom, entry_fields}
+use Rattle.wire_decode.specs.MergedMessage.{IsMergedMessage}
+use Rattle.wire_decode.specs.Merged.{contents_of, values_in, singles_in, join_fields, joined_messages, last_value}
 use Rattle.wire_decode.specs.Contents.{items_from}
-use Rattle.wire_decode.specs.Contents.{is_default, default_of, present, present_if_set}
-use Rattle.wire_decode.specs.Merged.{singular, element, part, entry}
+use Rattle.wire_decode.specs.Contents.{is_default_item, default_item_of, present, present_if_set}
+use Rattle.wire_decode.specs.Merged.{singular, merged_element, part_of_entry, merged_entry}
 use Rattle.wire_decode.specs.Contents.{some_items, some_pairs, with_content}
-use Rattle.wire_decode.specs.Merged.{field_content, is_overtaken, counted}
+use Rattle.wire_decode.specs.Merged.{field_content, is_overtaken, counted_records}
 use Rattle.wire_decode.specs.Merged.{with_fields, merged}
 use Rattle.wire_decode.proofs.Merging.{element-same, merged-suc}
 use Rattle.wire_decode.proofs.WordForms.{AreBytes}
@@ -44,9 +44,9 @@ GoodItem T k room i = IsItem T k i × (item_depth i ≤ room)
 
 -- how nested messages are merged
 record Inner (T : Table) (room : ℕ) (inner : ℕ → Node → Node) : Type 0 where
-  each : (inside i : ℕ) (u : Node) → room ≡ suc inside → SoundNode T inside (fields_of T i) u → FitsWithin T i room (inner i u)
+  each : (inside i : ℕ) (u : Node) → room ≡ suc inside → SoundNode T inside (fields_of T i) u → IsNormalWithin T i room (inner i u)
 
-value-good : (T : Table) (room : ℕ) (k : Kind) (i : Item) → is_message k ≡ false → SoundValue T room k i → GoodItem T k (suc room) i
+value-good : (T : Table) (room : ℕ) (k : Kind) (i : Item) → is_message_kind k ≡ false → SoundValue T room k i → GoodItem T k (suc room) i
 value-good T room k (number n) plain h = (h, omega arith)
 value-good T room k (run bytes) plain h = (h, omega arith)
 value-good T room k (node t) plain h = absurd (not_message k h.0 plain h.2)
@@ -56,17 +56,17 @@ message-good : (T : Table) (room m : ℕ) (inner : ℕ → Node → Node) (insid
     → GoodItem T (OfMessage m) (suc room) (node (inner m u))
 message-good T room m inner inside u fits e h = let g = fits.each inside m u e h in let d = g.depth in ((m, refl, g.fields, g.oneofs), omega (arith, d))
 
-last-good : (T : Table) (room : ℕ) (k : Kind) (is : List Item) → is_message k ≡ false → AllValues T room k is → IfSome (last_value is) (GoodItem T k (suc room))
+last-good : (T : Table) (room : ℕ) (k : Kind) (is : List Item) → is_message_kind k ≡ false → AllValues T room k is → IfSome (last_value is) (GoodItem T k (suc room))
 last-good T room k [] plain h = tt
 last-good T room k (i ∷ []) plain h = value-good T room k i plain h.0
 last-good T room k (i ∷ j ∷ is) plain h = last-good T room k (j ∷ is) plain h.1
 
-singular-plain : (inner : ℕ → Node → Node) (k : Kind) (is : List Item) → is_message k ≡ false → singular inner k is ≡ last_value is
+singular-plain : (inner : ℕ → Node → Node) (k : Kind) (is : List Item) → is_message_kind k ≡ false → singular inner k is ≡ last_value is
 singular-plain inner (OfMessage m) is h = absurd (cc)
 singular-plain inner _ is h = refl
 
 -- a kind is a message's, or it isn't
-kinds : (k : Kind) → (is_message k ≡ false) ⊎ ((m : ℕ) × (k ≡ OfMessage m))
+kinds : (k : Kind) → (is_message_kind k ≡ false) ⊎ ((m : ℕ) × (k ≡ OfMessage m))
 kinds (OfMessage m) = inr (m, refl)
 kinds _ = inl refl
 
@@ -76,7 +76,7 @@ message-singular : (T : Table) (room : ℕ) (inner : ℕ → Node → Node) (m :
 message-singular T room inner m [] fits h = tt
 message-singular T room inner m (v ∷ vs) fits h =
     let r = room-inside T room m v h.0 in
-    message-good T room m inner r.0 (joined (v ∷ vs)) fits r.1 (joined-sound T room r.0 m (v ∷ vs) r.1 h)
+    message-good T room m inner r.0 (joined_messages (v ∷ vs)) fits r.1 (joined-sound T room r.0 m (v ∷ vs) r.1 h)
 
 singular-good : (T : Table) (room : ℕ) (inner : ℕ → Node → Node) (k : Kind) (is : List Item) → Inner T room inner
     → AllValues T room k is → IfSome (singular inner k is) (GoodItem T k (suc room))
@@ -87,19 +87,19 @@ singular-good T room inner k is fits h =
     (kinds k)
 
 message-element : (T : Table) (room : ℕ) (inner : ℕ → Node → Node) (m : ℕ) (i : Item) → Inner T room inner
-    → SoundValue T room (OfMessage m) i → GoodItem T (OfMessage m) (suc room) (element inner (OfMessage m) i)
+    → SoundValue T room (OfMessage m) i → GoodItem T (OfMessage m) (suc room) (merged_element inner (OfMessage m) i)
 message-element T room inner m i fits h =
     let r = room-inside T room m i h in
-    message-good T room m inner r.0 (joined (i ∷ [])) fits r.1 (joined-sound T room r.0 m (i ∷ []) r.1 (h, tt))
+    message-good T room m inner r.0 (joined_messages (i ∷ [])) fits r.1 (joined-sound T room r.0 m (i ∷ []) r.1 (h, tt))
 
-element-good : (T : Table) (room : ℕ) (inner : ℕ → Node → Node) (k : Kind) (i : Item) → Inner T room inner → SoundValue T room k i → GoodItem T k (suc room) (element inner k i)
+element-good : (T : Table) (room : ℕ) (inner : ℕ → Node → Node) (k : Kind) (i : Item) → Inner T room inner → SoundValue T room k i → GoodItem T k (suc room) (merged_element inner k i)
 element-good T room inner k i fits h =
     ⊎_elim
     (λ plain. subst (λ (x : Item). GoodItem T k (suc room) x) (sym (element-same inner k i plain)) (value-good T room k i plain h))
-    (λ m. subst (λ (x : Kind). SoundValue T room x i → GoodItem T x (suc room) (element inner x i)) (sym m.1) (message-element T room inner m.0 i fits) h)
+    (λ m. subst (λ (x : Kind). SoundValue T room x i → GoodItem T x (suc room) (merged_element inner x i)) (sym m.1) (message-element T room inner m.0 i fits) h)
     (kinds k)
 
-default-good : (T : Table) (room : ℕ) (k : Kind) → HasRoom room k → GoodItem T k (suc room) (default_of k)
+default-good : (T : Table) (room : ℕ) (k : Kind) → HasRoom room k → GoodItem T k (suc room) (default_item_of k)
 default-good T room Text h = (IsUtf8-nil, omega arith)
 default-good T room Octets h = (All-nil (λ b. b < 256), omega arith)
 default-good T room (OfMessage i) h = ((i, refl, tt, λ o. omega arith), (let r = h refl in omega (arith, r)))
@@ -124,11 +124,11 @@ unwrap-good P (Some i) d h e = h
 
 part-good : (T : Table) (room : ℕ) (inner : ℕ → Node → Node) (n : ℕ) (f : Field) (fs : List Field) (t : Node)
     → Inner T room inner → field_at fs n ≡ Some f → f.label ≡ Optional → HasRoom room f.kind → SoundNode T room fs t
-    → GoodItem T f.kind (suc room) (part inner n f.kind t)
+    → GoodItem T f.kind (suc room) (part_of_entry inner n f.kind t)
 part-good T room inner n f fs t fits at single has_room h =
     let values = singles-sound T room f.label f.kind (contents_of n t) (ap is_map single) (contents-sound T room fs n f t at h) in
     unwrap-good (GoodItem T f.kind (suc room)) (singular inner f.kind (singles_in (contents_of n t)))
-    (default_of f.kind) (singular-good T room inner f.kind (singles_in (contents_of n t)) fits values)
+    (default_item_of f.kind) (singular-good T room inner f.kind (singles_in (contents_of n t)) fits values)
     (default-good T room f.kind has_room)
 
 abbrev GoodPair : Table → Kind → Kind → ℕ → Item × Item → Type 0
@@ -140,7 +140,7 @@ AllPairs T key k room (e ∷ es) = GoodPair T key k room e × AllPairs T key k r
 
 -- if the key is no message
 entry-good : (T : Table) (room : ℕ) (inner : ℕ → Node → Node) (key k : Kind) (i : Item) → Inner T room inner
-    → is_message key ≡ false → SoundEntry T room key k i → GoodPair T key k (suc room) (entry inner key k i)
+    → is_message_kind key ≡ false → SoundEntry T room key k i → GoodPair T key k (suc room) (merged_entry inner key k i)
 entry-good T room inner key k (number n) fits plain h = absurd h
 entry-good T room inner key k (run bytes) fits plain h = absurd h
 entry-good T room inner key k (node t) fits plain h =
@@ -152,14 +152,14 @@ entry-good T room inner key k (node t) fits plain h =
     )
 
 entries-good : (T : Table) (room : ℕ) (inner : ℕ → Node → Node) (key k : Kind) (is : List Item) → Inner T room inner
-    → is_message key ≡ false → AllEntries T room key k is → AllPairs T key k (suc room) (map (entry inner key k) is)
+    → is_message_kind key ≡ false → AllEntries T room key k is → AllPairs T key k (suc room) (map (merged_entry inner key k) is)
 entries-good T room inner key k [] fits plain h = tt
 entries-good T room inner key k (i ∷ is) fits plain h = (entry-good T room inner key k i fits plain h.0, entries-good T room inner key k is fits plain h.1)
 
 -- the last entry of each key
 record GoodPairs (T : Table) (key k : Kind) (room : ℕ) (ps : Pairs) : Type 0 where
   all : ArePairs T key k ps
-  ascend : KeysAscend key ps
+  ascend : AreKeysAscending key ps
   depth : pairs_depth ps ≤ room
 
 -- the entries that are kept are in normal form: the law of `last_of_each`
@@ -167,7 +167,7 @@ abbrev pub KeptAreNormal : Type 0
 KeptAreNormal =
     ((T : Table) (key k : Kind) (es : List (Item × Item)) → AllByRecursion (λ e. IsItem T key e.0 × IsItem T k e.1) es → ArePairs T key k (last_of_each key es))
     × ((T : Table) (key k : Kind) (es : List (Item × Item)) → ((i : ℕ) → key ≢ OfMessage i)
-    → AllByRecursion (λ e. IsItem T key e.0 × IsItem T k e.1) es → KeysAscend key (last_of_each key es))
+    → AllByRecursion (λ e. IsItem T key e.0 × IsItem T k e.1) es → AreKeysAscending key (last_of_each key es))
     × ((key : Kind) (room : ℕ) (es : List (Item × Item))
     → AllByRecursion (λ e. (item_depth e.0 ≤ room) × (item_depth e.1 ≤ room)) es
     → pairs_depth (last_of_each key es) ≤ room)
@@ -182,31 +182,31 @@ all-depths T key k room [] h = tt
 all-depths T key k room (e ∷ es) h = ((h.0.0.1, h.0.1.1), all-depths T key k room es h.1)
 
 last-pairs : (law : KeptAreNormal) (T : Table) (key k : Kind) (room : ℕ) (es : List (Item × Item))
-    → is_message key ≡ false → AllPairs T key k room es → GoodPairs T key k room (last_of_each key es)
+    → is_message_kind key ≡ false → AllPairs T key k room es → GoodPairs T key k room (last_of_each key es)
 last-pairs law T key k room es plain h = record {
   all = law.0 T key k es (all-kinds T key k room es h);
-  ascend = law.1 T key k es (λ i e. (let bad : false ≡ true = sym plain ∙ ap is_message e in cc)) (all-kinds T key k room es h);
+  ascend = law.1 T key k es (λ i e. (let bad : false ≡ true = sym plain ∙ ap is_message_kind e in cc)) (all-kinds T key k room es h);
   depth = law.2 key room es (all-depths T key k room es h);
 }
 
 -- the content of a field
 abbrev GoodContent : Table → Label → Kind → ℕ → Content → Type 0
-GoodContent T label k room (one i) = TakesOne label i × GoodItem T k room i
-GoodContent T label k room (many is) = TakesMany label × (is ≢ no_items) × AreItems T k is × (items_depth is ≤ room)
+GoodContent T label k room (one i) = CanHaveOne label i × GoodItem T k room i
+GoodContent T label k room (many is) = CanHaveMany label × (is ≢ no_items) × AreItems T k is × (items_depth is ≤ room)
 GoodContent T label k room (pairs ps) = (key : Kind) × (label ≡ Map key) × (ps ≢ no_pairs) × GoodPairs T key k room ps
 
-default-test : (i : Item) → IsDefault i → is_default i ≡ true
+default-test : (i : Item) → IsDefault i → is_default_item i ≡ true
 default-test (number n) h = eq-eqb n 0 h
-default-test (run bytes) h = ap (λ b. is_default (run b)) h
+default-test (run bytes) h = ap (λ b. is_default_item (run b)) h
 default-test (node t) h = absurd h
 
-set-go : (T : Table) (k : Kind) (room : ℕ) (i : Item) (b : Bool) → is_default i ≡ b → GoodItem T k room i → IfSome (cond b None (Some (one i))) (GoodContent T Plain k room)
+set-go : (T : Table) (k : Kind) (room : ℕ) (i : Item) (b : Bool) → is_default_item i ≡ b → GoodItem T k room i → IfSome (cond b None (Some (one i))) (GoodContent T Plain k room)
 set-go T k room i true e h = tt
 set-go T k room i false e h = (λ d. (let bad : true ≡ false = sym (default-test i d) ∙ e in cc), h)
 
 set-good : (T : Table) (k : Kind) (room : ℕ) (o : Option Item) → IfSome o (GoodItem T k room) → IfSome (present_if_set o) (GoodContent T Plain k room)
 set-good T k room None h = tt
-set-good T k room (Some i) h = set-go T k room i (is_default i) refl h
+set-good T k room (Some i) h = set-go T k room i (is_default_item i) refl h
 
 optional-good : (T : Table) (k : Kind) (room : ℕ) (o : Option Item) → IfSome o (GoodItem T k room) → IfSome (present o) (GoodContent T Optional k room)
 optional-good T k room None h = tt
@@ -218,8 +218,8 @@ member-good T k room p (Some i) h = (tt, h)
 
 elements-good : (T : Table) (room : ℕ) (inner : ℕ → Node → Node) (k : Kind) (is : List Item) → Inner T room inner
     → AllValues T room k is
-    → AreItems T k (items_from (map (element inner k) is))
-    × (items_depth (items_from (map (element inner k) is)) ≤ suc room)
+    → AreItems T k (items_from (map (merged_element inner k) is))
+    × (items_depth (items_from (map (merged_element inner k) is)) ≤ suc room)
 elements-good T room inner k [] fits h = (tt, omega arith)
 elements-good T room inner k (i ∷ is) fits h =
     let first = element-good T room inner k i fits h.0 in
@@ -229,8 +229,8 @@ elements-good T room inner k (i ∷ is) fits h =
     ((first.0, rest.0), omega (arith, a, b))
 
 list-good : (T : Table) (room : ℕ) (inner : ℕ → Node → Node) (label : Label) (k : Kind) (is : List Item)
-    → Inner T room inner → TakesMany label → AllValues T room k is
-    → IfSome (some_items (map (element inner k) is)) (GoodContent T label k (suc room))
+    → Inner T room inner → CanHaveMany label → AllValues T room k is
+    → IfSome (some_items (map (merged_element inner k) is)) (GoodContent T label k (suc room))
 list-good T room inner label k [] fits takes h = tt
 list-good T room inner label k (i ∷ is) fits takes h =
     let good = elements-good T room inner k (i ∷ is) fits h in
@@ -242,7 +242,7 @@ map-good T key k room (pair i j ps) h = (key, refl, (λ e. cc), h)
 
 content-good : (law : KeptAreNormal)
     → (T : Table) (room : ℕ) (inner : ℕ → Node → Node) (label : Label) (k : Kind) (cs : List Content)
-    → Inner T room inner → ((key : Kind) → label ≡ Map key → is_message key ≡ false) → AllContents T room label k cs
+    → Inner T room inner → ((key : Kind) → label ≡ Map key → is_message_kind key ≡ false) → AllContents T room label k cs
     → IfSome (field_content inner label k cs) (GoodContent T label k (suc room))
 content-good law T room inner Plain k cs fits plain h = set-good T k (suc room) (singular inner k (singles_in cs))
     (singular-good T room inner k (singles_in cs) fits (singles-sound T room Plain k cs refl h))
@@ -256,8 +256,8 @@ content-good law T room inner Repeated k cs fits plain h = list-good T room inne
 content-good law T room inner Packed k cs fits plain h = list-good T room inner Packed k (values_in cs) fits tt (values-sound T room Packed k cs refl h)
 content-good law T room inner (Map key) k cs fits plain h =
     let no_message = plain key refl in
-    map-good T key k (suc room) (last_of_each key (map (entry inner key k) (values_in cs)))
-    (last-pairs law T key k (suc room) (map (entry inner key k) (values_in cs)) no_message
+    map-good T key k (suc room) (last_of_each key (map (merged_entry inner key k) (values_in cs)))
+    (last-pairs law T key k (suc room) (map (merged_entry inner key k) (values_in cs)) no_message
     (entries-good T room inner key k (values_in cs) fits no_message (entries-sound T room key k cs h)))
 
 -- fields, within the depth
@@ -301,18 +301,18 @@ counted-go : (T : Table) (room : ℕ) (fs : List Field) (n : ℕ) (c : Content) 
 counted-go T room fs n c t true h = h.0
 counted-go T room fs n c t false h = h
 
-counted-sound : (T : Table) (room : ℕ) (fs all : List Field) (t : Node) → SoundNode T room fs t → SoundNode T room fs (counted all t)
+counted-sound : (T : Table) (room : ℕ) (fs all : List Field) (t : Node) → SoundNode T room fs t → SoundNode T room fs (counted_records all t)
 counted-sound T room fs all no_fields h = tt
-counted-sound T room fs all (field n c t) h = counted-go T room fs n c (counted all t) (is_overtaken all n t) (counted-sound T room fs all t h.0, h.1, h.2, h.3)
+counted-sound T room fs all (field n c t) h = counted-go T room fs n c (counted_records all t) (is_overtaken all n t) (counted-sound T room fs all t h.0, h.1, h.2, h.3)
 
 merged-step : (law : KeptAreNormal) → (T : Table) (room : ℕ) → IsUsableTable T → Inner T room (merged T room)
     → (i : ℕ) (raw : Node) → SoundNode T room (fields_of T i) raw
-    → FitsWithin T i (suc room) (merged T (suc room) i raw)
+    → IsNormalWithin T i (suc room) (merged T (suc room) i raw)
 merged-step law T room usable fits i raw h =
     let fs = fields_of T i in
-    let kept = counted fs raw in
+    let kept = counted_records fs raw in
     let good = fields-good law T room (merged T room) fs kept 0 fs fits (counted-sound T room fs fs raw h) (usable.each i) (rest-start fs) in
-    subst (λ (t : Node). FitsWithin T i (suc room) t) (sym (merged-suc T room i raw)) (record {
+    subst (λ (t : Node). IsNormalWithin T i (suc room) t) (sym (merged-suc T room i raw)) (record {
       fields = good.fields;
       oneofs = λ o. members-one (merged T room) fs o kept fs 0 (counted-no_rivals fs raw) (usable.each i) (rest-start fs);
       depth = good.depth;
@@ -327,7 +327,7 @@ inner-fits law T (suc room) usable = record {
 }
 
 -- bytes mean a normal tree
-pub normal-meaning : (law : KeptAreNormal) → (T : Table) (msg : ℕ) (bytes : List ℕ) (t : Node) → IsUsableTable T → AreBytes bytes → Merges T msg bytes t → IsNormal T msg t
+pub normal-meaning : (law : KeptAreNormal) → (T : Table) (msg : ℕ) (bytes : List ℕ) (t : Node) → IsUsableTable T → AreBytes bytes → IsMergedMessage T msg bytes t → IsNormal T msg t
 normal-meaning law T msg bytes t usable small h =
     let fits = merged-step law T 31 usable (inner-fits law T 31 usable) msg h.raw (reads-sound h.reads small) in
     let normal : IsNormal T msg (merged T 32 msg h.raw) = record { fields = fits.fields; oneofs = fits.oneofs; depth = fits.depth } in

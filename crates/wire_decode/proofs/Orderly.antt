@@ -8,14 +8,14 @@ use Rattle.mrpc_table.specs.declared.table.Label.{Label}
 use Rattle.mrpc_table.specs.declared.table.Label.TheVariants.{Member}
 use Rattle.mrpc_table.specs.declared.table.Field.{Field}
 use Rattle.mrpc_table.specs.declared.table.Table.{Table}
-use Rattle.wire_base.specs.Records.{RecordAt, TagAt}
+use Rattle.wire_base.specs.Records.{IsRecordAt, IsTagAt}
 use Rattle.wire_base.specs.declared.records.Record.{Record}
-use Rattle.mrpc_table.specs.Ascending.{FieldsAscend}
-use Rattle.wire_decode.specs.NumberOrder.{NumbersAreAtMost}
-use Rattle.wire_decode.specs.Merged.{contents_of, join_fields, field_content, with_fields, counted, merged, is_overtaken}
+use Rattle.mrpc_table.specs.Ascending.{AreFieldsAscending}
+use Rattle.wire_decode.specs.NumberOrder.{AreNumbersAtMost}
+use Rattle.wire_decode.specs.Merged.{contents_of, join_fields, field_content, with_fields, counted_records, merged, is_overtaken}
 use Rattle.wire_decode.specs.Contents.{with_content}
 use Rattle.wire_decode.specs.Oneofs.{oneof_of, oneof_at, are_rivals}
-use Rattle.wire_decode.specs.Ordered.{AreRun, none_yet, one_more, IsWhole, IsFieldRead, may_follow, oneofs_with}
+use Rattle.wire_decode.specs.Ordered.{AreRun, none_yet, one_more, HasEachField, IsFieldRead, may_follow, oneofs_with}
 use Rattle.wire_decode.proofs.Adding.{contents-other, contents-pushed, contents-pushed_other, most-pushed}
 use Rattle.wire_decode.proofs.Merging.{content-none, field-here, field-later}
 use Rattle.wire_decode.proofs.Reading.{Read, read-start, read-more_known, read-done}
@@ -42,17 +42,17 @@ all-other : (t : Node) (m n : ℕ) (cs : List Content) → m ≢ n → contents_
 all-other t m n [] h = refl
 all-other t m n (c ∷ cs) h = all-other (push_field t n c) m n cs h ∙ contents-pushed_other m n c t h
 
-pub all-most : (t : Node) (m n : ℕ) (cs : List Content) → n ≤ m → NumbersAreAtMost m t → NumbersAreAtMost m (push_all t n cs)
+pub all-most : (t : Node) (m n : ℕ) (cs : List Content) → n ≤ m → AreNumbersAtMost m t → AreNumbersAtMost m (push_all t n cs)
 all-most t m n [] le h = h
 all-most t m n (c ∷ cs) le h = all-most (push_field t n c) m n cs le (most-pushed m n c t le h)
 
 -- ---- the fields of a message
 
-most-none : (m n : ℕ) (t : Node) → n < m → NumbersAreAtMost n t → contents_of m t ≡ []
+most-none : (m n : ℕ) (t : Node) → n < m → AreNumbersAtMost n t → contents_of m t ≡ []
 most-none m n no_fields less h = refl
 most-none m n (field k c t) less h = contents-other m k c t (let a = h.0 in omega (arith, a, less)) ∙ most-none m n t less h.1
 
-pub most-higher : (m n : ℕ) (t : Node) → n ≤ m → NumbersAreAtMost n t → NumbersAreAtMost m t
+pub most-higher : (m n : ℕ) (t : Node) → n ≤ m → AreNumbersAtMost n t → AreNumbersAtMost m t
 most-higher m n no_fields le h = tt
 most-higher m n (field k c t) le h = (let a = h.0 in omega (arith, a, le), most-higher m n t le h.1)
 
@@ -64,16 +64,16 @@ above-lower : (m n : ℕ) (fs : List Field) → m ≤ n → AreAbove n fs → Ar
 above-lower m n [] le h = tt
 above-lower m n (f ∷ fs) le h = (let a = h.0 in omega (arith, a, le), above-lower m n fs le h.1)
 
-first-above : (x : Field) (xs : List Field) → FieldsAscend (x ∷ xs) → AreAbove x.number xs
+first-above : (x : Field) (xs : List Field) → AreFieldsAscending (x ∷ xs) → AreAbove x.number xs
 first-above x [] h = tt
 first-above x (y ∷ ys) h = (h.0, above-lower x.number y.number ys (let a = h.0 in omega (arith, a)) (first-above y ys h.1))
 
-tail-ascends : (x : Field) (xs : List Field) → FieldsAscend (x ∷ xs) → FieldsAscend xs
+tail-ascends : (x : Field) (xs : List Field) → AreFieldsAscending (x ∷ xs) → AreFieldsAscending xs
 tail-ascends x [] h = tt
 tail-ascends x (y ∷ ys) h = h.1
 
 -- fields above all numbers have no content
-fields-none : (inner : ℕ → Node → Node) (n : ℕ) (t : Node) (fs : List Field) → NumbersAreAtMost n t → AreAbove n fs → with_fields inner t fs ≡ no_fields
+fields-none : (inner : ℕ → Node → Node) (n : ℕ) (t : Node) (fs : List Field) → AreNumbersAtMost n t → AreAbove n fs → with_fields inner t fs ≡ no_fields
 fields-none inner n t [] most h = refl
 fields-none inner n t (f ∷ fs) most h =
     ap (λ cs. with_content f.number (field_content inner f.label f.kind cs) (with_fields inner t fs)) (most-none f.number n t h.0 most)
@@ -88,14 +88,14 @@ some-same : (f g : Field) → Some f ≡ Some g → f ≡ g
 some-same f g e = ap (λ o. elim o [ Some x ↦ x | None ↦ f ]) e
 
 fields-here : (inner : ℕ → Node → Node) (g : Field) (gs : List Field) (t : Node) (last n : ℕ) (cs : List Content)
-    (f : Field) → FieldsAscend (g ∷ gs) → field_at (g ∷ gs) n ≡ Some f → NumbersAreAtMost last t → last < n → g.number ≡ n
+    (f : Field) → AreFieldsAscending (g ∷ gs) → field_at (g ∷ gs) n ≡ Some f → AreNumbersAtMost last t → last < n → g.number ≡ n
     → with_fields inner (push_all t n cs) (g ∷ gs) ≡ join_fields (with_fields inner t (g ∷ gs))
     (with_content n (field_content inner f.label f.kind cs) no_fields)
 fields-here inner g gs t last n cs f a at most less e =
     let now = push_all t n cs in
     let above : AreAbove n gs = subst (λ k. AreAbove k gs) e (first-above g gs a) in
     let none : contents_of n t ≡ [] = most-none n last t less most in
-    let all : NumbersAreAtMost n now = all-most t n n cs (omega arith) (most-higher n last t (omega (arith, less)) most) in
+    let all : AreNumbersAtMost n now = all-most t n n cs (omega arith) (most-higher n last t (omega (arith, less)) most) in
     let own : contents_of g.number now ≡ cs = ap (λ k. contents_of k now) e ∙ all-here t n cs ∙ ap (λ x. x ++ cs) none in
     let same : g ≡ f = some-same g f (sym (field-here g gs n e) ∙ at) in
     let before : with_fields inner t (g ∷ gs) ≡ no_fields = fields-none inner last t (g ∷ gs) most (omega (arith, e, less), above-lower last n gs (omega (arith, less)) above) in
@@ -107,7 +107,7 @@ fields-here inner g gs t last n cs f a at most less e =
 
 -- records of a field above all that were read add its content
 pub fields-more : (inner : ℕ → Node → Node) (fs : List Field) (t : Node) (last n : ℕ) (cs : List Content) (f : Field)
-    → FieldsAscend fs → field_at fs n ≡ Some f → NumbersAreAtMost last t → last < n
+    → AreFieldsAscending fs → field_at fs n ≡ Some f → AreNumbersAtMost last t → last < n
     → with_fields inner (push_all t n cs) fs ≡ join_fields (with_fields inner t fs)
     (with_content n (field_content inner f.label f.kind cs) no_fields)
 fields-more inner [] t last n cs f a at most less = absurd (let bad : None ≡ Some f = at in cc)
@@ -132,10 +132,10 @@ abbrev Clear : List Field → Node → Type 0
 Clear fs no_fields = Unit {0}
 Clear fs (field n c t) = (is_overtaken fs n t ≡ false) × Clear fs t
 
-clear-counts : (fs : List Field) (t : Node) → Clear fs t → counted fs t ≡ t
+clear-counts : (fs : List Field) (t : Node) → Clear fs t → counted_records fs t ≡ t
 clear-counts fs no_fields h = refl
 clear-counts fs (field n c t) h =
-    ap (λ b. cond b (counted fs t) (field n c (counted fs t))) h.0 ∙ ap (field n c) (clear-counts fs t h.1)
+    ap (λ b. cond b (counted_records fs t) (field n c (counted_records fs t))) h.0 ∙ ap (field n c) (clear-counts fs t h.1)
 
 -- no earlier number is a rival of n
 abbrev NoRivals : List Field → ℕ → Node → Type 0
@@ -197,7 +197,7 @@ oneofs-all fs k n (c ∷ cs) t own h = oneofs-all fs k n cs (push_field t n c) o
 pub record SoFar (T : Table) (room : ℕ) (fs : List Field) (bytes : List ℕ) (start at last oneofs : ℕ) (t : Node) : Type 0 where
   pub raw : Node
   pub read : Read T room fs bytes start at raw
-  pub most : NumbersAreAtMost last raw
+  pub most : AreNumbersAtMost last raw
   pub clear : Clear fs raw
   pub below : OneofsBelow fs oneofs raw
   pub same : t ≡ with_fields (merged T room) raw fs
@@ -213,7 +213,7 @@ sofar-first T room fs bytes start = record {
 }
 
 pub sofar-last : (T : Table) (room : ℕ) (fs : List Field) (bytes : List ℕ) (start at last oneofs : ℕ) (t : Node)
-    → at ≡ length bytes → SoFar T room fs bytes start at last oneofs t → IsWhole T room fs bytes start t
+    → at ≡ length bytes → SoFar T room fs bytes start at last oneofs t → HasEachField T room fs bytes start t
 sofar-last T room fs bytes start at last oneofs t ends h = record {
   raw = h.raw;
   reads = read-done T room fs bytes start at h.raw ends h.read;
@@ -229,7 +229,7 @@ read-run T room fs bytes start from tag t f cs at known h (none_yet e w) =
     subst P (sym e) (subst (λ x. Read T room fs bytes start x t) (sym w) h)
 read-run T room fs bytes start from tag t f cs at known h (one_more before c p middle first run tagged stands holds e) =
     let r : Record = record { number = tag / 8; payload = p; next = at } in
-    let here : RecordAt bytes middle r = record { tag = tag; start = first; tagged = tagged; number = refl; payload = stands } in
+    let here : IsRecordAt bytes middle r = record { tag = tag; start = first; tagged = tagged; number = refl; payload = stands } in
     let more = read-more_known T room fs bytes start middle (push_all t (tag / 8) before) r f c here known holds (read-run T room fs bytes start from tag t f before middle known h run) in
     let P : Node → Type 0 = λ u. Read T room fs bytes start at u in
     let Q : List Content → Type 0 = λ x. P (push_all t (tag / 8) x) in
@@ -265,8 +265,8 @@ no-rivals fs n f oneofs (field m c t) known may h = (
 
 -- the records of one field more
 pub sofar-more : (T : Table) (room : ℕ) (fs : List Field) (bytes : List ℕ) (start at last oneofs : ℕ) (t new : Node)
-    (f : Field) (tag behind next : ℕ) → FieldsAscend fs → SoFar T room fs bytes start at last oneofs t
-    → field_at fs (tag / 8) ≡ Some f → last < tag / 8 → may_follow f.label oneofs ≡ true → TagAt bytes at tag behind
+    (f : Field) (tag behind next : ℕ) → AreFieldsAscending fs → SoFar T room fs bytes start at last oneofs t
+    → field_at fs (tag / 8) ≡ Some f → last < tag / 8 → may_follow f.label oneofs ≡ true → IsTagAt bytes at tag behind
     → IsFieldRead T room f.label f.kind bytes tag behind next t new
     → SoFar T room fs bytes start next (tag / 8) (oneofs_with f.label oneofs) new
 sofar-more T room fs bytes start at last oneofs t new f tag behind next a h known more may tagged read =

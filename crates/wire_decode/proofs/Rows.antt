@@ -9,7 +9,7 @@ use Rattle.mrpc_table.specs.declared.table.Field.{Field}
 use Rattle.mrpc_table.specs.declared.table.Message.{Message}
 use Rattle.mrpc_table.specs.declared.table.Table.{Table}
 use Rattle.wire_base.specs.Encoding.{encoding, varint, groups}
-use Rattle.wire_decode.specs.Words.{word_of}
+use Rattle.wire_decode.specs.Words.{word_form_of}
 use Rattle.wire_decode.specs.Merged.{merged}
 
 abbrev a_field : ℕ → Kind → Label → Field
@@ -93,5 +93,5 @@ unfolding merged
 last_counts = refl
 
 -- the numbers of the encoding guide: a negative int32 in ten bytes, ZigZag, a bool, truncation to 32 bits
-minus_two : word_of Int32 (2 ^ 64 - 2) ≡ 2 ^ 64 - 2
+minus_two : word_form_of Int32 (2 ^ 64 - 2) ≡ 2 ^ 64 - 2
 minus_two = refl

@@ -14,7 +14,7 @@ use Rattle.mrpc_table.specs.declared.table.Label.TheVariants.{Plain, Optional, R
 use Rattle.mrpc_table.specs.declared.table.Field.{Field}
 use Rattle.mrpc_table.specs.declared.table.Message.{Message}
 use Rattle.mrpc_table.specs.declared.table.Table.{Table}
-use Rattle.wire_base.specs.Records.{IsVarint, VarintAt, PayloadAt, RecordAt, FaultAt, no_tag, tag_range, number_zero, wire_type, no_payload, no_varint, IsWireType}
+use Rattle.wire_base.specs.Records.{IsVarint, IsVarintAt, IsPayloadAt, IsRecordAt, IsWireFaultAt, no_tag, tag_range, number_zero, wire_type, no_payload, no_varint, IsWireType}
 use Rattle.wire_base.specs.declared.records.Record.{Record}
 use Rattle.wire_base.specs.declared.records.Payload.{Payload}
 use Rattle.wire_base.specs.declared.records.Payload.TheVariants.{Varint, I64, I32, Len}
@@ -28,8 +28,8 @@ use Rattle.wire_decode.specs.Meaning.{a_number, a_piece, a_message, an_entry, no
 use Rattle.wire_decode.specs.Meaning.{one_field, FieldMeans, no_value, one_message, elements, entries}
 use Rattle.wire_decode.specs.Meaning.{of_number, of_piece, no_items as none_left, more_items}
 use Rattle.wire_decode.specs.Meaning.{no_entries, more_entries}
-use Rattle.wire_decode.specs.Faults.{HasPayload, FirstFault, first_fault, no_record_there, not_whole_elements, not_utf8, message_too_deep, inside_message, IsFirstFault, is_skipped}
-use Rattle.wire_decode.specs.Reason.{reason_of}
+use Rattle.wire_decode.specs.Faults.{HasPayload, IsFirstFaultFrom, first_fault, no_record_there, not_whole_elements, not_utf8, message_too_deep, inside_message, IsFirstDecodeFault, is_skipped}
+use Rattle.wire_decode.specs.Reason.{decode_reason_of}
 use Rattle.wire_decode.specs.declared.fault.DecodeReason.{DecodeReason}
 use Rattle.wire_decode.specs.declared.fault.DecodeReason.TheVariants as why
 
@@ -43,7 +43,7 @@ abbrev a_table : List Message → Table
 a_table ms = record { messages = ms; enums = []; methods = [] }
 
 -- a varint of one byte
-byte_at : (bytes : List ℕ) (at next v : ℕ) → next ≤ length bytes → slice_range bytes at next ≡ v ∷ [] → v < 128 → VarintAt bytes at v next
+byte_at : (bytes : List ℕ) (at next v : ℕ) → next ≤ length bytes → slice_range bytes at next ≡ v ∷ [] → v < 128 → IsVarintAt bytes at v next
 byte_at bytes at next v within is small = record {
   within = within;
   spelled = subst (λ (xs : List ℕ). IsVarint xs v) (sym is) (record { form = small; short = omega arith; value = omega arith });
@@ -58,7 +58,7 @@ payload_record n start end = record { number = n; payload = Len start end; next 
 
 number_at : (bytes : List ℕ) (at n v : ℕ) → at + 2 ≤ length bytes → slice_range bytes at (at + 1) ≡ (8 * n) ∷ []
     → slice_range bytes (at + 1) (at + 2) ≡ v ∷ [] → 0 < n → 8 * n < 128 → v < 128
-    → RecordAt bytes at (number_record n v (at + 2))
+    → IsRecordAt bytes at (number_record n v (at + 2))
 number_at bytes at n v within tag is positive small less = record {
   tag = 8 * n;
   start = at + 1;
@@ -70,7 +70,7 @@ number_at bytes at n v within tag is positive small less = record {
 payload_at : (bytes : List ℕ) (at n len end : ℕ) → end ≡ at + 2 + len → end ≤ length bytes
     → slice_range bytes at (at + 1) ≡ (8 * n + 2) ∷ [] → slice_range bytes (at + 1) (at + 2) ≡ len ∷ [] → 0 < n
     → 8 * n + 2 < 128 → len < 128
-    → RecordAt bytes at (payload_record n (at + 2) end)
+    → IsRecordAt bytes at (payload_record n (at + 2) end)
 payload_at bytes at n len end ends within tag is positive small less = record {
   tag = 8 * n + 2;
   start = at + 1;
@@ -126,7 +126,7 @@ a_signed_field = a_field 1 Int32 Plain
 abbrev minus_two_record : Record
 minus_two_record = record { number = 1; payload = Varint (2 ^ 64 - 2); next = 11 }
 
-ten_bytes : VarintAt minus_two 1 (2 ^ 64 - 2) 11
+ten_bytes : IsVarintAt minus_two 1 (2 ^ 64 - 2) 11
 ten_bytes = record {
   within = omega arith;
   spelled = record {
@@ -360,8 +360,8 @@ abbrev plain_table : Table
 plain_table = a_table (a_message_of (a_field 1 (OfMessage 0) Plain ∷ a_field 2 Text Plain ∷ a_field 4 Fixed32 Repeated ∷ []) ∷ [])
 
 -- the record at the start is at fault
-at_start : (bytes : List ℕ) (f : WireFault) (reason : DecodeReason) → 0 < length bytes → FaultAt bytes 0 f
-    → reason ≡ reason_of f.reason → IsFirstFault plain_table 0 bytes reason f.place
+at_start : (bytes : List ℕ) (f : WireFault) (reason : DecodeReason) → 0 < length bytes → IsWireFaultAt bytes 0 f
+    → reason ≡ decode_reason_of f.reason → IsFirstDecodeFault plain_table 0 bytes reason f.place
 at_start bytes f reason more fault is = first_fault [] 0 refl (no_record_there f more fault is refl)
 
 abbrev ten_high : List ℕ
@@ -384,14 +384,14 @@ ten_are_high = (high 128 (128 ∷ 128 ∷ 128 ∷ 128 ∷ 128 ∷ 128 ∷ 128 �
     (high 128 (128 ∷ 128 ∷ []) (omega arith)
     (high 128 (128 ∷ []) (omega arith) (high 128 ([]) (omega arith) (All-nil IsHigh)))))))))))
 
-varint_too_long : IsFirstFault plain_table 0 ten_high why.Varint 0
+varint_too_long : IsFirstDecodeFault plain_table 0 ten_high why.Varint 0
 varint_too_long = at_start ten_high (record { reason = wire.Varint; place = 0 }) why.Varint (omega arith) (no_tag refl (record { ten = omega arith; top = ten_are_high })) refl
 
 -- the tag is 2^32
 abbrev wide_tag : List ℕ
 wide_tag = 128 ∷ 128 ∷ 128 ∷ 128 ∷ 16 ∷ []
 
-tag_out_of_range : IsFirstFault plain_table 0 wide_tag why.TagRange 0
+tag_out_of_range : IsFirstDecodeFault plain_table 0 wide_tag why.TagRange 0
 tag_out_of_range = at_start wide_tag (record { reason = wire.TagRange; place = 0 }) why.TagRange (omega arith)
     (tag_range (2 ^ 32) 5 refl refl (record {
       within = omega arith;
@@ -402,7 +402,7 @@ tag_out_of_range = at_start wide_tag (record { reason = wire.TagRange; place = 0
       };
     }) (omega arith)) refl
 
-number_is_zero : IsFirstFault plain_table 0 (0 ∷ []) why.NumberZero 0
+number_is_zero : IsFirstDecodeFault plain_table 0 (0 ∷ []) why.NumberZero 0
 number_is_zero = at_start (0 ∷ []) (record { reason = wire.NumberZero; place = 0 }) why.NumberZero (omega arith)
     (number_zero 0 1 refl refl (byte_at (0 ∷ []) 0 1 0 (omega arith) refl (omega arith)) (omega arith) refl) refl
 
@@ -410,12 +410,12 @@ number_is_zero = at_start (0 ∷ []) (record { reason = wire.NumberZero; place =
 not_three : IsWireType 3 → ⊥
 not_three h = ⊎_elim (λ e. omega (arith, e)) (λ t. ⊎_elim (λ e. omega (arith, e)) (λ u. ⊎_elim (λ e. omega (arith, e)) (λ e. omega (arith, e)) u) t) h
 
-wire_type_unknown : IsFirstFault plain_table 0 (11 ∷ []) why.WireType 0
+wire_type_unknown : IsFirstDecodeFault plain_table 0 (11 ∷ []) why.WireType 0
 wire_type_unknown = at_start (11 ∷ []) (record { reason = wire.WireType; place = 0 }) why.WireType (omega arith)
     (wire_type 11 1 refl refl (record { stands = byte_at (11 ∷ []) 0 1 11 (omega arith) refl (omega arith); small = omega arith; numbered = λ e. omega (arith, e) }) not_three) refl
 
 -- the bytes end after the tag
-bytes_end : IsFirstFault plain_table 0 (8 ∷ []) why.Short 1
+bytes_end : IsFirstDecodeFault plain_table 0 (8 ∷ []) why.Short 1
 bytes_end = at_start (8 ∷ []) (record { reason = wire.Short; place = 1 }) why.Short (omega arith)
     (no_payload 8 1 refl (record { stands = byte_at (8 ∷ []) 0 1 8 (omega arith) refl (omega arith); small = omega arith; numbered = λ e. omega (arith, e) })
     (no_varint refl (record { fewer = omega arith; top = All-nil IsHigh }))) refl
@@ -431,7 +431,7 @@ not_text_test = refl
 not_text : IsUtf8 (255 ∷ []) → ⊥
 not_text h = (let e : true ≡ false = sym (is_utf8-from_IsUtf8 (255 ∷ []) h) ∙ not_text_test in cc)
 
-text_is_not_utf8 : IsFirstFault plain_table 0 bad_text why.Utf8 4
+text_is_not_utf8 : IsFirstDecodeFault plain_table 0 bad_text why.Utf8 4
 text_is_not_utf8 =
     first_fault (number_record 1 1 2 ∷ []) 2 (number_at bad_text 0 1 1 (omega arith) refl refl (omega arith) (omega arith) (omega arith), is_skipped refl, refl)
     (not_utf8 (a_field 2 Text Plain) 5 (record {
@@ -449,13 +449,13 @@ no_elements_there : (ns : List ℕ) → AreElements Fixed32 (1 ∷ 2 ∷ 3 ∷ [
 no_elements_there [] h = omega (arith, h)
 no_elements_there (n ∷ ns) h = go h.0 h.1 h.2
   where
-    go : (p : Payload) (next : ℕ) → PayloadAt (1 ∷ 2 ∷ 3 ∷ []) 0 5 p next → ⊥
+    go : (p : Payload) (next : ℕ) → IsPayloadAt (1 ∷ 2 ∷ 3 ∷ []) 0 5 p next → ⊥
     go (Varint v) next e = omega (arith, e.0)
     go (I64 v) next e = omega (arith, e.0)
     go (I32 v) next e = omega (arith, e.1, e.2)
     go (Len s t) next e = omega (arith, e.0)
 
-piece_is_not_whole : IsFirstFault plain_table 0 cut_piece why.PackedLength 2
+piece_is_not_whole : IsFirstDecodeFault plain_table 0 cut_piece why.PackedLength 2
 piece_is_not_whole =
     first_fault [] 0 refl
     (not_whole_elements (a_field 4 Fixed32 Repeated) 5 (record {
@@ -483,11 +483,11 @@ nested_payload at start len start_is ends tag is less =
 
 level : (room at start len : ℕ) → start ≡ at + 2 → 64 ≡ at + 2 + len → slice_range nested at (at + 1) ≡ 10 ∷ []
     → slice_range nested (at + 1) (at + 2) ≡ len ∷ [] → len < 128
-    → FirstFault plain_table room (fields_of plain_table 0) nested start why.Depth 64 → FirstFault plain_table (suc room) (fields_of plain_table 0) nested at why.Depth 64
+    → IsFirstFaultFrom plain_table room (fields_of plain_table 0) nested start why.Depth 64 → IsFirstFaultFrom plain_table (suc room) (fields_of plain_table 0) nested at why.Depth 64
 level room at start len start_is ends tag is less deeper =
     first_fault [] at refl (inside_message inner 0 room start 64 (nested_payload at start len start_is ends tag is less) refl refl refl deeper)
 
-too_deep : IsFirstFault plain_table 0 nested why.Depth 64
+too_deep : IsFirstDecodeFault plain_table 0 nested why.Depth 64
 too_deep =
     (level 30 0 2 62 refl refl refl refl (omega arith)
     (level 29 2 4 60 refl refl refl refl (omega arith)

@@ -14,15 +14,15 @@ use Rattle.mrpc_table.specs.declared.table.Label.{Label}
 use Rattle.mrpc_table.specs.declared.table.Field.{Field}
 use Rattle.mrpc_table.specs.declared.table.Table.{Table}
 use Rattle.mrpc_table.specs.WireTypes.{wire_type_of}
-use Rattle.wire_base.specs.Records.{IsVarint, VarintAt, PayloadAt, RecordAt, IsWithin}
+use Rattle.wire_base.specs.Records.{IsVarint, IsVarintAt, IsPayloadAt, IsRecordAt, IsWithin}
 use Rattle.wire_base.specs.declared.records.Record.{Record}
 use Rattle.wire_base.specs.declared.records.Payload.{Payload}
 use Rattle.wire_base.specs.declared.records.Payload.TheVariants.{Varint, I64, I32, Len}
-use Rattle.wire_decode.specs.Words.{number_in, payload_type, suits, word_of, AreElements}
-use Rattle.wire_decode.specs.Reads.{Reads, read_end, read_other, read_known, Holds, holds_number, holds_piece, holds_text, holds_octets, holds_message, holds_entry}
-use Rattle.wire_decode.specs.Known.{is_known, entry_fields}
-use Rattle.wire_decode.specs.Merged.{join_fields, joined}
-use Rattle.wire_decode.specs.Joined.{AreReadEach}
+use Rattle.wire_decode.specs.Words.{payload_number, payload_type, accepts_payload, word_form_of, AreElements}
+use Rattle.wire_decode.specs.RawMessages.{IsRawMessage, read_end, read_other, read_known, IsContentUnder, holds_number, holds_piece, holds_text, holds_octets, holds_message, holds_entry}
+use Rattle.wire_decode.specs.Known.{is_known_record, entry_fields}
+use Rattle.wire_decode.specs.Merged.{join_fields, joined_messages}
+use Rattle.wire_decode.specs.Joined.{AreRawMessages}
 use Rattle.wire_decode.proofs.Payloads.{VarintAt-moves, PayloadAt-span}
 
 -- ---- bytes before
@@ -42,7 +42,7 @@ payload_ahead d (Len s e) = Len (d + s) (d + e)
 abbrev pub record_ahead : ℕ → Record → Record
 record_ahead d r = record { number = r.number; payload = payload_ahead d r.payload; next = d + r.next }
 
-pub number-ahead : (d : ℕ) (p : Payload) → number_in (payload_ahead d p) ≡ number_in p
+pub number-ahead : (d : ℕ) (p : Payload) → payload_number (payload_ahead d p) ≡ payload_number p
 number-ahead d (Varint v) = refl
 number-ahead d (I64 v) = refl
 number-ahead d (I32 v) = refl
@@ -55,25 +55,25 @@ type-ahead d (I32 v) = refl
 type-ahead d (Len s e) = refl
 
 module _ (d : ℕ) (b : List ℕ) (fits : d ≤ length b) where
-  pub varint-to : (at v n : ℕ) → VarintAt (drop d b) at v n → VarintAt b (d + at) v (d + n)
+  pub varint-to : (at v n : ℕ) → IsVarintAt (drop d b) at v n → IsVarintAt b (d + at) v (d + n)
   varint-to at v n h = record {
     within = (let w = h.within in omega (arith, w, fits, length-drop d b));
     spelled = subst (λ (xs : List ℕ). IsVarint xs v) (slice-drop d b at n) h.spelled;
   }
 
-  pub varint-back : (at v n : ℕ) → VarintAt b (d + at) v (d + n) → VarintAt (drop d b) at v n
+  pub varint-back : (at v n : ℕ) → IsVarintAt b (d + at) v (d + n) → IsVarintAt (drop d b) at v n
   varint-back at v n h = record {
     within = (let w = h.within in omega (arith, w, length-drop d b));
     spelled = subst (λ (xs : List ℕ). IsVarint xs v) (sym (slice-drop d b at n)) h.spelled;
   }
 
-  pub varint-found : (at v m : ℕ) → VarintAt b (d + at) v m → (n : ℕ) × (m ≡ d + n) × VarintAt (drop d b) at v n
+  pub varint-found : (at v m : ℕ) → IsVarintAt b (d + at) v m → (n : ℕ) × (m ≡ d + n) × IsVarintAt (drop d b) at v n
   varint-found at v m h =
       let moves = VarintAt-moves h in
       let e : m ≡ d + (m - d) = omega (arith, moves) in
-      (m - d, e, varint-back at v (m - d) (subst (λ (x : ℕ). VarintAt b (d + at) v x) e h))
+      (m - d, e, varint-back at v (m - d) (subst (λ (x : ℕ). IsVarintAt b (d + at) v x) e h))
 
-  pub payload-to : (at w : ℕ) (p : Payload) (n : ℕ) → PayloadAt (drop d b) at w p n → PayloadAt b (d + at) w (payload_ahead d p) (d + n)
+  pub payload-to : (at w : ℕ) (p : Payload) (n : ℕ) → IsPayloadAt (drop d b) at w p n → IsPayloadAt b (d + at) w (payload_ahead d p) (d + n)
   payload-to at w (Varint v) n h = (h.0, varint-to at v n h.1)
   payload-to at w (I64 v) n h = (h.0, (let e = h.1 in omega (arith, e)), (let l = h.2 in omega (arith, l, fits, length-drop d b)), h.3 ∙ ap (from_le_bytes w64) (slice-drop d b at n))
   payload-to at w (I32 v) n h = (h.0, (let e = h.1 in omega (arith, e)), (let l = h.2 in omega (arith, l, fits, length-drop d b)), h.3 ∙ ap (from_le_bytes w32) (slice-drop d b at n))
@@ -86,8 +86,8 @@ module _ (d : ℕ) (b : List ℕ) (fits : d ≤ length b) where
     (let x = h.5 in omega (arith, x)),
   )
 
-  pub payload-found : (at w : ℕ) (q : Payload) (m : ℕ) → PayloadAt b (d + at) w q m
-      → (p : Payload) × (n : ℕ) × (q ≡ payload_ahead d p) × (m ≡ d + n) × PayloadAt (drop d b) at w p n
+  pub payload-found : (at w : ℕ) (q : Payload) (m : ℕ) → IsPayloadAt b (d + at) w q m
+      → (p : Payload) × (n : ℕ) × (q ≡ payload_ahead d p) × (m ≡ d + n) × IsPayloadAt (drop d b) at w p n
   payload-found at w (Varint v) m h = let f = varint-found at v m h.1 in (Varint v, f.0, refl, f.1, (h.0, f.2))
   payload-found at w (I64 v) m h =
       let e : m ≡ d + (at + 8) = (let x = h.1 in omega (arith, x)) in (
@@ -128,7 +128,7 @@ module _ (d : ℕ) (b : List ℕ) (fits : d ≤ length b) where
         (h.0, h.1, f.2, refl, (let l = h.4 in omega (arith, l, ends, length-drop d b)), refl),
       )
 
-  pub record-to : (at : ℕ) (r : Record) → RecordAt (drop d b) at r → RecordAt b (d + at) (record_ahead d r)
+  pub record-to : (at : ℕ) (r : Record) → IsRecordAt (drop d b) at r → IsRecordAt b (d + at) (record_ahead d r)
   record-to at r h = record {
     tag = h.tag;
     start = d + h.start;
@@ -137,10 +137,10 @@ module _ (d : ℕ) (b : List ℕ) (fits : d ≤ length b) where
     payload = payload-to h.start (h.tag % 8) r.payload r.next h.payload;
   }
 
-  pub record-found : (at : ℕ) (q : Record) → RecordAt b (d + at) q → (r : Record) × (q ≡ record_ahead d r) × RecordAt (drop d b) at r
+  pub record-found : (at : ℕ) (q : Record) → IsRecordAt b (d + at) q → (r : Record) × (q ≡ record_ahead d r) × IsRecordAt (drop d b) at r
   record-found at q h =
       let v = varint-found at h.tag h.start h.tagged.stands in
-      let f = payload-found v.0 (h.tag % 8) q.payload q.next (subst (λ (x : ℕ). PayloadAt b x (h.tag % 8) q.payload q.next) v.1 h.payload) in
+      let f = payload-found v.0 (h.tag % 8) q.payload q.next (subst (λ (x : ℕ). IsPayloadAt b x (h.tag % 8) q.payload q.next) v.1 h.payload) in
       let make : Payload → ℕ → Record = λ p n. record { number = q.number; payload = p; next = n } in (
         make f.0 f.1,
         ap (λ p. make p q.next) f.2 ∙ ap (make (payload_ahead d f.0)) f.3,
@@ -155,7 +155,7 @@ module _ (d : ℕ) (b : List ℕ) (fits : d ≤ length b) where
 
   pub elements-to : (k : Kind) (at : ℕ) (ws : List ℕ) → AreElements k (drop d b) at ws → AreElements k b (d + at) ws
   elements-to k at [] h = omega (arith, h, fits, length-drop d b)
-  elements-to k at (w ∷ ws) h = (payload_ahead d h.0, d + h.1, payload-to at (wire_type_of k) h.0 h.1 h.2, h.3 ∙ ap (word_of k) (sym (number-ahead d h.0)), elements-to k h.1 ws h.4)
+  elements-to k at (w ∷ ws) h = (payload_ahead d h.0, d + h.1, payload-to at (wire_type_of k) h.0 h.1 h.2, h.3 ∙ ap (word_form_of k) (sym (number-ahead d h.0)), elements-to k h.1 ws h.4)
 
   pub elements-back : (k : Kind) (at : ℕ) (ws : List ℕ) → AreElements k b (d + at) ws → AreElements k (drop d b) at ws
   elements-back k at [] h = omega (arith, h, length-drop d b)
@@ -164,21 +164,21 @@ module _ (d : ℕ) (b : List ℕ) (fits : d ≤ length b) where
         f.0,
         f.1,
         f.4,
-        h.3 ∙ ap (λ p. word_of k (number_in p)) f.2 ∙ ap (word_of k) (number-ahead d f.0),
+        h.3 ∙ ap (λ p. word_form_of k (payload_number p)) f.2 ∙ ap (word_form_of k) (number-ahead d f.0),
         elements-back k f.1 ws (subst (λ (x : ℕ). AreElements k b x ws) f.3 h.4),
       )
 
-suits-ahead : (d : ℕ) (label : Label) (k : Kind) (p : Payload) → suits label k (payload_ahead d p) ≡ suits label k p
+suits-ahead : (d : ℕ) (label : Label) (k : Kind) (p : Payload) → accepts_payload label k (payload_ahead d p) ≡ accepts_payload label k p
 suits-ahead d label k (Varint v) = refl
 suits-ahead d label k (I64 v) = refl
 suits-ahead d label k (I32 v) = refl
 suits-ahead d label k (Len s e) = refl
 
-known-ahead : (d : ℕ) (fs : List Field) (r : Record) → is_known fs (record_ahead d r) ≡ is_known fs r
+known-ahead : (d : ℕ) (fs : List Field) (r : Record) → is_known_record fs (record_ahead d r) ≡ is_known_record fs r
 known-ahead d fs r = go (field_at fs r.number)
   where
-    go : (o : Option Field) → unwrap_or (option_map (λ f. suits f.label f.kind (payload_ahead d r.payload)) o) false
-        ≡ unwrap_or (option_map (λ f. suits f.label f.kind r.payload) o) false
+    go : (o : Option Field) → unwrap_or (option_map (λ f. accepts_payload f.label f.kind (payload_ahead d r.payload)) o) false
+        ≡ unwrap_or (option_map (λ f. accepts_payload f.label f.kind r.payload) o) false
     go None = refl
     go (Some f) = suits-ahead d f.label f.kind r.payload
 
@@ -198,19 +198,19 @@ len-found d (Len s e) s' e' h = (s, e, refl, cc, cc)
 mutual
   -- what is read in bytes is read with others before them
   pub reads-to : (d : ℕ) (b x : List ℕ) → d ≤ length b → x ≡ drop d b
-      → {T : Table} {room : ℕ} {fs : List Field} {at : ℕ} {t : Node} → Reads T room fs x at t
-      → Reads T room fs b (d + at) t
+      → {T : Table} {room : ℕ} {fs : List Field} {at : ℕ} {t : Node} → IsRawMessage T room fs x at t
+      → IsRawMessage T room fs b (d + at) t
   reads-to d b x fits e (read_end a is) = read_end (let l = ap length e in omega (arith, a, l, fits, length-drop d b)) is
   reads-to d b x fits e {T} {room} {fs} {at} {t} (read_other r here other g) =
-      read_other (record_ahead d r) (record-to d b fits at r (subst (λ (xs : List ℕ). RecordAt xs at r) e here)) (known-ahead d fs r ∙ other) (reads-to d b x fits e g)
+      read_other (record_ahead d r) (record-to d b fits at r (subst (λ (xs : List ℕ). IsRecordAt xs at r) e here)) (known-ahead d fs r ∙ other) (reads-to d b x fits e g)
   reads-to d b x fits e {T} {room} {fs} {at} {t} (read_known r f c rest here at_f holds is g) =
-      read_known (record_ahead d r) f c rest (record-to d b fits at r (subst (λ (xs : List ℕ). RecordAt xs at r) e here)) at_f (holds-to d b x fits e holds) is (reads-to d b x fits e g)
+      read_known (record_ahead d r) f c rest (record-to d b fits at r (subst (λ (xs : List ℕ). IsRecordAt xs at r) e here)) at_f (holds-to d b x fits e holds) is (reads-to d b x fits e g)
 
   pub holds-to : (d : ℕ) (b x : List ℕ) → d ≤ length b → x ≡ drop d b
-      → {T : Table} {room : ℕ} {label : Label} {k : Kind} {p : Payload} {c : Content} → Holds T room label k x p c
-      → Holds T room label k b (payload_ahead d p) c
+      → {T : Table} {room : ℕ} {label : Label} {k : Kind} {p : Payload} {c : Content} → IsContentUnder T room label k x p c
+      → IsContentUnder T room label k b (payload_ahead d p) c
   holds-to d b x fits e {T} {room} {label} {k} {p} {c} (holds_number single numeric typed is) =
-      holds_number single numeric (type-ahead d p ∙ typed) (is ∙ ap (λ n. one (number (word_of k n))) (sym (number-ahead d p)))
+      holds_number single numeric (type-ahead d p ∙ typed) (is ∙ ap (λ n. one (number (word_form_of k n))) (sym (number-ahead d p)))
   holds-to d b x fits e {T} {room} {label} {k} {p} {c} (holds_piece s f ws packed at whole is) =
       holds_piece (d + s) (d + f) ws packed (ap (payload_ahead d) at)
       (elements-to d (take (d + f) b) (cut-fits d f b fits) k s ws
@@ -230,13 +230,13 @@ mutual
   -- and what is read after others is read without them
   pub reads-back : (d : ℕ) (b : List ℕ) → d ≤ length b
       → (at : ℕ) {T : Table} {room : ℕ} {fs : List Field} {from : ℕ} {t : Node} → from ≡ d + at
-      → Reads T room fs b from t → Reads T room fs (drop d b) at t
+      → IsRawMessage T room fs b from t → IsRawMessage T room fs (drop d b) at t
   reads-back d b fits at {T} {room} {fs} {from} {t} e (read_end a is) = read_end (omega (arith, a, e, fits, length-drop d b)) is
   reads-back d b fits at {T} {room} {fs} {from} {t} e (read_other q here other g) =
-      let f = record-found d b fits at q (subst (λ (x : ℕ). RecordAt b x q) e here) in
-      read_other f.0 f.2 (sym (known-ahead d fs f.0) ∙ sym (ap (is_known fs) f.1) ∙ other) (reads-back d b fits f.0.next (ap (λ (x : Record). x.next) f.1) g)
+      let f = record-found d b fits at q (subst (λ (x : ℕ). IsRecordAt b x q) e here) in
+      read_other f.0 f.2 (sym (known-ahead d fs f.0) ∙ sym (ap (is_known_record fs) f.1) ∙ other) (reads-back d b fits f.0.next (ap (λ (x : Record). x.next) f.1) g)
   reads-back d b fits at {T} {room} {fs} {from} {t} e (read_known q g c rest here at_g holds is more) =
-      let f = record-found d b fits at q (subst (λ (x : ℕ). RecordAt b x q) e here) in
+      let f = record-found d b fits at q (subst (λ (x : ℕ). IsRecordAt b x q) e here) in
       read_known f.0 g c rest f.2 (ap (λ (x : Record). field_at fs x.number) (sym f.1) ∙ at_g)
       (holds-back d b fits f.0.payload (ap (λ (x : Record). x.payload) f.1) holds)
       (is ∙ ap (λ (x : Record). field x.number c rest) f.1)
@@ -244,9 +244,9 @@ mutual
 
   pub holds-back : (d : ℕ) (b : List ℕ) → d ≤ length b
       → (p : Payload) {T : Table} {room : ℕ} {label : Label} {k : Kind} {q : Payload} {c : Content}
-      → q ≡ payload_ahead d p → Holds T room label k b q c → Holds T room label k (drop d b) p c
+      → q ≡ payload_ahead d p → IsContentUnder T room label k b q c → IsContentUnder T room label k (drop d b) p c
   holds-back d b fits p {T} {room} {label} {k} {q} {c} e (holds_number single numeric typed is) =
-      holds_number single numeric (sym (ap payload_type e ∙ type-ahead d p) ∙ typed) (is ∙ ap (λ n. one (number (word_of k n))) (ap number_in e ∙ number-ahead d p))
+      holds_number single numeric (sym (ap payload_type e ∙ type-ahead d p) ∙ typed) (is ∙ ap (λ n. one (number (word_form_of k n))) (ap payload_number e ∙ number-ahead d p))
   holds-back d b fits p {T} {room} {label} {k} {q} {c} e (holds_piece s' e' ws packed at whole is) =
       let f = len-found d p s' e' (sym e ∙ at) in
       let here : AreElements k (take (d + f.1) b) (d + f.0) ws =
@@ -266,12 +266,12 @@ mutual
       let f = len-found d p s' e' (sym e ∙ at) in
       let long : d ≤ length (take e' b) = subst (λ (x : ℕ). d ≤ length (take x b)) (sym f.4) (cut-fits d f.1 b fits) in
       let cut : drop d (take e' b) ≡ take f.1 (drop d b) = ap (λ x. drop d (take x b)) f.4 ∙ drop-take d f.1 b in
-      holds_message inside i f.0 f.1 t single kind f.2 room_is (subst (λ (xs : List ℕ). Reads T inside (fields_of T i) xs f.0 t) cut (reads-back d (take e' b) long f.0 f.3 reads)) is
+      holds_message inside i f.0 f.1 t single kind f.2 room_is (subst (λ (xs : List ℕ). IsRawMessage T inside (fields_of T i) xs f.0 t) cut (reads-back d (take e' b) long f.0 f.3 reads)) is
   holds-back d b fits p {T} {room} {label} {k} {q} {c} e (holds_entry key s' e' t map at reads room_is is) =
       let f = len-found d p s' e' (sym e ∙ at) in
       let long : d ≤ length (take e' b) = subst (λ (x : ℕ). d ≤ length (take x b)) (sym f.4) (cut-fits d f.1 b fits) in
       let cut : drop d (take e' b) ≡ take f.1 (drop d b) = ap (λ x. drop d (take x b)) f.4 ∙ drop-take d f.1 b in
-      holds_entry key f.0 f.1 t map f.2 (subst (λ (xs : List ℕ). Reads T room (entry_fields key k) xs f.0 t) cut (reads-back d (take e' b) long f.0 f.3 reads)) room_is is
+      holds_entry key f.0 f.1 t map f.2 (subst (λ (xs : List ℕ). IsRawMessage T room (entry_fields key k) xs f.0 t) cut (reads-back d (take e' b) long f.0 f.3 reads)) room_is is
 
 -- ---- bytes after
 
@@ -283,19 +283,19 @@ slice-front a b s e ordered within =
 longer : (a b : List ℕ) (n : ℕ) → n ≤ length a → n ≤ length (a ++ b)
 longer a b n h = omega (arith, h, length-append a b)
 
-varint-front : (a b : List ℕ) (at v n : ℕ) → VarintAt a at v n → VarintAt (a ++ b) at v n
+varint-front : (a b : List ℕ) (at v n : ℕ) → IsVarintAt a at v n → IsVarintAt (a ++ b) at v n
 varint-front a b at v n h = record {
   within = longer a b n h.within;
   spelled = subst (λ (xs : List ℕ). IsVarint xs v) (slice-front a b at n (let m = VarintAt-moves h in omega (arith, m)) h.within) h.spelled;
 }
 
-payload-front : (a b : List ℕ) (at w : ℕ) (p : Payload) (n : ℕ) → PayloadAt a at w p n → PayloadAt (a ++ b) at w p n
+payload-front : (a b : List ℕ) (at w : ℕ) (p : Payload) (n : ℕ) → IsPayloadAt a at w p n → IsPayloadAt (a ++ b) at w p n
 payload-front a b at w (Varint v) n h = (h.0, varint-front a b at v n h.1)
 payload-front a b at w (I64 v) n h = (h.0, h.1, longer a b n h.2, h.3 ∙ ap (from_le_bytes w64) (slice-front a b at n (let x = h.1 in omega (arith, x)) h.2))
 payload-front a b at w (I32 v) n h = (h.0, h.1, longer a b n h.2, h.3 ∙ ap (from_le_bytes w32) (slice-front a b at n (let x = h.1 in omega (arith, x)) h.2))
 payload-front a b at w (Len s e) n h = (h.0, h.1, varint-front a b at h.1 s h.2, h.3, longer a b e h.4, h.5)
 
-record-front : (a b : List ℕ) (at : ℕ) (r : Record) → RecordAt a at r → RecordAt (a ++ b) at r
+record-front : (a b : List ℕ) (at : ℕ) (r : Record) → IsRecordAt a at r → IsRecordAt (a ++ b) at r
 record-front a b at r h = record {
   tag = h.tag;
   start = h.start;
@@ -306,7 +306,7 @@ record-front a b at r h = record {
 
 -- a payload within the first bytes
 holds-front : (a b : List ℕ) {T : Table} {room : ℕ} {label : Label} {k : Kind} {p : Payload} {c : Content}
-    → IsWithin (length a) p → Holds T room label k a p c → Holds T room label k (a ++ b) p c
+    → IsWithin (length a) p → IsContentUnder T room label k a p c → IsContentUnder T room label k (a ++ b) p c
 holds-front a b w (holds_number single numeric typed is) = holds_number single numeric typed is
 holds-front a b {T} {room} {label} {k} {p} {c} w (holds_piece s e ws packed at whole is) =
     let v = subst (IsWithin (length a)) at w in
@@ -320,31 +320,31 @@ holds-front a b w (holds_octets s e single kind at is) =
     holds_octets s e single kind at (is ∙ ap (λ xs. one (run xs)) (slice-front a b s e v.0 v.1))
 holds-front a b {T} {room} {label} {k} {p} {c} w (holds_message inside i s e t single kind at room_is reads is) =
     let v = subst (IsWithin (length a)) at w in
-    holds_message inside i s e t single kind at room_is (subst (λ (xs : List ℕ). Reads T inside (fields_of T i) xs s t) (sym (take-append-le e a b v.1)) reads) is
+    holds_message inside i s e t single kind at room_is (subst (λ (xs : List ℕ). IsRawMessage T inside (fields_of T i) xs s t) (sym (take-append-le e a b v.1)) reads) is
 holds-front a b {T} {room} {label} {k} {p} {c} w (holds_entry key s e t map at reads room_is is) =
     let v = subst (IsWithin (length a)) at w in
-    holds_entry key s e t map at (subst (λ (xs : List ℕ). Reads T room (entry_fields key k) xs s t) (sym (take-append-le e a b v.1)) reads) room_is is
+    holds_entry key s e t map at (subst (λ (xs : List ℕ). IsRawMessage T room (entry_fields key k) xs s t) (sym (take-append-le e a b v.1)) reads) room_is is
 
 reads-front : {T : Table} {room : ℕ} {fs : List Field} (a b : List ℕ) (u : Node) {at : ℕ} {t : Node}
-    → Reads T room fs a at t → Reads T room fs (a ++ b) (length a) u → Reads T room fs (a ++ b) at (join_fields t u)
+    → IsRawMessage T room fs a at t → IsRawMessage T room fs (a ++ b) (length a) u → IsRawMessage T room fs (a ++ b) at (join_fields t u)
 reads-front {T} {room} {fs} a b u {at} {t} (read_end e is) h =
-    subst (λ (n : ℕ). Reads T room fs (a ++ b) n (join_fields t u)) (sym e) (subst (λ (x : Node). Reads T room fs (a ++ b) (length a) (join_fields x u)) (sym is) h)
+    subst (λ (n : ℕ). IsRawMessage T room fs (a ++ b) n (join_fields t u)) (sym e) (subst (λ (x : Node). IsRawMessage T room fs (a ++ b) (length a) (join_fields x u)) (sym is) h)
 reads-front {T} {room} {fs} a b u {at} {t} (read_other r here other g) h = read_other r (record-front a b at r here) other (reads-front a b u g h)
 reads-front {T} {room} {fs} a b u {at} {t} (read_known r f c rest here at_f holds is g) h =
     read_known r f c (join_fields rest u) (record-front a b at r here) at_f (holds-front a b (PayloadAt-span a here.start (here.tag % 8) r.payload r.next here.payload) holds)
     (ap (λ x. join_fields x u) is) (reads-front a b u g h)
 
 -- the records of two strings, the second after the first
-pub reads-joined : (T : Table) (room : ℕ) (fs : List Field) (a b : List ℕ) (t u : Node) → Reads T room fs a 0 t
-    → Reads T room fs b 0 u → Reads T room fs (a ++ b) 0 (join_fields t u)
+pub reads-joined : (T : Table) (room : ℕ) (fs : List Field) (a b : List ℕ) (t u : Node) → IsRawMessage T room fs a 0 t
+    → IsRawMessage T room fs b 0 u → IsRawMessage T room fs (a ++ b) 0 (join_fields t u)
 reads-joined T room fs a b t u first second =
-    let here : Reads T room fs (a ++ b) (length a + 0) u = reads-to (length a) (a ++ b) b (omega (arith, length-append a b)) (sym (drop_at a b (length a) refl)) second in
-    reads-front a b u first (subst (λ (n : ℕ). Reads T room fs (a ++ b) n u) (let e : length a + 0 ≡ length a = omega arith in e) here)
+    let here : IsRawMessage T room fs (a ++ b) (length a + 0) u = reads-to (length a) (a ++ b) b (omega (arith, length-append a b)) (sym (drop_at a b (length a) refl)) second in
+    reads-front a b u first (subst (λ (n : ℕ). IsRawMessage T room fs (a ++ b) n u) (let e : length a + 0 ≡ length a = omega arith in e) here)
 
-pub payloads-joined : (T : Table) (room : ℕ) (fs : List Field) (ps : List (List ℕ)) (is : List Item) → AreReadEach T room fs ps is → Reads T room fs (concat ps) 0 (joined is)
+pub payloads-joined : (T : Table) (room : ℕ) (fs : List Field) (ps : List (List ℕ)) (is : List Item) → AreRawMessages T room fs ps is → IsRawMessage T room fs (concat ps) 0 (joined_messages is)
 payloads-joined T room fs [] [] h = read_end refl refl
 payloads-joined T room fs [] (i ∷ is) h = absurd h
 payloads-joined T room fs (p ∷ ps) [] h = absurd h
 payloads-joined T room fs (p ∷ ps) (number n ∷ is) h = absurd h
 payloads-joined T room fs (p ∷ ps) (run bytes ∷ is) h = absurd h
-payloads-joined T room fs (p ∷ ps) (node t ∷ is) h = reads-joined T room fs p (concat ps) t (joined is) h.0 (payloads-joined T room fs ps is h.1)
+payloads-joined T room fs (p ∷ ps) (node t ∷ is) h = reads-joined T room fs p (concat ps) t (joined_messages is) h.0 (payloads-joined T room fs ps is h.1)

@@ -12,12 +12,12 @@ use Rattle.mrpc_table.specs.declared.tree.FieldValue.{FieldValue}
 use Rattle.mrpc_table.specs.declared.tree.FieldValue.TheVariants.{One}
 use Rattle.mrpc_table.specs.declared.tree.Value.TheVariants.{Number}
 use Rattle.wire_decode.specs.Merged.{contents_of}
-use Rattle.wire_decode.specs.NumberOrder.{NumbersNeverFallFrom, NumbersAreAtMost}
+use Rattle.wire_decode.specs.NumberOrder.{AreNumbersSortedFrom, AreNumbersAtMost}
 
 abbrev Parts : Type 0
 Parts = List (ℕ × FieldValue)
 
-fall-from : (last : ℕ) (xs : Parts) → ((d : ℕ × FieldValue) → 0 < length xs → last ≤ (get_or xs 0 d).0) → IsNonDecreasingBy (λ p. p.0) xs → NumbersNeverFallFrom last (node_of xs)
+fall-from : (last : ℕ) (xs : Parts) → ((d : ℕ × FieldValue) → 0 < length xs → last ≤ (get_or xs 0 d).0) → IsNonDecreasingBy (λ p. p.0) xs → AreNumbersSortedFrom last (node_of xs)
 fall-from last [] first h = tt
 fall-from last (x ∷ []) first h = (first x (omega arith), tt)
 fall-from last (x ∷ y ∷ ys) first h = (
@@ -26,7 +26,7 @@ fall-from last (x ∷ y ∷ ys) first h = (
       (λ i j d le w. h (suc i) (suc j) d (omega arith) (omega arith)),
 )
 
-pub never-fall : (xs : Parts) → IsNonDecreasingBy (λ p. p.0) xs → NumbersNeverFallFrom 0 (node_of xs)
+pub never-fall : (xs : Parts) → IsNonDecreasingBy (λ p. p.0) xs → AreNumbersSortedFrom 0 (node_of xs)
 never-fall xs h = fall-from 0 xs (λ d w. omega arith) h
 
 abbrev below : ℕ × FieldValue → ℕ × FieldValue → Bool
@@ -56,15 +56,15 @@ pub sorted-contents : (xs ys : Parts) → IsStableByKey (λ p. p.0) nat_cmp xs y
 sorted-contents xs ys h n =
     contents-ties n (One (Number 0)) ys ∙ ap (map (λ p. content_of p.1)) (h (n, One (Number 0))) ∙ sym (contents-ties n (One (Number 0)) xs)
 
-fall-pushed : (last n : ℕ) (c : Content) (t : Node) → last ≤ n → NumbersNeverFallFrom last t → NumbersAreAtMost n t → NumbersNeverFallFrom last (push_field t n c)
+fall-pushed : (last n : ℕ) (c : Content) (t : Node) → last ≤ n → AreNumbersSortedFrom last t → AreNumbersAtMost n t → AreNumbersSortedFrom last (push_field t n c)
 fall-pushed last n c no_fields le h most = (le, tt)
 fall-pushed last n c (field m d t) le h most = (h.0, fall-pushed m n c t most.0 h.1 most.1)
 
-pub most-weaker : (m n : ℕ) (t : Node) → m ≤ n → NumbersAreAtMost m t → NumbersAreAtMost n t
+pub most-weaker : (m n : ℕ) (t : Node) → m ≤ n → AreNumbersAtMost m t → AreNumbersAtMost n t
 most-weaker m n no_fields le h = tt
 most-weaker m n (field k c t) le h = (omega (arith, le, h.0), most-weaker m n t le h.1)
 
-most-pushed : (m n : ℕ) (c : Content) (t : Node) → n ≤ m → NumbersAreAtMost m t → NumbersAreAtMost m (push_field t n c)
+most-pushed : (m n : ℕ) (c : Content) (t : Node) → n ≤ m → AreNumbersAtMost m t → AreNumbersAtMost m (push_field t n c)
 most-pushed m n c no_fields le h = (le, tt)
 most-pushed m n c (field k d t) le h = (h.0, most-pushed m n c t le h.1)
 
@@ -74,11 +74,11 @@ pub taken-more : (xs : Parts) (i : ℕ) (x : ℕ × FieldValue) → i < length x
 taken-more xs i x within is = ap node_of (take_more xs i x within ∙ ap (λ e. take i xs ++ e ∷ []) (sym is)) ∙ node_of-last (take i xs) x
 
 pub fall-more : (xs : Parts) (i last : ℕ) (x : ℕ × FieldValue) → i < length xs → x ≡ get_or xs i x → last ≤ x.0
-    → NumbersNeverFallFrom 0 (node_of (take i xs)) → NumbersAreAtMost last (node_of (take i xs))
-    → NumbersNeverFallFrom 0 (node_of (take (i + 1) xs)) × NumbersAreAtMost x.0 (node_of (take (i + 1) xs))
+    → AreNumbersSortedFrom 0 (node_of (take i xs)) → AreNumbersAtMost last (node_of (take i xs))
+    → AreNumbersSortedFrom 0 (node_of (take (i + 1) xs)) × AreNumbersAtMost x.0 (node_of (take (i + 1) xs))
 fall-more xs i last x within is le fall most =
     let wide = most-weaker last x.0 (node_of (take i xs)) le most in
-    let P : Node → Type 0 = λ t. NumbersNeverFallFrom 0 t × NumbersAreAtMost x.0 t in
+    let P : Node → Type 0 = λ t. AreNumbersSortedFrom 0 t × AreNumbersAtMost x.0 t in
     subst P (sym (taken-more xs i x within is)) (
       fall-pushed 0 x.0 (content_of x.1) (node_of (take i xs))
           (omega arith) fall wide,
@@ -86,13 +86,13 @@ fall-more xs i last x within is le fall most =
     )
 
 -- no number before an index is above the one there
-fall-first : (last : ℕ) (xs : Parts) (i : ℕ) (d : ℕ × FieldValue) → NumbersNeverFallFrom last (node_of xs) → i < length xs → last ≤ (get_or xs i d).0
+fall-first : (last : ℕ) (xs : Parts) (i : ℕ) (d : ℕ × FieldValue) → AreNumbersSortedFrom last (node_of xs) → i < length xs → last ≤ (get_or xs i d).0
 fall-first last [] i d h within = absurd (omega (arith, within))
 fall-first last (x ∷ xs) zero d h within = h.0
 fall-first last (x ∷ xs) (suc i) d h within = let rest = fall-first x.0 xs i d h.1 (omega (arith, within)) in let a = h.0 in omega (arith, rest, a)
 
-pub fall-most : (last : ℕ) (xs : Parts) (i : ℕ) (x : ℕ × FieldValue) → NumbersNeverFallFrom last (node_of xs) → i < length xs
-    → x ≡ get_or xs i x → NumbersAreAtMost x.0 (node_of (take i xs))
+pub fall-most : (last : ℕ) (xs : Parts) (i : ℕ) (x : ℕ × FieldValue) → AreNumbersSortedFrom last (node_of xs) → i < length xs
+    → x ≡ get_or xs i x → AreNumbersAtMost x.0 (node_of (take i xs))
 fall-most last [] i x h within is = absurd (omega (arith, within))
 fall-most last (y ∷ xs) zero x h within is = tt
 fall-most last (y ∷ xs) (suc i) x h within is = (

@@ -14,12 +14,12 @@ use Rattle.mrpc_table.specs.declared.table.Field.{Field}
 use Rattle.mrpc_table.specs.declared.table.Table.{Table}
 use Rattle.mrpc_table.specs.WireTypes.{wire_type_of}
 use Rattle.wire_base.specs.declared.records.Payload.{Payload}
-use Rattle.wire_decode.specs.Words.{word_of, number_in, is_map, AreElements}
-use Rattle.wire_decode.specs.Reads.{Reads, read_end, read_other, read_known, Holds, holds_number, holds_piece}
-use Rattle.wire_decode.specs.Reads.{holds_text, holds_octets, holds_message, holds_entry}
+use Rattle.wire_decode.specs.Words.{word_form_of, payload_number, is_map, AreElements}
+use Rattle.wire_decode.specs.RawMessages.{IsRawMessage, read_end, read_other, read_known, IsContentUnder, holds_number, holds_piece}
+use Rattle.wire_decode.specs.RawMessages.{holds_text, holds_octets, holds_message, holds_entry}
 use Rattle.wire_decode.specs.Known.{HasRoom, entry_fields}
-use Rattle.wire_decode.specs.Reads.{numbers}
-use Rattle.wire_decode.specs.Merged.{contents_of, items_in, values_in, singles_in, join_fields, joined}
+use Rattle.wire_decode.specs.RawMessages.{numbers}
+use Rattle.wire_decode.specs.Merged.{contents_of, list_of_items, values_in, singles_in, join_fields, joined_messages}
 use Rattle.wire_decode.proofs.Adding.{contents-here, contents-other}
 use Rattle.wire_decode.proofs.Unique.{packed-single, packed-numeric}
 use Rattle.wire_decode.proofs.WordForms.{word-form, IsSmall, AreBytes, bytes-slice, payload-small, payload-typed}
@@ -63,22 +63,22 @@ sound-elements T room k bytes at [] numeric small h = tt
 sound-elements T room k bytes at (w ∷ ws) numeric small h =
     let p = payload-small bytes at (wire_type_of k) h.0 h.1 small h.2 in
     let typed = payload-typed bytes at (wire_type_of k) h.0 h.1 h.2 in
-    let form = word-form k (number_in h.0) numeric p.word (λ e. p.short (typed ∙ e)) in
+    let form = word-form k (payload_number h.0) numeric p.word (λ e. p.short (typed ∙ e)) in
     (subst (λ (v : ℕ). IsWordForm k v) (sym h.3) form, sound-elements T room k bytes h.1 ws numeric small h.4)
 
 mutual
-  pub reads-sound : {T : Table} {room : ℕ} {fs : List Field} {bytes : List ℕ} {at : ℕ} {t : Node} → Reads T room fs bytes at t → AreBytes bytes → SoundNode T room fs t
+  pub reads-sound : {T : Table} {room : ℕ} {fs : List Field} {bytes : List ℕ} {at : ℕ} {t : Node} → IsRawMessage T room fs bytes at t → AreBytes bytes → SoundNode T room fs t
   reads-sound {T} {room} {fs} (read_end a b) small = subst (λ (u : Node). SoundNode T room fs u) (sym b) tt
   reads-sound (read_other r here other g) small = reads-sound g small
   reads-sound {T} {room} {fs} {bytes} {at} {t} (read_known r f c rest here at_f holds is g) small =
       subst (λ (u : Node). SoundNode T room fs u) (sym is) (reads-sound g small, f, at_f, holds-sound holds (payload-small bytes here.start _ r.payload r.next small here.payload) small)
 
   holds-sound : {T : Table} {room : ℕ} {label : Label} {k : Kind} {bytes : List ℕ} {p : Payload} {c : Content}
-      → Holds T room label k bytes p c → IsSmall p → AreBytes bytes → SoundContent T room label k c
+      → IsContentUnder T room label k bytes p c → IsSmall p → AreBytes bytes → SoundContent T room label k c
   holds-sound {T} {room} {label} {k} {bytes} {p} {c} (holds_number single numeric typed is) word small =
       subst (λ (x : Content). SoundContent T room label k x) (sym is)
-      (sound-single T room label k (number (word_of k (number_in p))) single
-      (word-form k (number_in p) numeric word.word (λ e. word.short (typed ∙ e))))
+      (sound-single T room label k (number (word_form_of k (payload_number p))) single
+      (word-form k (payload_number p) numeric word.word (λ e. word.short (typed ∙ e))))
   holds-sound {T} {room} {label} {k} {bytes} {p} {c} (holds_piece s e ws packed at whole is) word small =
       subst (λ (x : Content). SoundContent T room label k x) (sym is) (
         packed-single label k packed,
@@ -154,7 +154,7 @@ singles-sound T room label k (one i ∷ cs) single h = (h.0.0 single, singles-so
 singles-sound T room label k (many is ∷ cs) single h = singles-sound T room label k cs single h.1
 singles-sound T room label k (pairs ps ∷ cs) single h = singles-sound T room label k cs single h.1
 
-items-sound : (T : Table) (room : ℕ) (k : Kind) (is : Items) (js : List Item) → SoundValues T room k is → AllValues T room k js → AllValues T room k (items_in is ++ js)
+items-sound : (T : Table) (room : ℕ) (k : Kind) (is : Items) (js : List Item) → SoundValues T room k is → AllValues T room k js → AllValues T room k (list_of_items is ++ js)
 items-sound T room k no_items js a b = b
 items-sound T room k (item i is) js a b = (a.0, items-sound T room k is js a.1 b)
 
@@ -176,7 +176,7 @@ room-inside T room m (number n) h = absurd h
 room-inside T room m (run bytes) h = absurd h
 room-inside T room m (node t) h = (h.1, h.3)
 
-pub joined-sound : (T : Table) (room inside m : ℕ) (is : List Item) → room ≡ suc inside → AllValues T room (OfMessage m) is → SoundNode T inside (fields_of T m) (joined is)
+pub joined-sound : (T : Table) (room inside m : ℕ) (is : List Item) → room ≡ suc inside → AllValues T room (OfMessage m) is → SoundNode T inside (fields_of T m) (joined_messages is)
 joined-sound T room inside m [] e h = tt
 joined-sound T room inside m (number n ∷ is) e h = joined-sound T room inside m is e h.1
 joined-sound T room inside m (run bytes ∷ is) e h = joined-sound T room inside m is e h.1
@@ -186,4 +186,4 @@ joined-sound T room inside m (node t ∷ is) e h =
     let place : v.0 ≡ m = cc in
     let rooms : v.1 ≡ inside = (let r = v.3 in omega (arith, r, e)) in
     let first : SoundNode T inside (fields_of T m) t = subst (λ (x : ℕ). SoundNode T inside (fields_of T x) t) place (subst (λ (x : ℕ). SoundNode T x (fields_of T v.0) t) rooms v.4) in
-    join-sound T inside (fields_of T m) t (joined is) first (joined-sound T room inside m is e h.1)
+    join-sound T inside (fields_of T m) t (joined_messages is) first (joined-sound T room inside m is e h.1)

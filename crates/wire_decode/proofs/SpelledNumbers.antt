@@ -11,10 +11,10 @@ use Rattle.mrpc_table.specs.declared.table.Kind.TheVariants.{Bool as TheBool, Fi
 use Rattle.mrpc_table.specs.declared.table.Kind.TheVariants.{Float, Double, Text, Octets, Message, Choice}
 use Rattle.wire_base.specs.Encoding.{zigzag_of, number_bytes}
 use Rattle.mrpc_table.specs.WireTypes.{wire_type_of}
-use Rattle.wire_base.specs.Records.{PayloadAt}
+use Rattle.wire_base.specs.Records.{IsPayloadAt}
 use Rattle.wire_base.specs.declared.records.Payload.{Payload}
 use Rattle.wire_base.specs.declared.records.Payload.TheVariants.{Varint, I64, I32}
-use Rattle.wire_decode.specs.Words.{sign_extended, unzigzag_of, word_of, number_in}
+use Rattle.wire_decode.specs.Words.{sign_extended, unzigzag_of, word_form_of, payload_number}
 use Rattle.wire_decode.proofs.WireLaws.{ReadsBack}
 use Rattle.wire_decode.proofs.WordForms.{extended-low, extended-high, unzigzag-even, unzigzag-odd}
 use Rattle.wire_decode.proofs.Stands.{Stands, stands-within, stands-slice, stands-varint}
@@ -74,11 +74,11 @@ extended-back n h =
     (λ high. let a = high.0 in let b = high.1 in let e = extended-high (n % 2 ^ 32) (omega (arith, a, b)) in omega (arith, e, a, b))
     h
 
-bool-back : (n : ℕ) → n < 2 → word_of TheBool n ≡ n
+bool-back : (n : ℕ) → n < 2 → word_form_of TheBool n ≡ n
 bool-back n h = grind (arith, nat_tests)
 
 -- the word is read back
-pub word-back : (k : Kind) (n : ℕ) → IsWordForm k n → word_of k (number_in (payload_of k n)) ≡ n
+pub word-back : (k : Kind) (n : ℕ) → IsWordForm k n → word_form_of k (payload_number (payload_of k n)) ≡ n
 word-back Int32 n h = extended-back n h
 word-back (Choice i) n h = extended-back n h
 word-back Sfixed32 n h = ap sign_extended (let e : n % 2 ^ 32 % 2 ^ 32 ≡ n % 2 ^ 32 = omega arith in e) ∙ extended-back n h
@@ -97,7 +97,7 @@ word-back Text n h = absurd h
 word-back Octets n h = absurd h
 word-back (Message i) n h = absurd h
 
-eight-stands : (bytes : List ℕ) (at n : ℕ) → n < 2 ^ 64 → Stands bytes at (to_le_bytes w64 n) → PayloadAt bytes at 1 (I64 n) (at + length (to_le_bytes w64 n))
+eight-stands : (bytes : List ℕ) (at n : ℕ) → n < 2 ^ 64 → Stands bytes at (to_le_bytes w64 n) → IsPayloadAt bytes at 1 (I64 n) (at + length (to_le_bytes w64 n))
 eight-stands bytes at n small h =
     let end = at + length (to_le_bytes w64 n) in (
       refl,
@@ -107,7 +107,7 @@ eight-stands bytes at n small h =
           ∙ from_le_bytes-to_le_bytes_8 n small),
     )
 
-four-stands : (bytes : List ℕ) (at n : ℕ) → n < 2 ^ 32 → Stands bytes at (to_le_bytes w32 n) → PayloadAt bytes at 5 (I32 n) (at + length (to_le_bytes w32 n))
+four-stands : (bytes : List ℕ) (at n : ℕ) → n < 2 ^ 32 → Stands bytes at (to_le_bytes w32 n) → IsPayloadAt bytes at 5 (I32 n) (at + length (to_le_bytes w32 n))
 four-stands bytes at n small h =
     let end = at + length (to_le_bytes w32 n) in (
       refl,
@@ -119,7 +119,7 @@ four-stands bytes at n small h =
 
 pub number-stands : ReadsBack → (bytes : List ℕ) (at : ℕ) (k : Kind) (n : ℕ) → IsWordForm k n
     → Stands bytes at (number_bytes k n)
-    → PayloadAt bytes at (wire_type_of k) (payload_of k n) (at + length (number_bytes k n))
+    → IsPayloadAt bytes at (wire_type_of k) (payload_of k n) (at + length (number_bytes k n))
 number-stands back_read bytes at Int32 n h s = (refl, stands-varint back_read bytes at n (signed-below n h) s)
 number-stands back_read bytes at (Choice i) n h s = (refl, stands-varint back_read bytes at n (signed-below n h) s)
 number-stands back_read bytes at Int64 n h s = (refl, stands-varint back_read bytes at n h s)

@@ -4,7 +4,7 @@ use Rattle.std.proofs.Common.{sym, subst, ◌∙◌, arith, append_assoc, append
 use Rattle.std.specs.List.{slice_range}
 use Rattle.std.proofs.lemmas.List.{length-take-le, length-append, drop_at, take_at}
 use Rattle.wire_base.specs.Encoding.{varint, tag, delimited}
-use Rattle.wire_base.specs.Records.{VarintAt, PayloadAt, RecordAt}
+use Rattle.wire_base.specs.Records.{IsVarintAt, IsPayloadAt, IsRecordAt}
 use Rattle.wire_base.specs.declared.records.Payload.{Payload}
 use Rattle.wire_base.specs.declared.records.Payload.TheVariants.{Len}
 use Rattle.wire_decode.proofs.WireLaws.{ReadsBack}
@@ -63,17 +63,17 @@ stands-cut bytes at piece end e h =
 pub cut-length : (bytes : List ℕ) (at : ℕ) (piece : List ℕ) (end : ℕ) → end ≡ at + length piece → Stands bytes at piece → length (take end bytes) ≡ end
 cut-length bytes at piece end e h = length-take-le end bytes (let w = stands-within bytes at piece h in omega (arith, e, w))
 
-pub stands-varint : ReadsBack → (bytes : List ℕ) (at v : ℕ) → v < 2 ^ 64 → Stands bytes at (varint v) → VarintAt bytes at v (at + length (varint v))
+pub stands-varint : ReadsBack → (bytes : List ℕ) (at v : ℕ) → v < 2 ^ 64 → Stands bytes at (varint v) → IsVarintAt bytes at v (at + length (varint v))
 stands-varint back_read bytes at v small h =
-    let here : VarintAt bytes (length h.before) v (length h.before + length (varint v)) =
-    subst (λ (xs : List ℕ). VarintAt xs (length h.before) v (length h.before + length (varint v))) (sym h.is)
+    let here : IsVarintAt bytes (length h.before) v (length h.before + length (varint v)) =
+    subst (λ (xs : List ℕ). IsVarintAt xs (length h.before) v (length h.before + length (varint v))) (sym h.is)
     (back_read h.before h.after v small) in
-    subst (λ (k : ℕ). VarintAt bytes k v (k + length (varint v))) (sym h.place) here
+    subst (λ (k : ℕ). IsVarintAt bytes k v (k + length (varint v))) (sym h.place) here
 
 -- a tag, followed by a payload
 pub stands-record : ReadsBack → (bytes : List ℕ) (at n w : ℕ) (p : Payload) (next : ℕ) → 0 < n → n < 2 ^ 29 → w < 8
-    → Stands bytes at (tag n w) → PayloadAt bytes (at + length (tag n w)) w p next
-    → RecordAt bytes at (record { number = n; payload = p; next = next })
+    → Stands bytes at (tag n w) → IsPayloadAt bytes (at + length (tag n w)) w p next
+    → IsRecordAt bytes at (record { number = n; payload = p; next = next })
 stands-record back_read bytes at n w p next positive small type h payload = record {
   tag = 8 * n + w;
   start = at + length (tag n w);
@@ -83,7 +83,7 @@ stands-record back_read bytes at n w p next positive small type h payload = reco
     numbered = λ e. omega (arith, e, positive, type);
   };
   number = omega (arith, type);
-  payload = subst (λ (x : ℕ). PayloadAt bytes (at + length (tag n w)) x p next) (let e : w ≡ (8 * n + w) % 8 = omega (arith, type) in e) payload;
+  payload = subst (λ (x : ℕ). IsPayloadAt bytes (at + length (tag n w)) x p next) (let e : w ≡ (8 * n + w) % 8 = omega (arith, type) in e) payload;
 }
 
 -- where bytes after their length start and end
@@ -101,7 +101,7 @@ end-length at piece = omega (arith, length-append (varint (length piece)) piece)
 
 pub stands-delimited : ReadsBack → (bytes : List ℕ) (at : ℕ) (piece : List ℕ) → length bytes < 2 ^ 64
     → Stands bytes at (delimited piece)
-    → PayloadAt bytes at 2 (Len (start_of at piece) (end_of at piece)) (at + length (delimited piece))
+    → IsPayloadAt bytes at 2 (Len (start_of at piece) (end_of at piece)) (at + length (delimited piece))
 stands-delimited back_read bytes at piece few h =
     let within : end_of at piece ≤ length bytes = stands-within bytes (start_of at piece) piece (stands-inner piece h) in
     (refl, length piece, stands-varint back_read bytes at (length piece) (omega (arith, few, within)) (stands-left (varint (length piece)) piece h), refl, within, sym (end-length at piece))

@@ -11,13 +11,13 @@ use Rattle.mrpc_table.specs.declared.table.Kind.{Kind}
 use Rattle.mrpc_table.specs.declared.table.Label.TheVariants.{Optional}
 use Rattle.mrpc_table.specs.declared.table.Field.{Field}
 use Rattle.mrpc_table.specs.declared.table.Table.{Table}
-use Rattle.mrpc_table.specs.Ascending.{FieldsAscend, AllAscend}
+use Rattle.mrpc_table.specs.Ascending.{AreFieldsAscending, AreAllFieldsAscending}
 use Rattle.wire_decode.specs.Known.{entry_fields}
-use Rattle.wire_decode.specs.Merged.{contents_of, singles_in, singular, part, entry}
-use Rattle.wire_decode.specs.Contents.{default_of, present}
-use Rattle.wire_decode.specs.Merged.{field_content, with_fields, is_overtaken, counted}
+use Rattle.wire_decode.specs.Merged.{contents_of, singles_in, singular, part_of_entry, merged_entry}
+use Rattle.wire_decode.specs.Contents.{default_item_of, present}
+use Rattle.wire_decode.specs.Merged.{field_content, with_fields, is_overtaken, counted_records}
 use Rattle.wire_decode.specs.Contents.{with_content}
-use Rattle.wire_decode.specs.Oneofs.{is_same}
+use Rattle.wire_decode.specs.Oneofs.{are_same_oneof}
 use Rattle.wire_decode.specs.Oneofs.{oneof_of, oneof_at}
 use Rattle.wire_decode.specs.Merged.{merged}
 use Rattle.wire_decode.specs.Meaning.{item_or_default}
@@ -36,11 +36,11 @@ taken inner raw (f ∷ fs) = with_content f.number (field_content inner f.label 
 
 unfoldable pub merged_taken : Table → ℕ → ℕ → Node → Node
 merged_taken T zero i raw = no_fields
-merged_taken T (suc depth) i raw = taken (merged_taken T depth) (counted (fields_of T i) raw) (fields_of T i)
+merged_taken T (suc depth) i raw = taken (merged_taken T depth) (counted_records (fields_of T i) raw) (fields_of T i)
 
 -- the contents of the fields, with room for this many levels of messages
 abbrev pub meaning : Table → ℕ → List Field → Node → Node
-meaning T room fs raw = taken (merged_taken T room) (counted fs raw) fs
+meaning T room fs raw = taken (merged_taken T room) (counted_records fs raw) fs
 
 pub taken-suc : (T : Table) (inside i : ℕ) (raw : Node) → merged_taken T (suc inside) i raw ≡ meaning T inside (fields_of T i) raw
 unfolding merged_taken
@@ -78,28 +78,28 @@ fields-but inner n raw (f ∷ fs) above =
     ap (λ cs. with_content f.number (field_content inner f.label f.kind cs) (with_fields inner (contents_but n raw) fs)) (contents-but f.number n raw (let a = above.0 in omega (arith, a)))
     ∙ ap (with_content f.number (field_content inner f.label f.kind (contents_of f.number raw))) (fields-but inner n raw fs above.1)
 
-taken-fields : (inner : ℕ → Node → Node) (raw : Node) (fs : List Field) → FieldsAscend fs → taken inner raw fs ≡ with_fields inner raw fs
+taken-fields : (inner : ℕ → Node → Node) (raw : Node) (fs : List Field) → AreFieldsAscending fs → taken inner raw fs ≡ with_fields inner raw fs
 taken-fields inner raw [] a = refl
 taken-fields inner raw (f ∷ fs) a =
     ap (with_content f.number (field_content inner f.label f.kind (contents_of f.number raw)))
     (taken-fields inner (contents_but f.number raw) fs (first-least f fs a) ∙ fields-but inner f.number raw fs (ascend-above f fs a))
 
-pub merged-taken : (T : Table) → AllAscend T → (d i : ℕ) (raw : Node) → merged_taken T d i raw ≡ merged T d i raw
+pub merged-taken : (T : Table) → AreAllFieldsAscending T → (d i : ℕ) (raw : Node) → merged_taken T d i raw ≡ merged T d i raw
 unfolding merged_taken merged
 merged-taken T a zero i raw = refl
 merged-taken T a (suc d) i raw =
     let same : merged_taken T d ≡ merged T d = fun_ext (λ j. fun_ext (λ x. merged-taken T a d j x)) in
-    ap (λ inner. taken inner (counted (fields_of T i) raw) (fields_of T i)) same
-    ∙ taken-fields (merged T d) (counted (fields_of T i) raw) (fields_of T i) (a.each i)
+    ap (λ inner. taken inner (counted_records (fields_of T i) raw) (fields_of T i)) same
+    ∙ taken-fields (merged T d) (counted_records (fields_of T i) raw) (fields_of T i) (a.each i)
 
 -- ---- entries
 
-item-first : (key k : Kind) (o p : Option Item) → item_or_default 1 key (with_content 1 (present o) (with_content 2 (present p) no_fields)) ≡ unwrap_or o (default_of key)
+item-first : (key k : Kind) (o p : Option Item) → item_or_default 1 key (with_content 1 (present o) (with_content 2 (present p) no_fields)) ≡ unwrap_or o (default_item_of key)
 item-first key k None None = refl
 item-first key k None (Some j) = refl
 item-first key k (Some i) p = refl
 
-item-second : (key k : Kind) (o p : Option Item) → item_or_default 2 k (with_content 1 (present o) (with_content 2 (present p) no_fields)) ≡ unwrap_or p (default_of k)
+item-second : (key k : Kind) (o p : Option Item) → item_or_default 2 k (with_content 1 (present o) (with_content 2 (present p) no_fields)) ≡ unwrap_or p (default_item_of k)
 item-second key k None None = refl
 item-second key k None (Some j) = refl
 item-second key k (Some i) None = refl
@@ -123,19 +123,19 @@ and-false false = refl
 no-rival : (key k : Kind) (n : ℕ) (t : Node) → is_overtaken (entry_fields key k) n t ≡ false
 no-rival key k n no_fields = refl
 no-rival key k n (field m c t) =
-    ap (λ o. (not (m == n) && is_same o (oneof_at (entry_fields key k) m)) || is_overtaken (entry_fields key k) n t) (no-oneof key k n)
+    ap (λ o. (not (m == n) && are_same_oneof o (oneof_at (entry_fields key k) m)) || is_overtaken (entry_fields key k) n t) (no-oneof key k n)
     ∙ ap (λ b. b || is_overtaken (entry_fields key k) n t) (and-false (not (m == n)))
     ∙ no-rival key k n t
 
-pub counted-entry : (key k : Kind) (t : Node) → counted (entry_fields key k) t ≡ t
+pub counted-entry : (key k : Kind) (t : Node) → counted_records (entry_fields key k) t ≡ t
 counted-entry key k no_fields = refl
 counted-entry key k (field n c t) =
-    ap (λ b. if b then counted (entry_fields key k) t else field n c (counted (entry_fields key k) t)) (no-rival key k n t)
+    ap (λ b. if b then counted_records (entry_fields key k) t else field n c (counted_records (entry_fields key k) t)) (no-rival key k n t)
     ∙ ap (field n c) (counted-entry key k t)
 
 -- the key and the value of an entry are those of its meaning
 pub entry-same : (T : Table) (room : ℕ) (key k : Kind) (t : Node)
-    → entry (merged_taken T room) key k (node t) ≡ (
+    → merged_entry (merged_taken T room) key k (node t) ≡ (
       item_or_default 1 key (meaning T room (entry_fields key k) t),
       item_or_default 2 k (meaning T room (entry_fields key k) t),
     )
@@ -146,7 +146,7 @@ entry-same T room key k t =
     let same : meaning T room (entry_fields key k) t ≡ with_content 1 (present o) (with_content 2 (present p) no_fields) =
     ap (λ x. taken inner x (entry_fields key k)) (counted-entry key k t)
     ∙ ap (λ cs. with_content 1 (present o) (with_content 2 (present (singular inner k (singles_in cs))) no_fields)) (contents-but 2 1 t (omega arith)) in
-    let first : part inner 1 key t ≡ item_or_default 1 key (meaning T room (entry_fields key k) t) = sym (item-first key k o p) ∙ ap (item_or_default 1 key) (sym same) in
-    let second : part inner 2 k t ≡ item_or_default 2 k (meaning T room (entry_fields key k) t) = sym (item-second key k o p) ∙ ap (item_or_default 2 k) (sym same) in
-    ap (λ x. (part inner 1 key x, part inner 2 k x)) (join-none t)
-    ∙ ap (λ i. (i, part inner 2 k t)) first ∙ ap (λ j. (item_or_default 1 key (meaning T room (entry_fields key k) t), j)) second
+    let first : part_of_entry inner 1 key t ≡ item_or_default 1 key (meaning T room (entry_fields key k) t) = sym (item-first key k o p) ∙ ap (item_or_default 1 key) (sym same) in
+    let second : part_of_entry inner 2 k t ≡ item_or_default 2 k (meaning T room (entry_fields key k) t) = sym (item-second key k o p) ∙ ap (item_or_default 2 k) (sym same) in
+    ap (λ x. (part_of_entry inner 1 key x, part_of_entry inner 2 k x)) (join-none t)
+    ∙ ap (λ i. (i, part_of_entry inner 2 k t)) first ∙ ap (λ j. (item_or_default 1 key (meaning T room (entry_fields key k) t), j)) second

@@ -5,7 +5,7 @@ use Rattle.std.proofs.Common.{false, refl, subst, ◌∙◌, arith, slice_get, o
 use Rattle.std.proofs.lemmas.List.Elements.{All-head, All-tail}
 use Rattle.mrpc_table.specs.Normal.{fields_of, field_at}
 use Rattle.mrpc_table.specs.Words.{is_numeric, is_key}
-use Rattle.mrpc_table.specs.Valid.{IsValid, IsMessage, IsField, GoesWith, Ascends}
+use Rattle.mrpc_table.specs.Valid.{IsValid, IsMessage, IsField, IsLabelFor, IsAscendingBy}
 use Rattle.mrpc_table.specs.declared.table.Kind.{Kind}
 use Rattle.mrpc_table.specs.declared.table.Kind.TheVariants.{Message as OfMessage}
 use Rattle.mrpc_table.specs.declared.table.Label.{Label}
@@ -13,13 +13,13 @@ use Rattle.mrpc_table.specs.declared.table.Label.TheVariants.{Packed, Map}
 use Rattle.mrpc_table.specs.declared.table.Field.{Field}
 use Rattle.mrpc_table.specs.declared.table.Message.{Message}
 use Rattle.mrpc_table.specs.declared.table.Table.{Table}
-use Rattle.mrpc_table.specs.Ascending.{AllAscend, FieldsAscend}
-use Rattle.wire_decode.specs.Known.{is_message}
+use Rattle.mrpc_table.specs.Ascending.{AreAllFieldsAscending, AreFieldsAscending}
+use Rattle.wire_decode.specs.Known.{is_message_kind}
 use Rattle.wire_decode.proofs.Merging.{field-here, field-later}
 
 pub record IsUsable (f : Field) : Type 0 where
   pub small : f.number < 2 ^ 29
-  pub key : (key : Kind) → f.label ≡ Map key → is_message key ≡ false
+  pub key : (key : Kind) → f.label ≡ Map key → is_message_kind key ≡ false
   pub packed : f.label ≡ Packed → is_numeric f.kind ≡ true
 
 -- usable fields with numbers that ascend from above `last`
@@ -30,18 +30,18 @@ AreFieldsFrom last (f ∷ fs) = (last < f.number) × IsUsable f × AreFieldsFrom
 pub record IsUsableTable (T : Table) : Type 0 where
   pub each : (i : ℕ) → AreFieldsFrom 0 (fields_of T i)
 
-key-plain : (k : Kind) → is_key k ≡ true → is_message k ≡ false
+key-plain : (k : Kind) → is_key k ≡ true → is_message_kind k ≡ false
 key-plain (OfMessage i) h = absurd (cc)
 key-plain _ h = refl
 
-label-key : (oneofs : ℕ) (label : Label) (k key : Kind) → GoesWith oneofs label k → label ≡ Map key → is_message key ≡ false
+label-key : (oneofs : ℕ) (label : Label) (k key : Kind) → IsLabelFor oneofs label k → label ≡ Map key → is_message_kind key ≡ false
 label-key oneofs label k key h e =
-    let goes : GoesWith oneofs (Map key) k = subst (λ (x : Label). GoesWith oneofs x k) e h in
+    let goes : IsLabelFor oneofs (Map key) k = subst (λ (x : Label). IsLabelFor oneofs x k) e h in
     key-plain key goes
 
-label-packed : (oneofs : ℕ) (label : Label) (k : Kind) → GoesWith oneofs label k → label ≡ Packed → is_numeric k ≡ true
+label-packed : (oneofs : ℕ) (label : Label) (k : Kind) → IsLabelFor oneofs label k → label ≡ Packed → is_numeric k ≡ true
 label-packed oneofs label k h e =
-    let goes : GoesWith oneofs Packed k = subst (λ (x : Label). GoesWith oneofs x k) e h in
+    let goes : IsLabelFor oneofs Packed k = subst (λ (x : Label). IsLabelFor oneofs x k) e h in
     goes
 
 usable-field : (T : Table) (oneofs : ℕ) (f : Field) → IsField T oneofs f → IsUsable f
@@ -52,7 +52,7 @@ usable-field T oneofs f h = record {
 }
 
 usable-from : (T : Table) (oneofs last : ℕ) (fs : List Field) → All (IsField T oneofs) fs
-    → Ascends (λ f g. f.number < g.number) fs → ((f : Field) → (0 < length fs) → get_or fs 0 f ≡ f → last < f.number)
+    → IsAscendingBy (λ f g. f.number < g.number) fs → ((f : Field) → (0 < length fs) → get_or fs 0 f ≡ f → last < f.number)
     → AreFieldsFrom last fs
 usable-from T oneofs last [] all ascends first = tt
 usable-from T oneofs last (f ∷ []) all ascends first = (first f (omega arith) refl, usable-field T oneofs f (All-head (IsField T oneofs) f [] all), tt)
@@ -78,12 +78,12 @@ usable-at T (m ∷ ms) (suc i) all = usable-at T ms i (All-tail (IsMessage T) m 
 pub usable-valid : (T : Table) → IsValid T → IsUsableTable T
 usable-valid T h = record { each = λ i. usable-at T T.messages i h.messages }
 
-ascend-at : (T : Table) (ms : List Message) (i : ℕ) → All (IsMessage T) ms → FieldsAscend (unwrap_or (option_map (λ m. m.fields) (slice_get ms i)) [])
+ascend-at : (T : Table) (ms : List Message) (i : ℕ) → All (IsMessage T) ms → AreFieldsAscending (unwrap_or (option_map (λ m. m.fields) (slice_get ms i)) [])
 ascend-at T [] i all = tt
 ascend-at T (m ∷ ms) zero all = (All-head (IsMessage T) m ms all).ascend
 ascend-at T (m ∷ ms) (suc i) all = ascend-at T ms i (All-tail (IsMessage T) m ms all)
 
-pub valid-ascends : (T : Table) → IsValid T → AllAscend T
+pub valid-ascends : (T : Table) → IsValid T → AreAllFieldsAscending T
 valid-ascends T h = record { each = λ i. ascend-at T T.messages i h.messages }
 
 -- a number below all of the fields

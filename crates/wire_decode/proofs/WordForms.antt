@@ -12,10 +12,10 @@ use Rattle.mrpc_table.specs.declared.table.Kind.TheVariants.{Int32, Int64, Uint3
 use Rattle.mrpc_table.specs.declared.table.Kind.TheVariants.{Bool as TheBool, Fixed32, Fixed64, Sfixed32, Sfixed64}
 use Rattle.mrpc_table.specs.declared.table.Kind.TheVariants.{Float, Double, Text, Octets, Message, Choice}
 use Rattle.mrpc_table.specs.WireTypes.{wire_type_of}
-use Rattle.wire_base.specs.Records.{PayloadAt}
+use Rattle.wire_base.specs.Records.{IsPayloadAt}
 use Rattle.wire_base.specs.declared.records.Payload.{Payload}
 use Rattle.wire_base.specs.declared.records.Payload.TheVariants.{Varint, I64, I32, Len}
-use Rattle.wire_decode.specs.Words.{sign_extended, unzigzag_of, word_of, number_in, payload_type}
+use Rattle.wire_decode.specs.Words.{sign_extended, unzigzag_of, word_form_of, payload_number, payload_type}
 
 pub extended-low : (n : ℕ) → n < 2 ^ 31 → sign_extended n ≡ n
 extended-low n h = grind (arith, nat_tests)
@@ -49,11 +49,11 @@ signed-unzigzag n h = unzigzag-cases n IsSigned32 (λ e. inl (omega (arith, e, h
 small-unzigzag : (n : ℕ) → n < 2 ^ 64 → unzigzag_of n < 2 ^ 64
 small-unzigzag n h = unzigzag-cases n (λ m. m < 2 ^ 64) (λ e. omega (arith, e, h)) (λ e. omega (arith, e, h))
 
-small-bool : (v : ℕ) → word_of TheBool v < 2
+small-bool : (v : ℕ) → word_form_of TheBool v < 2
 small-bool v = grind (arith, nat_tests)
 
 -- the word of a number that a payload can have
-pub word-form : (k : Kind) (v : ℕ) → is_numeric k ≡ true → v < 2 ^ 64 → (wire_type_of k ≡ 5 → v < 2 ^ 32) → IsWordForm k (word_of k v)
+pub word-form : (k : Kind) (v : ℕ) → is_numeric k ≡ true → v < 2 ^ 64 → (wire_type_of k ≡ 5 → v < 2 ^ 32) → IsWordForm k (word_form_of k v)
 word-form Int32 v h b s = signed-extended (v % 2 ^ 32) (omega arith)
 word-form (Choice i) v h b s = signed-extended (v % 2 ^ 32) (omega arith)
 word-form Sfixed32 v h b s = signed-extended (v % 2 ^ 32) (omega arith)
@@ -74,8 +74,8 @@ word-form (Message i) v h b s = absurd (cc)
 
 -- the numbers of payloads are bounded
 pub record IsSmall (p : Payload) : Type 0 where
-  pub word : number_in p < 2 ^ 64
-  pub short : payload_type p ≡ 5 → number_in p < 2 ^ 32
+  pub word : payload_number p < 2 ^ 64
+  pub short : payload_type p ≡ 5 → payload_number p < 2 ^ 32
 
 abbrev pub AreBytes : List ℕ → Type 0
 AreBytes bytes = All (λ b. b < 256) bytes
@@ -112,7 +112,7 @@ four-below bytes h =
     let b3 = b 3 in
     omega (arith, b0, b1, b2, b3)
 
-pub payload-small : (bytes : List ℕ) (at w : ℕ) (p : Payload) (next : ℕ) → AreBytes bytes → PayloadAt bytes at w p next → IsSmall p
+pub payload-small : (bytes : List ℕ) (at w : ℕ) (p : Payload) (next : ℕ) → AreBytes bytes → IsPayloadAt bytes at w p next → IsSmall p
 payload-small bytes at w (Varint v) next small here = record {
   word = let e = here.1.spelled.value in omega (arith, e);
   short = λ e. absurd (omega (arith, e));
@@ -133,7 +133,7 @@ payload-small bytes at w (Len s e) next small here = record {
 }
 
 -- a payload is of the wire type that it was read for
-pub payload-typed : (bytes : List ℕ) (at w : ℕ) (p : Payload) (next : ℕ) → PayloadAt bytes at w p next → payload_type p ≡ w
+pub payload-typed : (bytes : List ℕ) (at w : ℕ) (p : Payload) (next : ℕ) → IsPayloadAt bytes at w p next → payload_type p ≡ w
 payload-typed bytes at w (Varint v) next here = let e = here.0 in omega (arith, e)
 payload-typed bytes at w (I64 v) next here = let e = here.0 in omega (arith, e)
 payload-typed bytes at w (I32 v) next here = let e = here.0 in omega (arith, e)

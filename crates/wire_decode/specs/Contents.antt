@@ -7,18 +7,18 @@ use Rattle.mrpc_table.specs.declared.table.Label.{Label}
 use Rattle.mrpc_table.specs.declared.table.Label.TheVariants.{Plain}
 
 -- whether an item is the number 0, or an empty run
-abbrev pub is_default : Item → Bool
-is_default (number n) = n == 0
-is_default (run []) = true
-is_default (run (b ∷ bs)) = false
-is_default (node t) = false
+abbrev pub is_default_item : Item → Bool
+is_default_item (number n) = n == 0
+is_default_item (run []) = true
+is_default_item (run (b ∷ bs)) = false
+is_default_item (node t) = false
 
 -- the default of a kind, which replaces a missing key or value of a map's entry
-abbrev pub default_of : Kind → Item
-default_of Text = run []
-default_of Octets = run []
-default_of (OfMessage i) = node no_fields
-default_of _ = number 0
+abbrev pub default_item_of : Kind → Item
+default_item_of Text = run []
+default_item_of Octets = run []
+default_item_of (OfMessage i) = node no_fields
+default_item_of _ = number 0
 
 -- the content of a field with explicit presence: its item, if there is one
 abbrev pub present : Option Item → Option Content
@@ -28,7 +28,7 @@ present (Some i) = Some (one i)
 -- the content of a field with implicit presence: a default is left out
 abbrev pub present_if_set : Option Item → Option Content
 present_if_set None = None
-present_if_set (Some i) = if is_default i then None else Some (one i)
+present_if_set (Some i) = if is_default_item i then None else Some (one i)
 
 -- the content of a singular field with this item
 abbrev pub single_content : Label → Item → Option Content

@@ -10,51 +10,51 @@ use Rattle.mrpc_table.specs.declared.table.Label.TheVariants.{Map}
 use Rattle.mrpc_table.specs.declared.table.Field.{Field}
 use Rattle.mrpc_table.specs.declared.limits.TheConstants.{MAX_DEPTH}
 use Rattle.mrpc_table.specs.declared.table.Table.{Table}
-use Rattle.wire_base.specs.Records.{RecordAt, FaultAt}
+use Rattle.wire_base.specs.Records.{IsRecordAt, IsWireFaultAt}
 use Rattle.wire_base.specs.declared.records.Record.{Record}
 use Rattle.wire_base.specs.declared.records.Payload.TheVariants.{Len}
 use Rattle.wire_base.specs.declared.fault.WireFault.{WireFault}
 use Rattle.wire_decode.specs.Words.{is_map, may_be_packed, AreElements}
-use Rattle.wire_decode.specs.Known.{HasRoom, is_known, entry_fields}
-use Rattle.wire_decode.specs.Meaning.{Value, MeansIn, HasValue}
-use Rattle.wire_decode.specs.Reason.{reason_of}
+use Rattle.wire_decode.specs.Known.{HasRoom, is_known_record, entry_fields}
+use Rattle.wire_decode.specs.Meaning.{RecordValue, MeansIn, HasValue}
+use Rattle.wire_decode.specs.Reason.{decode_reason_of}
 use Rattle.wire_decode.specs.declared.fault.DecodeFault.{DecodeFault}
 use Rattle.wire_decode.specs.declared.fault.DecodeFault.TheVariants.{At, Memory}
 use Rattle.wire_decode.specs.declared.fault.DecodeReason.{DecodeReason}
 use Rattle.wire_decode.specs.declared.fault.DecodeReason.TheVariants.{Utf8, PackedLength, Depth}
 
 -- a record that is skipped, or one of a known field whose payload is valid by itself
-pub data IsSound (T : Table) (room : ℕ) (fields : List Field) (bytes : List ℕ) (r : Record) : Type 0 where
-  is_skipped : is_known fields r ≡ false → IsSound T room fields bytes r
-  is_known_and_sound : (f : Field) (value : Value) → field_at fields r.number ≡ Some f
-      → HasValue T room f.label f.kind bytes r.payload value → IsSound T room fields bytes r
+pub data IsValidRecord (T : Table) (room : ℕ) (fields : List Field) (bytes : List ℕ) (r : Record) : Type 0 where
+  is_skipped : is_known_record fields r ≡ false → IsValidRecord T room fields bytes r
+  is_known_and_valid : (f : Field) (value : RecordValue) → field_at fields r.number ≡ Some f
+      → HasValue T room f.label f.kind bytes r.payload value → IsValidRecord T room fields bytes r
 
 -- valid records follow each other from one offset up to another
-abbrev pub AreSound : Table → ℕ → List Field → List ℕ → ℕ → List Record → ℕ → Type 0
-AreSound T room fields bytes from [] at = from ≡ at
-AreSound T room fields bytes from (r ∷ records) at = RecordAt bytes from r × IsSound T room fields bytes r
-    × AreSound T room fields bytes r.next records at
+abbrev pub AreValidRecords : Table → ℕ → List Field → List ℕ → ℕ → List Record → ℕ → Type 0
+AreValidRecords T room fields bytes from [] at = from ≡ at
+AreValidRecords T room fields bytes from (r ∷ records) at = IsRecordAt bytes from r × IsValidRecord T room fields bytes r
+    × AreValidRecords T room fields bytes r.next records at
 
 -- the payload, from one offset up to another, of the record at an offset: it has a length, and is of a field of the
 -- message
 pub record HasPayload (fields : List Field) (bytes : List ℕ) (at : ℕ) (f : Field) (start end : ℕ) : Type 0 where
   pub number : ℕ
   pub next : ℕ
-  pub stands : RecordAt bytes at (record { number = number; payload = Len start end; next = next })
+  pub stands : IsRecordAt bytes at (record { number = number; payload = Len start end; next = next })
   pub known : field_at fields number ≡ Some f
 
 mutual
   -- the first fault at or after an offset, of the bytes as a message of these fields; messages may nest `room` more
   -- levels deep inside
-  pub data FirstFault (T : Table) : ℕ → List Field → List ℕ → ℕ → DecodeReason → ℕ → Type 0 where
+  pub data IsFirstFaultFrom (T : Table) : ℕ → List Field → List ℕ → ℕ → DecodeReason → ℕ → Type 0 where
     first_fault : {room : ℕ} {fields : List Field} {bytes : List ℕ} {from : ℕ} {reason : DecodeReason} {place : ℕ}
-        (before : List Record) (at : ℕ) → AreSound T room fields bytes from before at
-        → IsFault T room fields bytes at reason place → FirstFault T room fields bytes from reason place
+        (before : List Record) (at : ℕ) → AreValidRecords T room fields bytes from before at
+        → IsFault T room fields bytes at reason place → IsFirstFaultFrom T room fields bytes from reason place
 
   -- why there is no valid record at an offset, and the offset of the fault: for a payload, its start
   pub data IsFault (T : Table) : ℕ → List Field → List ℕ → ℕ → DecodeReason → ℕ → Type 0 where
     no_record_there : {room : ℕ} {fields : List Field} {bytes : List ℕ} {at : ℕ} {reason : DecodeReason} {place : ℕ}
-        (f : WireFault) → at < length bytes → FaultAt bytes at f → reason ≡ reason_of f.reason → place ≡ f.place
+        (f : WireFault) → at < length bytes → IsWireFaultAt bytes at f → reason ≡ decode_reason_of f.reason → place ≡ f.place
         → IsFault T room fields bytes at reason place
     not_whole_elements : {room : ℕ} {fields : List Field} {bytes : List ℕ} {at : ℕ} {reason : DecodeReason} {place : ℕ}
         (f : Field) (end : ℕ) → HasPayload fields bytes at f place end → may_be_packed f.label f.kind ≡ true
@@ -69,11 +69,11 @@ mutual
     inside_message : {room : ℕ} {fields : List Field} {bytes : List ℕ} {at : ℕ} {reason : DecodeReason} {place : ℕ}
         (f : Field) (i inside start end : ℕ) → HasPayload fields bytes at f start end → is_map f.label ≡ false
         → f.kind ≡ OfMessage i → room ≡ suc inside
-        → FirstFault T inside (fields_of T i) (take end bytes) start reason place
+        → IsFirstFaultFrom T inside (fields_of T i) (take end bytes) start reason place
         → IsFault T room fields bytes at reason place
     inside_entry : {room : ℕ} {fields : List Field} {bytes : List ℕ} {at : ℕ} {reason : DecodeReason} {place : ℕ}
         (f : Field) (key : Kind) (start end : ℕ) → HasPayload fields bytes at f start end → f.label ≡ Map key
-        → FirstFault T room (entry_fields key f.kind) (take end bytes) start reason place
+        → IsFirstFaultFrom T room (entry_fields key f.kind) (take end bytes) start reason place
         → IsFault T room fields bytes at reason place
     -- the entry is valid, but the default of its value would be one message too deep
     default_too_deep : {room : ℕ} {fields : List Field} {bytes : List ℕ} {at : ℕ} {reason : DecodeReason} {place : ℕ}
@@ -82,10 +82,10 @@ mutual
         → reason ≡ Depth → IsFault T room fields bytes at reason place
 
 -- the first fault of the bytes as a message at an index of the table
-abbrev pub IsFirstFault : Table → ℕ → List ℕ → DecodeReason → ℕ → Type 0
-IsFirstFault T msg bytes reason place = FirstFault T (MAX_DEPTH - 1) (fields_of T msg) bytes 0 reason place
+abbrev pub IsFirstDecodeFault : Table → ℕ → List ℕ → DecodeReason → ℕ → Type 0
+IsFirstDecodeFault T msg bytes reason place = IsFirstFaultFrom T (MAX_DEPTH - 1) (fields_of T msg) bytes 0 reason place
 
 -- the fault is one of these, unless it is out of memory
-abbrev pub FaultsAs : (DecodeReason → ℕ → Type 0) → DecodeFault → Type 0
-FaultsAs P Memory = Unit {0}
-FaultsAs P (At reason place) = P reason place
+abbrev pub OnDecodeFault : (DecodeReason → ℕ → Type 0) → DecodeFault → Type 0
+OnDecodeFault P Memory = Unit {0}
+OnDecodeFault P (At reason place) = P reason place

@@ -1,4 +1,4 @@
-pub mod Behind
+pub mod LaterMembers
 pub mod Contents
 pub mod EntryParts
 pub mod FaultWalk
@@ -6,17 +6,17 @@ pub mod Faults
 pub mod Finished
 pub mod Gathered
 pub mod Joined
-pub mod Kept
+pub mod TreePool
 pub mod Known
 pub mod Meaning
 pub mod Means
 pub mod Merged
-pub mod Merges
+pub mod MergedMessage
 pub mod NumberOrder
 pub mod Oneofs
 pub mod Ordered
 pub mod Parts
-pub mod Reads
+pub mod RawMessages
 pub mod Reason
 pub mod TwoInOne
 pub mod Words

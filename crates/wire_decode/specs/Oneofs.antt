@@ -15,10 +15,10 @@ abbrev pub oneof_at : List Field → ℕ → Option ℕ
 oneof_at fields number = option_and_then (λ f. oneof_of f.label) (field_at fields number)
 
 -- whether both are the same oneof
-abbrev pub is_same : Option ℕ → Option ℕ → Bool
-is_same (Some one) (Some other) = one == other
-is_same _ _ = false
+abbrev pub are_same_oneof : Option ℕ → Option ℕ → Bool
+are_same_oneof (Some one) (Some other) = one == other
+are_same_oneof _ _ = false
 
 -- two numbers are of different members of one oneof
 abbrev pub are_rivals : List Field → ℕ → ℕ → Bool
-are_rivals fields one other = not (other == one) && is_same (oneof_at fields one) (oneof_at fields other)
+are_rivals fields one other = not (other == one) && are_same_oneof (oneof_at fields one) (oneof_at fields other)

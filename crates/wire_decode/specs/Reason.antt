@@ -6,20 +6,20 @@ use Rattle.wire_decode.specs.declared.fault.DecodeReason.{DecodeReason}
 use Rattle.wire_decode.specs.declared.fault.DecodeReason.TheVariants.{Varint, TagRange, NumberZero, WireType, Short, Utf8, PackedLength, Depth}
 
 -- the reason why there is no record at an offset, as a reason of a message's fault
-abbrev pub reason_of : WireReason → DecodeReason
-reason_of wire.Varint = Varint
-reason_of wire.TagRange = TagRange
-reason_of wire.NumberZero = NumberZero
-reason_of wire.WireType = WireType
-reason_of wire.Short = Short
+abbrev pub decode_reason_of : WireReason → DecodeReason
+decode_reason_of wire.Varint = Varint
+decode_reason_of wire.TagRange = TagRange
+decode_reason_of wire.NumberZero = NumberZero
+decode_reason_of wire.WireType = WireType
+decode_reason_of wire.Short = Short
 
 -- the word that names a reason
-abbrev pub reason_word : DecodeReason → List ℕ
-reason_word Varint = codes "Varint"
-reason_word TagRange = codes "TagRange"
-reason_word NumberZero = codes "NumberZero"
-reason_word WireType = codes "WireType"
-reason_word Short = codes "Short"
-reason_word Utf8 = codes "Utf8"
-reason_word PackedLength = codes "PackedLength"
-reason_word Depth = codes "Depth"
+abbrev pub decode_reason_word : DecodeReason → List ℕ
+decode_reason_word Varint = codes "Varint"
+decode_reason_word TagRange = codes "TagRange"
+decode_reason_word NumberZero = codes "NumberZero"
+decode_reason_word WireType = codes "WireType"
+decode_reason_word Short = codes "Short"
+decode_reason_word Utf8 = codes "Utf8"
+decode_reason_word PackedLength = codes "PackedLength"
+decode_reason_word Depth = codes "Depth"

@@ -7,7 +7,7 @@ use Rattle.mrpc_table.specs.declared.table.Kind.TheVariants.{Int32, Uint32, Sint
 use Rattle.mrpc_table.specs.declared.table.Label.{Label}
 use Rattle.mrpc_table.specs.declared.table.Label.TheVariants.{Repeated, Packed, Map}
 use Rattle.mrpc_table.specs.WireTypes.{wire_varint, wire_i64, wire_len, wire_i32, wire_type_of}
-use Rattle.wire_base.specs.Records.{PayloadAt}
+use Rattle.wire_base.specs.Records.{IsPayloadAt}
 use Rattle.wire_base.specs.declared.records.Payload.{Payload}
 use Rattle.wire_base.specs.declared.records.Payload.TheVariants.{Varint, I64, I32, Len}
 
@@ -20,22 +20,22 @@ abbrev pub unzigzag_of : ℕ → ℕ
 unzigzag_of n = if n % 2 == 0 then n / 2 else 2 ^ 64 - 1 - n / 2
 
 -- the word form of a number that was read
-abbrev pub word_of : Kind → ℕ → ℕ
-word_of Int32 v = sign_extended (v % 2 ^ 32)
-word_of (Choice i) v = sign_extended (v % 2 ^ 32)
-word_of Sfixed32 v = sign_extended (v % 2 ^ 32)
-word_of Uint32 v = v % 2 ^ 32
-word_of Sint32 v = unzigzag_of (v % 2 ^ 32)
-word_of Sint64 v = unzigzag_of v
-word_of TheBool v = if v == 0 then 0 else 1
-word_of _ v = v
+abbrev pub word_form_of : Kind → ℕ → ℕ
+word_form_of Int32 v = sign_extended (v % 2 ^ 32)
+word_form_of (Choice i) v = sign_extended (v % 2 ^ 32)
+word_form_of Sfixed32 v = sign_extended (v % 2 ^ 32)
+word_form_of Uint32 v = v % 2 ^ 32
+word_form_of Sint32 v = unzigzag_of (v % 2 ^ 32)
+word_form_of Sint64 v = unzigzag_of v
+word_form_of TheBool v = if v == 0 then 0 else 1
+word_form_of _ v = v
 
 -- the number in a payload
-abbrev pub number_in : Payload → ℕ
-number_in (Varint v) = v
-number_in (I64 v) = v
-number_in (I32 v) = v
-number_in (Len start end) = 0
+abbrev pub payload_number : Payload → ℕ
+payload_number (Varint v) = v
+payload_number (I64 v) = v
+payload_number (I32 v) = v
+payload_number (Len start end) = 0
 
 -- the wire type of a payload
 abbrev pub payload_type : Payload → ℕ
@@ -65,11 +65,11 @@ abbrev pub may_be_packed : Label → Kind → Bool
 may_be_packed label k = is_list label && is_numeric k
 
 -- whether a field is read from a payload of this wire type
-abbrev pub suits : Label → Kind → Payload → Bool
-suits label k p = payload_type p == own_type label k || (may_be_packed label k && payload_type p == wire_len)
+abbrev pub accepts_payload : Label → Kind → Payload → Bool
+accepts_payload label k p = payload_type p == own_type label k || (may_be_packed label k && payload_type p == wire_len)
 
 -- the bytes from this offset to the end are whole elements of the kind, in order
 abbrev pub AreElements : Kind → List ℕ → ℕ → List ℕ → Type 0
 AreElements k bytes at [] = at ≡ length bytes
-AreElements k bytes at (w ∷ ws) = (p : Payload) × (next : ℕ) × PayloadAt bytes at (wire_type_of k) p next
-    × (w ≡ word_of k (number_in p)) × AreElements k bytes next ws
+AreElements k bytes at (w ∷ ws) = (p : Payload) × (next : ℕ) × IsPayloadAt bytes at (wire_type_of k) p next
+    × (w ≡ word_form_of k (payload_number p)) × AreElements k bytes next ws

@@ -33,11 +33,11 @@ pub enum DecodeReason {
 }
 
 impl DecodeReason {
-    ghost use Rattle.wire_decode.specs.Reason.{reason_word};
+    ghost use Rattle.wire_decode.specs.Reason.{decode_reason_word};
 
     /// The word that names the reason in a printed fault.
     pub fn word(self) -> &'static str
-        ensures { result.now ≡ reason_word self }
+        ensures { result.now ≡ decode_reason_word self }
     {
         match self {
             DecodeReason::Varint => "Varint",

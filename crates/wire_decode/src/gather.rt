@@ -3,8 +3,8 @@
 ghost use Rattle.std.specs.Prelude.{◌≡◌, ℕ, List, [], ◌∷◌, ◌++◌, map, true, false, IfOk, OnOk};
 ghost use Rattle.mrpc_table.specs.Node.{Node, Item};
 ghost use Rattle.mrpc_table.specs.View.{item_of, content_of, node_of};
-ghost use Rattle.wire_decode.specs.Merged.{values_in, joined, join_fields};
-ghost use Rattle.wire_decode.specs.TwoInOne.{form_of, MeansBoth, HoldsBoth, StandsForBoth};
+ghost use Rattle.wire_decode.specs.Merged.{values_in, joined_messages, join_fields};
+ghost use Rattle.wire_decode.specs.TwoInOne.{merge_mode_of, IsMeaningOfBoth, HasItemForBoth, IsItemForBoth};
 ghost use Rattle.wire_decode.specs.Gathered.{HasOneMore};
 
 use mrpc_table::{FieldValue, Kind, Label, Memory, Numbered, Tree, Value, Values};
@@ -12,7 +12,7 @@ use std::alloc::Global;
 
 // How the contents of a field's records become one.
 #[derive(Clone, Copy)]
-pub(crate) enum Form {
+pub(crate) enum MergeMode {
     // All values count, in order.
     Listed,
     // The records of the messages are concatenated.
@@ -22,14 +22,14 @@ pub(crate) enum Form {
 }
 
 // How the contents of a field become one.
-pub(crate) fn form_of(label: Label, kind: Kind) -> Form
-    ensures { result ≡ form_of label kind }
+pub(crate) fn merge_mode_of(label: Label, kind: Kind) -> MergeMode
+    ensures { result ≡ merge_mode_of label kind }
 {
     match label {
-        Label::Repeated | Label::Packed | Label::Map(_) => Form::Listed,
+        Label::Repeated | Label::Packed | Label::Map(_) => MergeMode::Listed,
         _ => match kind {
-            Kind::Message(_) => Form::Joined,
-            _ => Form::Last,
+            Kind::Message(_) => MergeMode::Joined,
+            _ => MergeMode::Last,
         },
     }
 }
@@ -40,7 +40,7 @@ pub(crate) fn add(
     held: &mut Numbered,
     number: u32,
     content: FieldValue,
-    form: Form,
+    form: MergeMode,
 ) -> Result<(), Memory>
     ensures { OnOk result
         (HasOneMore form (node_of held.old.items) number (content_of content) (node_of held.new.items)) }
@@ -65,14 +65,14 @@ fn joined(
     alloc: Global,
     before: FieldValue,
     content: FieldValue,
-    form: Form,
+    form: MergeMode,
 ) -> Result<FieldValue, Memory>
-    ensures { IfOk result (λ c. MeansBoth form (content_of before) (content_of content) (content_of c)) }
+    ensures { IfOk result (λ c. IsMeaningOfBoth form (content_of before) (content_of content) (content_of c)) }
 {
     match form {
-        Form::Listed => listed(alloc, before, content),
-        Form::Joined => singles(before, content, true),
-        Form::Last => singles(before, content, false),
+        MergeMode::Listed => listed(alloc, before, content),
+        MergeMode::Joined => singles(before, content, true),
+        MergeMode::Last => singles(before, content, false),
     }
 }
 
@@ -89,7 +89,7 @@ fn listed(alloc: Global, before: FieldValue, content: FieldValue) -> Result<Fiel
 // Combines two contents of a singular field.
 fn singles(before: FieldValue, content: FieldValue, is_message: bool) -> Result<FieldValue, Memory>
     ensures { IfOk result
-        (λ c. HoldsBoth is_message (content_of before) (content_of content) (content_of c)) }
+        (λ c. HasItemForBoth is_message (content_of before) (content_of content) (content_of c)) }
 {
     match content {
         FieldValue::One(value) => match before {
@@ -105,7 +105,7 @@ fn singles(before: FieldValue, content: FieldValue, is_message: bool) -> Result<
 
 // Combines two values of a singular field: the last one, or the message with the records of both.
 pub(crate) fn joined_value(before: Value, value: Value, is_message: bool) -> Result<Value, Memory>
-    ensures { IfOk result (λ v. StandsForBoth is_message (item_of before) (item_of value) (item_of v)) }
+    ensures { IfOk result (λ v. IsItemForBoth is_message (item_of before) (item_of value) (item_of v)) }
 {
     if is_message {
         joined_message(before, value)
@@ -116,7 +116,7 @@ pub(crate) fn joined_value(before: Value, value: Value, is_message: bool) -> Res
 
 fn joined_message(before: Value, value: Value) -> Result<Value, Memory>
     ensures { IfOk result
-        (λ v. (is : List Item) → joined (item_of v ∷ is) ≡ joined (item_of before ∷ item_of value ∷ is)) }
+        (λ v. (is : List Item) → joined_messages (item_of v ∷ is) ≡ joined_messages (item_of before ∷ item_of value ∷ is)) }
 {
     match value {
         Value::Node(more) => match before {

@@ -4,22 +4,22 @@
 ghost use Rattle.std.specs.Prelude.{◌≡◌, ℕ, ◌<◌, length, IfOk, IsTrue, Some, true, map, option_map, List, [], ◌∷◌, ◌++◌, OnOk};
 ghost use Rattle.mrpc_table.specs.View.{item_of, content_of, node_of, pairs_of};
 ghost use Rattle.mrpc_table.specs.MapEntries.{last_of_each};
-ghost use Rattle.wire_decode.specs.Merged.{contents_of, join_fields, merged, field_content, singular, element, entry, joined, singles_in};
-ghost use Rattle.wire_decode.specs.Contents.{with_content, some_items, some_pairs, present, present_if_set, is_default, default_of};
-ghost use Rattle.wire_decode.specs.EntryParts.{MeansAll, found_entry, found_part, IsWithOneMore};
+ghost use Rattle.wire_decode.specs.Merged.{contents_of, join_fields, merged, field_content, singular, merged_element, merged_entry, joined_messages, singles_in};
+ghost use Rattle.wire_decode.specs.Contents.{with_content, some_items, some_pairs, present, present_if_set, is_default_item, default_item_of};
+ghost use Rattle.wire_decode.specs.EntryParts.{IsMeaningOfAll, found_entry, found_part, IsWithOneMore};
 ghost use Rattle.wire_decode.specs.Finished.{finish_at, finished_of};
-ghost use Rattle.wire_decode.specs.NumberOrder.{NumbersNeverFallFrom};
+ghost use Rattle.wire_decode.specs.NumberOrder.{AreNumbersSortedFrom};
 ghost use Rattle.wire_decode.specs.Gathered.{IsGathered};
-ghost use Rattle.wire_decode.specs.TwoInOne.{form_of};
+ghost use Rattle.wire_decode.specs.TwoInOne.{merge_mode_of};
 ghost use Rattle.mrpc_table.specs.SortedEntries.{items_of_entry};
 ghost use Rattle.mrpc_table.specs.Normal.{field_at};
 ghost use Rattle.mrpc_table.specs.declared.table.Field.{Field};
-ghost use Rattle.mrpc_table.specs.Ascending.{AllAscend, FieldsAscend};
+ghost use Rattle.mrpc_table.specs.Ascending.{AreAllFieldsAscending, AreFieldsAscending};
 ghost use Rattle.mrpc_table.specs.Node.{Item, field, no_fields};
 
-use crate::gather::{Form, add, form_of, joined_value, values_of};
-use crate::number::is_message;
-use crate::oneof::counted;
+use crate::gather::{MergeMode, add, joined_value, merge_mode_of, values_of};
+use crate::number::is_message_kind;
+use crate::oneof::counted_records;
 use mrpc_table::{
     Bytes, Entries, Field, FieldValue, Kind, Label, Memory, Numbered, Table, Tree, Value, Values,
     find_field, last_of_each,
@@ -35,7 +35,7 @@ pub(crate) fn merged(
     place: u32,
     depth: u32,
 ) -> Result<Tree, Memory>
-    requires { AllAscend table.now }
+    requires { AreAllFieldsAscending table.now }
     ensures { IfOk result (λ t. t ≡ merged table.now depth place (node_of raw.items)) }
 {
     if depth == 0 {
@@ -44,7 +44,7 @@ pub(crate) fn merged(
         });
     }
     let fields = table.fields(place);
-    let raw = by_number(counted(alloc, raw, fields)?)?;
+    let raw = by_number(counted_records(alloc, raw, fields)?)?;
     let held = gathered(alloc, raw, fields)?;
     let fields = finished(alloc, held, table, fields, depth - 1)?;
     Ok(Tree { fields })
@@ -52,7 +52,7 @@ pub(crate) fn merged(
 
 // The contents by ascending number, those of one number in their original order.
 fn by_number(raw: Numbered) -> Result<Numbered, Memory>
-    ensures sorted { IfOk result (λ parts. NumbersNeverFallFrom 0 (node_of parts.items)) }
+    ensures sorted { IfOk result (λ parts. AreNumbersSortedFrom 0 (node_of parts.items)) }
     ensures same { IfOk result
         (λ parts. (n : ℕ) → contents_of n (node_of parts.items) ≡ contents_of n (node_of raw.items)) }
 {
@@ -66,7 +66,7 @@ fn by_number(raw: Numbered) -> Result<Numbered, Memory>
 
 // Whether no number is below the previous one.
 fn ascends(raw: &Numbered) -> bool
-    ensures { IsTrue result → NumbersNeverFallFrom 0 (node_of raw.now.items) }
+    ensures { IsTrue result → AreNumbersSortedFrom 0 (node_of raw.now.items) }
 {
     let mut last = 0;
     for part in raw {
@@ -80,14 +80,14 @@ fn ascends(raw: &Numbered) -> bool
 
 // The contents of each number, combined into one.
 fn gathered(alloc: Global, raw: Numbered, fields: &[Field]) -> Result<Numbered, Memory>
-    requires ascend { FieldsAscend fields.now }
-    requires sorted { NumbersNeverFallFrom 0 (node_of raw.items) }
+    requires ascend { AreFieldsAscending fields.now }
+    requires sorted { AreNumbersSortedFrom 0 (node_of raw.items) }
     ensures { IfOk result (λ held. IsGathered fields.now (node_of raw.items) (node_of held.items)) }
 {
     let mut held = Vec::with_capacity(alloc, raw.len().min(fields.len()))?;
     let mut hint = 0;
     for (number, content) in raw {
-        let (form, place) = form_at(fields, number, hint);
+        let (form, place) = merge_mode_at(fields, number, hint);
         hint = place;
         add(alloc, &mut held, number, content, form)?;
     }
@@ -95,16 +95,16 @@ fn gathered(alloc: Global, raw: Numbered, fields: &[Field]) -> Result<Numbered, 
 }
 
 // How the contents of the field with a number become one, and the field's index.
-fn form_at(fields: &[Field], number: u32, hint: usize) -> (Form, usize)
-    requires { FieldsAscend fields.now }
-    ensures { (f : Field) → field_at fields.now number ≡ Some f → result.0 ≡ form_of f.label f.kind }
+fn merge_mode_at(fields: &[Field], number: u32, hint: usize) -> (MergeMode, usize)
+    requires { AreFieldsAscending fields.now }
+    ensures { (f : Field) → field_at fields.now number ≡ Some f → result.0 ≡ merge_mode_of f.label f.kind }
 {
     match find_field(fields, number, hint) {
         Some(place) => {
             let field = &fields[place];
-            (form_of(field.label, field.kind), place)
+            (merge_mode_of(field.label, field.kind), place)
         }
-        None => (Form::Last, hint),
+        None => (MergeMode::Last, hint),
     }
 }
 
@@ -117,8 +117,8 @@ fn finished(
     fields: &[Field],
     depth: u32,
 ) -> Result<Numbered, Memory>
-    requires all { AllAscend table.now }
-    requires ascend { FieldsAscend fields.now }
+    requires all { AreAllFieldsAscending table.now }
+    requires ascend { AreFieldsAscending fields.now }
     ensures { IfOk result
         (λ whole. node_of whole.items
         ≡ finished_of (merged table.now depth) fields.now (node_of held.items)) }
@@ -144,8 +144,8 @@ fn finish(
     hint: usize,
     depth: u32,
 ) -> Result<(Option<FieldValue>, usize), Memory>
-    requires all { AllAscend table.now }
-    requires ascend { FieldsAscend fields.now }
+    requires all { AreAllFieldsAscending table.now }
+    requires ascend { AreFieldsAscending fields.now }
     ensures { IfOk result
         (λ r. option_map content_of r.0
         ≡ finish_at (merged table.now depth) fields.now number (content_of content)) }
@@ -191,7 +191,7 @@ fn field_content(
     kind: Kind,
     depth: u32,
 ) -> Result<Option<FieldValue>, Memory>
-    requires { AllAscend table.now }
+    requires { AreAllFieldsAscending table.now }
     ensures { IfOk result
         (λ o. option_map content_of o
         ≡ field_content (merged table.now depth) label kind (content_of held ∷ [])) }
@@ -254,7 +254,7 @@ pub(crate) fn present_if_set(value: Option<Value>) -> Option<FieldValue>
 {
     match value {
         Some(value) => {
-            if is_default(&value) {
+            if is_default_item(&value) {
                 None
             } else {
                 Some(FieldValue::One(value))
@@ -265,8 +265,8 @@ pub(crate) fn present_if_set(value: Option<Value>) -> Option<FieldValue>
 }
 
 // Whether a value is the number 0, or an empty run.
-fn is_default(value: &Value) -> bool
-    ensures { result ≡ is_default (item_of value.now) }
+fn is_default_item(value: &Value) -> bool
+    ensures { result ≡ is_default_item (item_of value.now) }
 {
     match value {
         Value::Number(n) => *n == 0,
@@ -284,7 +284,7 @@ fn singular(
     kind: Kind,
     depth: u32,
 ) -> Result<Option<Value>, Memory>
-    requires { AllAscend table.now }
+    requires { AreAllFieldsAscending table.now }
     ensures { IfOk result
         (λ o. option_map item_of o
         ≡ singular (merged table.now depth) kind (singles_in (content_of held ∷ []))) }
@@ -304,8 +304,8 @@ fn element(
     kind: Kind,
     depth: u32,
 ) -> Result<Value, Memory>
-    requires { AllAscend table.now }
-    ensures { IfOk result (λ v. item_of v ≡ element (merged table.now depth) kind (item_of value)) }
+    requires { AreAllFieldsAscending table.now }
+    ensures { IfOk result (λ v. item_of v ≡ merged_element (merged table.now depth) kind (item_of value)) }
 {
     match kind {
         Kind::Message(place) => {
@@ -318,7 +318,7 @@ fn element(
 
 // The fields of a message.
 fn fields_in(alloc: Global, value: Value) -> Numbered
-    ensures { node_of result.items ≡ joined (item_of value ∷ []) }
+    ensures { node_of result.items ≡ joined_messages (item_of value ∷ []) }
 {
     match value {
         Value::Node(tree) => tree.fields,
@@ -335,12 +335,12 @@ fn elements(
     kind: Kind,
     depth: u32,
 ) -> Result<Values, Memory>
-    requires { AllAscend table.now }
+    requires { AreAllFieldsAscending table.now }
     ensures { IfOk result
         (λ vs. map item_of vs.items
-        ≡ map (element (merged table.now depth) kind) (map item_of values.items)) }
+        ≡ map (merged_element (merged table.now depth) kind) (map item_of values.items)) }
 {
-    if !is_message(kind) {
+    if !is_message_kind(kind) {
         return Ok(values);
     }
     let mut elements = Vec::with_capacity(alloc, values.len())?;
@@ -360,10 +360,10 @@ fn entries(
     kind: Kind,
     depth: u32,
 ) -> Result<Entries, Memory>
-    requires { AllAscend table.now }
+    requires { AreAllFieldsAscending table.now }
     ensures { IfOk result
         (λ ps. pairs_of ps.items
-        ≡ last_of_each key (map (entry (merged table.now depth) key kind) (map item_of values.items))) }
+        ≡ last_of_each key (map (merged_entry (merged table.now depth) key kind) (map item_of values.items))) }
 {
     let mut entries = Vec::with_capacity(alloc, values.len())?;
     for value in values {
@@ -383,7 +383,7 @@ fn entry(
     kind: Kind,
     depth: u32,
 ) -> Result<(Value, Value), Memory>
-    requires { AllAscend table.now }
+    requires { AreAllFieldsAscending table.now }
     ensures { IfOk result
         (λ e. items_of_entry e ≡ found_entry (merged table.now depth) key kind (node_of raw.items)) }
 {
@@ -409,13 +409,13 @@ fn noted(
     kind: Kind,
 ) -> Result<(Option<Value>, Option<Value>), Memory>
     ensures key { IfOk result
-        (λ r. (is : List Item) → MeansAll key is (option_map item_of keys)
-        → MeansAll key
+        (λ r. (is : List Item) → IsMeaningOfAll key is (option_map item_of keys)
+        → IsMeaningOfAll key
         (is ++ singles_in (contents_of 1 (field number (content_of content) no_fields)))
         (option_map item_of r.0)) }
     ensures value { IfOk result
-        (λ r. (is : List Item) → MeansAll kind is (option_map item_of values)
-        → MeansAll kind
+        (λ r. (is : List Item) → IsMeaningOfAll kind is (option_map item_of values)
+        → IsMeaningOfAll kind
         (is ++ singles_in (contents_of 2 (field number (content_of content) no_fields)))
         (option_map item_of r.1)) }
 {
@@ -441,7 +441,7 @@ fn with(before: Option<Value>, value: Value, kind: Kind) -> Result<Value, Memory
         (λ v. IsWithOneMore kind (option_map item_of before) (item_of value) (item_of v)) }
 {
     match before {
-        Some(before) => joined_value(before, value, is_message(kind)),
+        Some(before) => joined_value(before, value, is_message_kind(kind)),
         None => Ok(value),
     }
 }
@@ -455,19 +455,19 @@ fn part(
     kind: Kind,
     depth: u32,
 ) -> Result<Value, Memory>
-    requires { AllAscend table.now }
+    requires { AreAllFieldsAscending table.now }
     ensures { IfOk result
         (λ v. item_of v ≡ found_part (merged table.now depth) kind (option_map item_of found)) }
 {
     match found {
         Some(value) => element(alloc, value, table, kind, depth),
-        None => Ok(default_of(alloc, kind)),
+        None => Ok(default_value(alloc, kind)),
     }
 }
 
 // The default of a kind.
-fn default_of(alloc: Global, kind: Kind) -> Value
-    ensures { item_of result ≡ default_of kind }
+fn default_value(alloc: Global, kind: Kind) -> Value
+    ensures { item_of result ≡ default_item_of kind }
 {
     match kind {
         Kind::Text | Kind::Octets => Value::Run(Bytes::new(alloc)),

@@ -1,15 +1,15 @@
 //! Numbers: the word form of a number in a record or a packed payload.
 
 ghost use Rattle.std.specs.Prelude.{◌≡◌, ℕ, ◌%◌, ◌^◌};
-ghost use Rattle.wire_decode.specs.Known.{is_message};
-ghost use Rattle.wire_decode.specs.Words.{word_of, sign_extended, unzigzag_of, is_list, suits};
+ghost use Rattle.wire_decode.specs.Known.{is_message_kind};
+ghost use Rattle.wire_decode.specs.Words.{word_form_of, sign_extended, unzigzag_of, is_list, accepts_payload};
 
 use mrpc_table::{Kind, Label};
 use wire_base::{Payload, unzigzag};
 
 // The word form of a number that was read.
-pub(crate) fn word_of(kind: Kind, v: u64) -> u64
-    ensures { result ≡ word_of kind v }
+pub(crate) fn word_form_of(kind: Kind, v: u64) -> u64
+    ensures { result ≡ word_form_of kind v }
 {
     match kind {
         Kind::Int32 | Kind::Choice(_) | Kind::Sfixed32 => sign_extended(low(v)),
@@ -47,8 +47,8 @@ fn unzigzag_word(v: u64) -> u64
 }
 
 // Whether a value of the kind is a message.
-pub(crate) fn is_message(kind: Kind) -> bool
-    ensures { result ≡ is_message kind }
+pub(crate) fn is_message_kind(kind: Kind) -> bool
+    ensures { result ≡ is_message_kind kind }
 {
     matches!(kind, Kind::Message(_))
 }
@@ -61,8 +61,8 @@ pub(crate) fn is_list(label: Label) -> bool
 }
 
 // Whether a field is read from a payload of this wire type.
-pub(crate) fn suits(label: Label, kind: Kind, payload: Payload) -> bool
-    ensures { result ≡ suits label kind payload }
+pub(crate) fn accepts_payload(label: Label, kind: Kind, payload: Payload) -> bool
+    ensures { result ≡ accepts_payload label kind payload }
 {
     let found = match payload {
         Payload::Varint(_) => 0,

@@ -3,66 +3,70 @@
 ghost use Rattle.std.specs.Prelude.{◌≡◌, ◌≢◌, ℕ, ◌<◌, ◌^◌, [], ◌∷◌, ◌++◌, if◌then◌else◌, length, not, false, IfOk, OnOk, IfSome, vec_len, slice_index_or};
 ghost use Rattle.mrpc_table.specs.Node.{field};
 ghost use Rattle.mrpc_table.specs.View.{node_of};
-ghost use Rattle.mrpc_table.specs.Ascending.{FieldsAscend};
-ghost use Rattle.wire_decode.specs.Merged.{counted};
+ghost use Rattle.mrpc_table.specs.Ascending.{AreFieldsAscending};
+ghost use Rattle.wire_decode.specs.Merged.{counted_records};
 ghost use Rattle.wire_decode.specs.Oneofs.{oneof_at};
-ghost use Rattle.wire_decode.specs.Behind.{overtakes, IsInFront, IsNotedAt, HasNoMember, SaysIfCounted};
+ghost use Rattle.wire_decode.specs.LaterMembers.{overtakes, IsPrepended, IsNotedAt, HasNoMember, IsCountDecision};
 
 use mrpc_table::{Field, FieldValue, Label, Memory, Numbered, find_field};
 use std::alloc::Global;
 
 // The members of a oneof among the later records.
 #[derive(Clone, Copy)]
-enum Behind {
+enum LaterMembers {
     Nothing,
     Only(u32),
     Several,
 }
 
 // Whether a record of another member comes after one of this number.
-fn overtakes(behind: Behind, number: u32) -> bool
+fn overtakes(behind: LaterMembers, number: u32) -> bool
     ensures { result ≡ overtakes behind number }
 {
     match behind {
-        Behind::Nothing => false,
-        Behind::Only(other) => other != number,
-        Behind::Several => true,
+        LaterMembers::Nothing => false,
+        LaterMembers::Only(other) => other != number,
+        LaterMembers::Several => true,
     }
 }
 
 // The members of the later records, with a record of this number before them.
-fn in_front(behind: Behind, number: u32) -> Behind
-    ensures { IsInFront behind number result }
+fn prepended(behind: LaterMembers, number: u32) -> LaterMembers
+    ensures { IsPrepended behind number result }
 {
     match behind {
-        Behind::Nothing => Behind::Only(number),
-        Behind::Only(other) => {
+        LaterMembers::Nothing => LaterMembers::Only(number),
+        LaterMembers::Only(other) => {
             if other == number {
-                Behind::Only(number)
+                LaterMembers::Only(number)
             } else {
-                Behind::Several
+                LaterMembers::Several
             }
         }
-        Behind::Several => Behind::Several,
+        LaterMembers::Several => LaterMembers::Several,
     }
 }
 
 // The contents that count.
-pub(crate) fn counted(alloc: Global, raw: Numbered, fields: &[Field]) -> Result<Numbered, Memory>
-    requires { FieldsAscend fields.now }
-    ensures { IfOk result (λ kept. node_of kept.items ≡ counted fields.now (node_of raw.items)) }
+pub(crate) fn counted_records(
+    alloc: Global,
+    raw: Numbered,
+    fields: &[Field],
+) -> Result<Numbered, Memory>
+    requires { AreFieldsAscending fields.now }
+    ensures { IfOk result (λ kept. node_of kept.items ≡ counted_records fields.now (node_of raw.items)) }
 {
     if has_member(&raw, fields) {
-        counted_behind(alloc, raw, fields)
+        counted_from_end(alloc, raw, fields)
     } else {
         Ok(raw)
     }
 }
 
 // The contents that count, found from the last one to the first.
-fn counted_behind(alloc: Global, raw: Numbered, fields: &[Field]) -> Result<Numbered, Memory>
-    requires { FieldsAscend fields.now }
-    ensures { IfOk result (λ kept. node_of kept.items ≡ counted fields.now (node_of raw.items)) }
+fn counted_from_end(alloc: Global, raw: Numbered, fields: &[Field]) -> Result<Numbered, Memory>
+    requires { AreFieldsAscending fields.now }
+    ensures { IfOk result (λ kept. node_of kept.items ≡ counted_records fields.now (node_of raw.items)) }
 {
     let mut left = raw;
     let mut kept = Vec::with_capacity(alloc, left.len())?;
@@ -87,9 +91,9 @@ fn keep_if(kept: &mut Numbered, part: (u32, FieldValue), counts: bool) -> Result
 }
 
 // Whether a record counts, given the later ones; then adds it to them.
-fn counts(behind: &mut Vec<Behind>, fields: &[Field], number: u32) -> Result<bool, Memory>
-    requires { FieldsAscend fields.now }
-    ensures { IfOk result (λ b. SaysIfCounted fields.now behind.old.items number behind.new.items b) }
+fn counts(behind: &mut Vec<LaterMembers>, fields: &[Field], number: u32) -> Result<bool, Memory>
+    requires { AreFieldsAscending fields.now }
+    ensures { IfOk result (λ b. IsCountDecision fields.now behind.old.items number behind.new.items b) }
 {
     match oneof_at(fields, number) {
         Some(oneof) => note(behind, oneof, number),
@@ -98,35 +102,35 @@ fn counts(behind: &mut Vec<Behind>, fields: &[Field], number: u32) -> Result<boo
 }
 
 // Adds a record of a oneof to the later ones, and returns whether it counts.
-fn note(behind: &mut Vec<Behind>, oneof: usize, number: u32) -> Result<bool, Memory>
+fn note(behind: &mut Vec<LaterMembers>, oneof: usize, number: u32) -> Result<bool, Memory>
     requires { oneof < 2 ^ 32 }
     ensures noted { OnOk result (IsNotedAt behind.old.items oneof number behind.new.items) }
     ensures counts { IfOk result
-        (λ b. b ≡ not (overtakes (slice_index_or behind.old.items oneof Behind.Nothing) number)) }
+        (λ b. b ≡ not (overtakes (slice_index_or behind.old.items oneof LaterMembers.Nothing) number)) }
 {
     grow(behind, oneof)?;
     let tail = behind[oneof];
-    behind[oneof] = in_front(tail, number);
+    behind[oneof] = prepended(tail, number);
     Ok(!overtakes(tail, number))
 }
 
 // Extends the list so that a oneof has an entry.
-fn grow(behind: &mut Vec<Behind>, oneof: usize) -> Result<(), Memory>
+fn grow(behind: &mut Vec<LaterMembers>, oneof: usize) -> Result<(), Memory>
     requires { oneof < 2 ^ 32 }
     ensures within { OnOk result (oneof < length behind.new.items) }
     ensures same { OnOk result
-        ((p : ℕ) → slice_index_or behind.new.items p Behind.Nothing
-        ≡ slice_index_or behind.old.items p Behind.Nothing) }
+        ((p : ℕ) → slice_index_or behind.new.items p LaterMembers.Nothing
+        ≡ slice_index_or behind.old.items p LaterMembers.Nothing) }
 {
     while behind.len() <= oneof {
-        behind.push(Behind::Nothing)?;
+        behind.push(LaterMembers::Nothing)?;
     }
     Ok(())
 }
 
 // Whether any record is of a member of a oneof.
 fn has_member(raw: &Numbered, fields: &[Field]) -> bool
-    requires { FieldsAscend fields.now }
+    requires { AreFieldsAscending fields.now }
     ensures { result ≡ false → HasNoMember fields.now (node_of raw.now.items) }
 {
     for part in raw {
@@ -139,7 +143,7 @@ fn has_member(raw: &Numbered, fields: &[Field]) -> bool
 
 // The oneof that the field with a number is a member of.
 fn oneof_at(fields: &[Field], number: u32) -> Option<usize>
-    requires { FieldsAscend fields.now }
+    requires { AreFieldsAscending fields.now }
     ensures value { result ≡ oneof_at fields.now number }
     ensures small { IfSome result (λ o. o < 2 ^ 32) }
 {

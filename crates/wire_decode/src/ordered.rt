@@ -8,18 +8,18 @@ ghost use Rattle.mrpc_table.specs.declared.table.Kind.TheVariants.{Text, Octets,
 ghost use Rattle.mrpc_table.specs.declared.table.Label.TheVariants.{Map};
 ghost use Rattle.mrpc_table.specs.Words.{is_numeric, has_one_value};
 ghost use Rattle.mrpc_table.specs.SortedEntries.{items_of_entry};
-ghost use Rattle.wire_base.specs.Records.{TagAt, PayloadAt};
+ghost use Rattle.wire_base.specs.Records.{IsTagAt, IsPayloadAt};
 ghost use Rattle.mrpc_table.specs.WireTypes.{wire_type_of};
 ghost use Rattle.wire_base.specs.declared.records.Payload.{Payload};
 ghost use Rattle.wire_base.specs.declared.records.Payload.TheVariants.{Len};
-ghost use Rattle.mrpc_table.specs.Ascending.{AllAscend, FieldsAscend};
-ghost use Rattle.wire_decode.specs.Words.{is_list, number_in};
-ghost use Rattle.wire_decode.specs.Ordered.{IsWhole, IsValue, IsFieldRead, AreValues, AreEntriesRead, IsPair, may_follow, oneofs_with};
+ghost use Rattle.mrpc_table.specs.Ascending.{AreAllFieldsAscending, AreFieldsAscending};
+ghost use Rattle.wire_decode.specs.Words.{is_list, payload_number};
+ghost use Rattle.wire_decode.specs.Ordered.{HasEachField, IsValue, IsFieldRead, AreValues, AreEntriesRead, IsPair, may_follow, oneofs_with};
 ghost use Rattle.wire_decode.specs.Contents.{single_content};
 
-use crate::Spare;
+use crate::TreePool;
 use crate::merge::{many, pairs, present, present_if_set, push_content};
-use crate::number::word_of;
+use crate::number::word_form_of;
 use crate::read::{element, elements, is_text};
 use mrpc_table::{
     Entries, Field, FieldValue, Kind, Label, Numbered, Table, Tree, Value, Values, find_field,
@@ -33,17 +33,17 @@ use wire_base::{read_delimited, read_tag};
 #[cycle(ordered)]
 pub(crate) fn ordered_message(
     alloc: Global,
-    spare: &mut Spare,
+    spare: &mut TreePool,
     bytes: &[u8],
     start: usize,
     table: &Table,
     fields: &[Field],
     room: u32,
 ) -> Option<Numbered>
-    requires all { AllAscend table.now }
-    requires ascend { FieldsAscend fields.now }
+    requires all { AreAllFieldsAscending table.now }
+    requires ascend { AreFieldsAscending fields.now }
     requires place { start ≤ length bytes.now }
-    ensures { IfSome result (λ parts. IsWhole table.now room fields.now bytes.now start (node_of parts.items)) }
+    ensures { IfSome result (λ parts. HasEachField table.now room fields.now bytes.now start (node_of parts.items)) }
 {
     let most = fields.len().min((bytes.len() - start) / 2);
     let mut whole = spare.fields(alloc, most)?;
@@ -95,7 +95,7 @@ fn oneofs_with(label: Label, oneofs: u64) -> u64
 #[cycle(ordered)]
 fn ordered_field(
     alloc: Global,
-    spare: &mut Spare,
+    spare: &mut TreePool,
     whole: &mut Numbered,
     bytes: &[u8],
     start: usize,
@@ -105,7 +105,7 @@ fn ordered_field(
     kind: Kind,
     room: u32,
 ) -> Option<usize>
-    requires all { AllAscend table.now }
+    requires all { AreAllFieldsAscending table.now }
     requires place { start ≤ length bytes.now }
     ensures found { IfSome result
         (λ next. IsFieldRead table.now room label kind bytes.now tag start next
@@ -133,7 +133,7 @@ fn ordered_field(
 #[inline(always)]
 fn ordered_single(
     alloc: Global,
-    spare: &mut Spare,
+    spare: &mut TreePool,
     whole: &mut Numbered,
     bytes: &[u8],
     start: usize,
@@ -143,7 +143,7 @@ fn ordered_single(
     kind: Kind,
     room: u32,
 ) -> Option<usize>
-    requires all { AllAscend table.now }
+    requires all { AreAllFieldsAscending table.now }
     requires place { start ≤ length bytes.now }
     requires single { has_one_value label ≡ true }
     ensures found { IfSome result
@@ -182,7 +182,7 @@ fn ordered_number(
     ensures within { IfSome result (λ next. next ≤ length bytes.now) }
 {
     let (v, next) = number_at(bytes, start, tag, kind)?;
-    let value = Value::Number(word_of(kind, v));
+    let value = Value::Number(word_form_of(kind, v));
     push_content(whole, tag / 8, single_content(label, value)).ok()?;
     Some(next)
 }
@@ -203,7 +203,7 @@ fn single_content(label: Label, value: Value) -> Option<FieldValue>
 #[inline(never)]
 fn ordered_list(
     alloc: Global,
-    spare: &mut Spare,
+    spare: &mut TreePool,
     whole: &mut Numbered,
     bytes: &[u8],
     start: usize,
@@ -213,7 +213,7 @@ fn ordered_list(
     kind: Kind,
     room: u32,
 ) -> Option<usize>
-    requires all { AllAscend table.now }
+    requires all { AreAllFieldsAscending table.now }
     requires place { start ≤ length bytes.now }
     requires list { is_list label ≡ true }
     ensures found { IfSome result
@@ -223,7 +223,7 @@ fn ordered_list(
     ensures within { IfSome result (λ next. next ≤ length bytes.now) }
 {
     if tag % 8 == 2 && kind.is_numeric() {
-        return ordered_piece(
+        return ordered_packed(
             alloc, spare, whole, bytes, start, tag, table, label, kind, room,
         );
     }
@@ -233,9 +233,9 @@ fn ordered_list(
 }
 
 // Like `ordered_list`, for numbers in one packed payload.
-fn ordered_piece(
+fn ordered_packed(
     alloc: Global,
-    spare: &mut Spare,
+    spare: &mut TreePool,
     whole: &mut Numbered,
     bytes: &[u8],
     start: usize,
@@ -266,7 +266,7 @@ fn ordered_piece(
 #[inline(never)]
 fn ordered_map(
     alloc: Global,
-    spare: &mut Spare,
+    spare: &mut TreePool,
     whole: &mut Numbered,
     bytes: &[u8],
     start: usize,
@@ -276,7 +276,7 @@ fn ordered_map(
     kind: Kind,
     room: u32,
 ) -> Option<usize>
-    requires all { AllAscend table.now }
+    requires all { AreAllFieldsAscending table.now }
     requires place { start ≤ length bytes.now }
     ensures found { IfSome result
         (λ next. IsFieldRead table.now room (Map key) kind bytes.now tag start next
@@ -294,7 +294,7 @@ fn ordered_map(
 #[cycle(ordered)]
 fn ordered_values(
     alloc: Global,
-    spare: &mut Spare,
+    spare: &mut TreePool,
     bytes: &[u8],
     start: usize,
     tag: u32,
@@ -302,7 +302,7 @@ fn ordered_values(
     kind: Kind,
     room: u32,
 ) -> Option<(Values, usize)>
-    requires all { AllAscend table.now }
+    requires all { AreAllFieldsAscending table.now }
     requires place { start ≤ length bytes.now }
     ensures found { IfSome result (λ r. AreValues table.now room kind bytes.now tag start r.1 (map item_of r.0.items)) }
     ensures ahead { IfSome result (λ r. start < r.1) }
@@ -312,7 +312,7 @@ fn ordered_values(
     let mut first = start;
     while first <= bytes.len() {
         let (value, next) = ordered_value(alloc, spare, bytes, first, tag, table, kind, room)?;
-        let again = tag_again(bytes, next, tag);
+        let again = same_tag_at(bytes, next, tag);
         room_ahead(&mut values, bytes, again, tag)?;
         values.push(value).ok()?;
         match again {
@@ -342,9 +342,9 @@ fn room_ahead<T>(vector: &mut Vec<T>, bytes: &[u8], again: Option<usize>, tag: u
 }
 
 // The offset after the same tag, if it is at this offset.
-fn tag_again(bytes: &[u8], at: usize, tag: u32) -> Option<usize>
+fn same_tag_at(bytes: &[u8], at: usize, tag: u32) -> Option<usize>
     requires { at ≤ length bytes.now }
-    ensures found { IfSome result (λ behind. TagAt bytes.now at tag behind) }
+    ensures found { IfSome result (λ behind. IsTagAt bytes.now at tag behind) }
     ensures ahead { IfSome result (λ behind. at < behind) }
     ensures within { IfSome result (λ behind. behind ≤ length bytes.now) }
 {
@@ -359,7 +359,7 @@ fn records_ahead(bytes: &[u8], start: usize, tag: u32) -> usize
 {
     let mut first = start;
     for count in 1..bytes.len() {
-        match record_behind(bytes, first, tag) {
+        match next_same_tag(bytes, first, tag) {
             Some(next) => first = next,
             None => return count,
         }
@@ -368,7 +368,7 @@ fn records_ahead(bytes: &[u8], start: usize, tag: u32) -> usize
 }
 
 // The offset after the tag of the next record, if it is the same tag.
-fn record_behind(bytes: &[u8], start: usize, tag: u32) -> Option<usize>
+fn next_same_tag(bytes: &[u8], start: usize, tag: u32) -> Option<usize>
     requires { start ≤ length bytes.now }
     ensures { IfSome result (λ next. next ≤ length bytes.now) }
 {
@@ -376,14 +376,14 @@ fn record_behind(bytes: &[u8], start: usize, tag: u32) -> Option<usize>
         return None;
     }
     let (_, end) = span_at(bytes, start)?;
-    tag_again(bytes, end, tag)
+    same_tag_at(bytes, end, tag)
 }
 
 // The entries of a map whose first tag ends at `start`, and the end of their records.
 #[cycle(ordered)]
 fn ordered_entries(
     alloc: Global,
-    spare: &mut Spare,
+    spare: &mut TreePool,
     bytes: &[u8],
     start: usize,
     tag: u32,
@@ -392,7 +392,7 @@ fn ordered_entries(
     kind: Kind,
     room: u32,
 ) -> Option<(Entries, usize)>
-    requires all { AllAscend table.now }
+    requires all { AreAllFieldsAscending table.now }
     requires place { start ≤ length bytes.now }
     ensures found { IfSome result
         (λ r. AreEntriesRead table.now room key kind bytes.now tag start r.1 (map items_of_entry r.0.items)) }
@@ -407,7 +407,7 @@ fn ordered_entries(
     while first <= bytes.len() {
         let (inside, next) = span_at(bytes, first)?;
         let entry = ordered_entry(alloc, spare, &bytes[..next], inside, table, key, kind, room)?;
-        let again = tag_again(bytes, next, tag);
+        let again = same_tag_at(bytes, next, tag);
         room_ahead(&mut entries, bytes, again, tag)?;
         entries.push(entry).ok()?;
         match again {
@@ -422,7 +422,7 @@ fn ordered_entries(
 #[cycle(ordered)]
 fn ordered_entry(
     alloc: Global,
-    spare: &mut Spare,
+    spare: &mut TreePool,
     bytes: &[u8],
     start: usize,
     table: &Table,
@@ -430,7 +430,7 @@ fn ordered_entry(
     kind: Kind,
     room: u32,
 ) -> Option<(Value, Value)>
-    requires all { AllAscend table.now }
+    requires all { AreAllFieldsAscending table.now }
     requires place { start ≤ length bytes.now }
     ensures { IfSome result (λ e. IsPair table.now room key kind bytes.now start (items_of_entry e)) }
 {
@@ -456,7 +456,7 @@ fn ordered_entry(
 #[inline(never)]
 fn ordered_value(
     alloc: Global,
-    spare: &mut Spare,
+    spare: &mut TreePool,
     bytes: &[u8],
     start: usize,
     tag: u32,
@@ -464,7 +464,7 @@ fn ordered_value(
     kind: Kind,
     room: u32,
 ) -> Option<(Value, usize)>
-    requires all { AllAscend table.now }
+    requires all { AreAllFieldsAscending table.now }
     requires place { start ≤ length bytes.now }
     ensures found { IfSome result (λ r. IsValue table.now room kind bytes.now start (tag % 8) (item_of r.0) r.1) }
     ensures ahead { IfSome result (λ r. start < r.1) }
@@ -493,13 +493,13 @@ fn number_value(
     ensures within { IfSome result (λ r. r.1 ≤ length bytes.now) }
 {
     let (v, next) = number_at(bytes, start, tag, kind)?;
-    Some((Value::Number(word_of(kind, v)), next))
+    Some((Value::Number(word_form_of(kind, v)), next))
 }
 
 // Text after its length.
 fn ordered_text(
     alloc: Global,
-    spare: &mut Spare,
+    spare: &mut TreePool,
     bytes: &[u8],
     start: usize,
     tag: u32,
@@ -526,7 +526,7 @@ fn ordered_text(
 // Bytes after their length.
 fn ordered_octets(
     alloc: Global,
-    spare: &mut Spare,
+    spare: &mut TreePool,
     bytes: &[u8],
     start: usize,
     tag: u32,
@@ -551,7 +551,7 @@ fn ordered_octets(
 #[cycle(ordered)]
 fn ordered_node(
     alloc: Global,
-    spare: &mut Spare,
+    spare: &mut TreePool,
     bytes: &[u8],
     start: usize,
     tag: u32,
@@ -559,7 +559,7 @@ fn ordered_node(
     place: u32,
     room: u32,
 ) -> Option<(Value, usize)>
-    requires all { AllAscend table.now }
+    requires all { AreAllFieldsAscending table.now }
     requires place { start ≤ length bytes.now }
     ensures found { IfSome result
         (λ r. IsValue table.now room (OfMessage place) bytes.now start (tag % 8) (item_of r.0) r.1) }
@@ -590,7 +590,7 @@ fn number_at(bytes: &[u8], start: usize, tag: u32, kind: Kind) -> Option<(u64, u
     requires numeric { is_numeric kind ≡ true }
     ensures fits { IfSome result (λ _. tag % 8 ≡ wire_type_of kind) }
     ensures found { IfSome result
-        (λ e. (p : Payload) × PayloadAt bytes.now start (wire_type_of kind) p e.1 × (e.0 ≡ number_in p)) }
+        (λ e. (p : Payload) × IsPayloadAt bytes.now start (wire_type_of kind) p e.1 × (e.0 ≡ payload_number p)) }
     ensures ahead { IfSome result (λ e. start < e.1) }
     ensures within { IfSome result (λ e. e.1 ≤ length bytes.now) }
 {
@@ -604,7 +604,7 @@ fn number_at(bytes: &[u8], start: usize, tag: u32, kind: Kind) -> Option<(u64, u
 // Reads a length, and returns the range of the bytes after it.
 fn span_at(bytes: &[u8], start: usize) -> Option<(usize, usize)>
     requires { start ≤ length bytes.now }
-    ensures found { IfSome result (λ r. PayloadAt bytes.now start 2 (Len r.0 r.1) r.1) }
+    ensures found { IfSome result (λ r. IsPayloadAt bytes.now start 2 (Len r.0 r.1) r.1) }
     ensures ahead { IfSome result (λ r. start < r.0) }
     ensures order { IfSome result (λ r. r.0 ≤ r.1) }
     ensures within { IfSome result (λ r. r.1 ≤ length bytes.now) }

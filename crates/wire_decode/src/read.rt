@@ -4,21 +4,21 @@ ghost use Rattle.std.specs.Prelude.{◌≡◌, ℕ, ◌+◌, ◌<◌, ◌≤◌,
 ghost use Rattle.mrpc_table.specs.View.{items_of, content_of, node_of};
 ghost use Rattle.mrpc_table.specs.Node.{one, run, number as number_item};
 ghost use Rattle.mrpc_table.specs.Words.{is_numeric};
-ghost use Rattle.wire_base.specs.Records.{PayloadAt, VarintAt, IsWithin};
+ghost use Rattle.wire_base.specs.Records.{IsPayloadAt, IsVarintAt, IsWithin};
 ghost use Rattle.wire_base.specs.declared.records.Payload.{Payload};
-ghost use Rattle.mrpc_table.specs.Ascending.{AllAscend, FieldsAscend};
-ghost use Rattle.wire_decode.specs.Words.{AreElements, number_in, suits, word_of};
-ghost use Rattle.wire_decode.specs.Reads.{Reads, Holds, numbers};
-ghost use Rattle.wire_decode.specs.Known.{is_message};
-ghost use Rattle.wire_decode.specs.Parts.{IsPiece, NoPiece, IsFixedOrVarint, IsEntry, NoEntry, IsInner, NoInner};
+ghost use Rattle.mrpc_table.specs.Ascending.{AreAllFieldsAscending, AreFieldsAscending};
+ghost use Rattle.wire_decode.specs.Words.{AreElements, payload_number, accepts_payload, word_form_of};
+ghost use Rattle.wire_decode.specs.RawMessages.{IsRawMessage, IsContentUnder, numbers};
+ghost use Rattle.wire_decode.specs.Known.{is_message_kind};
+ghost use Rattle.wire_decode.specs.Parts.{IsPackedPayload, HasNoPackedPayload, IsFixedOrVarint, IsEntry, IsEntryFault, IsInner, IsInnerFault};
 ghost use Rattle.std.specs.Str.{IsUtf8};
-ghost use Rattle.wire_decode.specs.FaultWalk.{MeetsFault, Fails};
-ghost use Rattle.wire_decode.specs.Reason.{reason_of};
-ghost use Rattle.wire_decode.specs.Faults.{FaultsAs};
+ghost use Rattle.wire_decode.specs.FaultWalk.{IsFaultReached, IsPayloadFault};
+ghost use Rattle.wire_decode.specs.Reason.{decode_reason_of};
+ghost use Rattle.wire_decode.specs.Faults.{OnDecodeFault};
 ghost use Rattle.wire_decode.specs.declared.fault.DecodeReason.TheVariants.{PackedLength, Utf8};
 
 use crate::fault::{DecodeFault, DecodeReason};
-use crate::number::{is_message, suits, word_of};
+use crate::number::{accepts_payload, is_message_kind, word_form_of};
 use mrpc_table::{
     Bytes, Field, FieldValue, Kind, Label, Name, Numbered, Table, Tree, Value, Values, find_field,
 };
@@ -39,13 +39,13 @@ pub(crate) fn read_message(
     fields: &[Field],
     room: u32,
 ) -> Result<Numbered, DecodeFault>
-    requires all { AllAscend table.now }
-    requires ascend { FieldsAscend fields.now }
+    requires all { AreAllFieldsAscending table.now }
+    requires ascend { AreFieldsAscending fields.now }
     requires place { start ≤ length bytes.now }
     ensures found { IfOk result
-        (λ parts. Reads table.now room fields.now bytes.now start (node_of parts.items)) }
+        (λ parts. IsRawMessage table.now room fields.now bytes.now start (node_of parts.items)) }
     ensures fault { IfErr result
-        (FaultsAs (λ reason place. MeetsFault table.now room fields.now bytes.now start reason place)) }
+        (OnDecodeFault (λ reason place. IsFaultReached table.now room fields.now bytes.now start reason place)) }
 {
     let mut parts = Vec::new(alloc);
     let mut at = start;
@@ -53,13 +53,13 @@ pub(crate) fn read_message(
     while at < bytes.len() {
         let record = match read_record(bytes, at) {
             Ok(record) => record,
-            Err(fault) => return Err(told(fault)),
+            Err(fault) => return Err(to_decode_fault(fault)),
         };
         if let Some(place) = find_field(fields, record.number, hint) {
             hint = place;
             let field = &fields[place];
             let (label, kind) = (field.label, field.kind);
-            if suits(label, kind, record.payload) {
+            if accepts_payload(label, kind, record.payload) {
                 let content = content(alloc, bytes, record.payload, table, label, kind, room)?;
                 parts.push((record.number, content))?;
             }
@@ -70,8 +70,8 @@ pub(crate) fn read_message(
 }
 
 // The fault of a record as a fault of the message.
-fn told(fault: WireFault) -> DecodeFault
-    ensures { FaultsAs (λ reason place. (reason ≡ reason_of fault.reason) × (place ≡ fault.place)) result }
+fn to_decode_fault(fault: WireFault) -> DecodeFault
+    ensures { OnDecodeFault (λ reason place. (reason ≡ decode_reason_of fault.reason) × (place ≡ fault.place)) result }
 {
     let reason = match fault.reason {
         WireReason::Varint => DecodeReason::Varint,
@@ -97,12 +97,12 @@ fn content(
     kind: Kind,
     room: u32,
 ) -> Result<FieldValue, DecodeFault>
-    requires all { AllAscend table.now }
+    requires all { AreAllFieldsAscending table.now }
     requires within { IsWithin (length bytes.now) payload }
-    requires suits { suits label kind payload ≡ true }
-    ensures found { IfOk result (λ c. Holds table.now room label kind bytes.now payload (content_of c)) }
+    requires suits { accepts_payload label kind payload ≡ true }
+    ensures found { IfOk result (λ c. IsContentUnder table.now room label kind bytes.now payload (content_of c)) }
     ensures fault { IfErr result
-        (FaultsAs (λ reason place. Fails table.now room label kind bytes.now payload reason place)) }
+        (OnDecodeFault (λ reason place. IsPayloadFault table.now room label kind bytes.now payload reason place)) }
 {
     match payload {
         Payload::Varint(v) | Payload::I64(v) => Ok(number(kind, v)),
@@ -120,9 +120,9 @@ fn content(
 }
 
 fn number(kind: Kind, v: u64) -> FieldValue
-    ensures { content_of result ≡ one (number_item (word_of kind v)) }
+    ensures { content_of result ≡ one (number_item (word_form_of kind v)) }
 {
-    FieldValue::One(Value::Number(word_of(kind, v)))
+    FieldValue::One(Value::Number(word_form_of(kind, v)))
 }
 
 // The entry of a map.
@@ -136,11 +136,11 @@ fn entry(
     kind: Kind,
     room: u32,
 ) -> Result<FieldValue, DecodeFault>
-    requires all { AllAscend table.now }
+    requires all { AreAllFieldsAscending table.now }
     requires place { start ≤ length bytes.now }
     ensures found { IfOk result (λ c. IsEntry table.now room key kind bytes.now start (content_of c)) }
     ensures fault { IfErr result
-        (FaultsAs (λ reason place. NoEntry table.now room key kind bytes.now start reason place)) }
+        (OnDecodeFault (λ reason place. IsEntryFault table.now room key kind bytes.now start reason place)) }
 {
     let parts = [
         Field {
@@ -157,7 +157,7 @@ fn entry(
         },
     ];
     let fields = read_message(alloc, bytes, start, table, &parts, room)?;
-    if room == 0 && is_message(kind) {
+    if room == 0 && is_message_kind(kind) {
         return Err(fault(DecodeReason::Depth, start));
     }
     Ok(FieldValue::One(Value::Node(Tree { fields })))
@@ -173,11 +173,11 @@ fn message(
     place: u32,
     room: u32,
 ) -> Result<FieldValue, DecodeFault>
-    requires all { AllAscend table.now }
+    requires all { AreAllFieldsAscending table.now }
     requires place { start ≤ length bytes.now }
     ensures found { IfOk result (λ c. IsInner table.now room place bytes.now start (content_of c)) }
     ensures fault { IfErr result
-        (FaultsAs (λ reason at. NoInner table.now room place bytes.now start reason at)) }
+        (OnDecodeFault (λ reason at. IsInnerFault table.now room place bytes.now start reason at)) }
 {
     if room == 0 {
         return Err(fault(DecodeReason::Depth, start));
@@ -187,7 +187,7 @@ fn message(
 }
 
 fn fault(reason: DecodeReason, place: usize) -> DecodeFault
-    ensures { FaultsAs (λ r p. (r ≡ reason) × (p ≡ place)) result }
+    ensures { OnDecodeFault (λ r p. (r ≡ reason) × (p ≡ place)) result }
 {
     DecodeFault::At { reason, place }
 }
@@ -196,7 +196,7 @@ fn fault(reason: DecodeReason, place: usize) -> DecodeFault
 fn text(alloc: Global, bytes: &[u8], place: usize) -> Result<FieldValue, DecodeFault>
     ensures found { IfOk result (λ c. (content_of c ≡ one (run bytes.now)) × IsUtf8 bytes.now) }
     ensures fault { IfErr result
-        (FaultsAs (λ reason at. (reason ≡ Utf8) × (at ≡ place) × (IsUtf8 bytes.now → ⊥))) }
+        (OnDecodeFault (λ reason at. (reason ≡ Utf8) × (at ≡ place) × (IsUtf8 bytes.now → ⊥))) }
 {
     if !is_text(bytes) {
         return Err(fault(DecodeReason::Utf8, place));
@@ -215,7 +215,7 @@ pub(crate) fn is_text(bytes: &[u8]) -> bool
 // Bytes.
 fn octets(alloc: Global, bytes: &[u8]) -> Result<FieldValue, DecodeFault>
     ensures found { IfOk result (λ c. content_of c ≡ one (run bytes.now)) }
-    ensures fault { IfErr result (FaultsAs (λ reason at. ⊥)) }
+    ensures fault { IfErr result (OnDecodeFault (λ reason at. ⊥)) }
 {
     let run = Bytes::from_slice(alloc, bytes)?;
     Ok(FieldValue::One(Value::Run(run)))
@@ -225,9 +225,9 @@ fn octets(alloc: Global, bytes: &[u8]) -> Result<FieldValue, DecodeFault>
 fn packed(alloc: Global, bytes: &[u8], start: usize, kind: Kind) -> Result<FieldValue, DecodeFault>
     requires place { start ≤ length bytes.now }
     requires numeric { is_numeric kind ≡ true }
-    ensures found { IfOk result (λ c. IsPiece kind bytes.now start (content_of c)) }
+    ensures found { IfOk result (λ c. IsPackedPayload kind bytes.now start (content_of c)) }
     ensures fault { IfErr result
-        (FaultsAs (λ reason at. (reason ≡ PackedLength) × (at ≡ start) × NoPiece kind bytes.now start)) }
+        (OnDecodeFault (λ reason at. (reason ≡ PackedLength) × (at ≡ start) × HasNoPackedPayload kind bytes.now start)) }
 {
     let values = elements(Vec::new(alloc), bytes, start, kind)?;
     Ok(FieldValue::Many(values))
@@ -246,7 +246,7 @@ pub(crate) fn elements(
     ensures found { IfOk result
         (λ vs. (ws : List ℕ) × AreElements kind bytes.now start ws × (items_of vs.items ≡ numbers ws)) }
     ensures fault { IfErr result
-        (FaultsAs (λ reason at. (reason ≡ PackedLength) × (at ≡ start) × NoPiece kind bytes.now start)) }
+        (OnDecodeFault (λ reason at. (reason ≡ PackedLength) × (at ≡ start) × HasNoPackedPayload kind bytes.now start)) }
 {
     payload_or_reason();
     let wire_type = kind.wire_type();
@@ -257,7 +257,7 @@ pub(crate) fn elements(
             Some(found) => found,
             None => return Err(fault(DecodeReason::PackedLength, start)),
         };
-        values.push(Value::Number(word_of(kind, v)))?;
+        values.push(Value::Number(word_form_of(kind, v)))?;
         at = next;
     }
     Ok(values)
@@ -288,10 +288,10 @@ pub(crate) fn element(bytes: &[u8], at: usize, wire_type: u64) -> Option<(u64, u
     requires place { at ≤ length bytes.now }
     requires fixed { IsFixedOrVarint wire_type }
     ensures found { IfSome result
-        (λ e. (p : Payload) × PayloadAt bytes.now at wire_type p e.1 × (e.0 ≡ number_in p)) }
+        (λ e. (p : Payload) × IsPayloadAt bytes.now at wire_type p e.1 × (e.0 ≡ payload_number p)) }
     ensures ahead { IfSome result (λ e. at < e.1) }
     ensures within { IfSome result (λ e. e.1 ≤ length bytes.now) }
-    ensures none { IfNone result ((p : Payload) (next : ℕ) → PayloadAt bytes.now at wire_type p next → ⊥) }
+    ensures none { IfNone result ((p : Payload) (next : ℕ) → IsPayloadAt bytes.now at wire_type p next → ⊥) }
 {
     if wire_type == 1 {
         read_fixed64(bytes, at)
@@ -306,8 +306,8 @@ pub(crate) fn element(bytes: &[u8], at: usize, wire_type: u64) -> Option<(u64, u
 // The value of the varint at an offset, and the offset after it.
 fn varint(bytes: &[u8], at: usize) -> Option<(u64, usize)>
     requires { at ≤ length bytes.now }
-    ensures found { IfSome result (λ e. VarintAt bytes.now at e.0 e.1) }
-    ensures none { IfNone result ((v next : ℕ) → VarintAt bytes.now at v next → ⊥) }
+    ensures found { IfSome result (λ e. IsVarintAt bytes.now at e.0 e.1) }
+    ensures none { IfNone result ((v next : ℕ) → IsVarintAt bytes.now at v next → ⊥) }
 {
     match read_varint(bytes, at) {
         Ok(found) => Some(found),

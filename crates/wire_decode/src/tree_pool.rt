@@ -1,7 +1,7 @@
 //! The pool of vectors from trees that are no longer needed.
 
 ghost use Rattle.std.specs.Prelude.{◌≡◌, ℕ, [], IfSome};
-ghost use Rattle.wire_decode.specs.Kept.{IsBounded, AreFew, nothing_kept, rooms};
+ghost use Rattle.wire_decode.specs.TreePool.{IsBounded, AreWithinLimits, empty_pool, capacities};
 
 use mrpc_table::{Bytes, Entries, FieldValue, Numbered, Tree, Value, Values};
 use std::alloc::Global;
@@ -23,29 +23,29 @@ const MAX_RUN_ROOM: usize = 4096;
 /// have a capacity of at most 256, and those of a run's bytes of at most 4,096. So no more than about 20 MiB are held,
 /// whatever trees are taken back.
 #[derive(Drop)]
-pub struct Spare {
+pub struct TreePool {
     fields: Vec<Numbered>,
     lists: Vec<Values>,
     entries: Vec<Entries>,
     runs: Vec<Vec<u8>>,
 }
 
-impl Model for Spare {
-    ghost use Rattle.wire_decode.specs.Kept.{Kept, IsBounded, kept_of};
+impl Model for TreePool {
+    ghost use Rattle.wire_decode.specs.TreePool.{PoolState, IsBounded, pool_of};
 
-    ghost Value = { Kept };
+    ghost Value = { PoolState };
 
-    ghost view = { λ s. kept_of s.fields.items s.lists.items s.entries.items s.runs.items };
+    ghost view = { λ s. pool_of s.fields.items s.lists.items s.entries.items s.runs.items };
 
-    ghost invariant = { λ s. IsBounded (kept_of s.fields.items s.lists.items s.entries.items s.runs.items) };
+    ghost invariant = { λ s. IsBounded (pool_of s.fields.items s.lists.items s.entries.items s.runs.items) };
 }
 
-impl Spare {
+impl TreePool {
     /// An empty pool. It allocates nothing.
-    pub fn new(alloc: Global) -> Spare
-        ensures { result ≡ nothing_kept }
+    pub fn new(alloc: Global) -> TreePool
+        ensures { result ≡ empty_pool }
     {
-        Spare {
+        TreePool {
             fields: Vec::new(alloc),
             lists: Vec::new(alloc),
             entries: Vec::new(alloc),
@@ -57,49 +57,49 @@ impl Spare {
     /// of the messages in it. It also keeps those of its runs, whose bytes stay until they are reused. A vector above
     /// the limits is dropped, and so is one that can't be kept because it is out of memory. Takes time linear in the
     /// parts of the tree.
-    #[cycle(take_back)]
-    pub fn take_back(&mut self, tree: Tree)
+    #[cycle(recycle)]
+    pub fn recycle(&mut self, tree: Tree)
         ensures { IsBounded self.new }
     {
         let mut fields = tree.fields;
         while let Some((_, content)) = fields.pop() {
-            self.take_content(content);
+            self.recycle_content(content);
         }
         keep(&mut self.fields, fields, MAX_ROOM);
     }
 
-    #[cycle(take_back)]
-    fn take_content(&mut self, content: FieldValue) {
+    #[cycle(recycle)]
+    fn recycle_content(&mut self, content: FieldValue) {
         match content {
-            FieldValue::One(value) => self.take_value(value),
-            FieldValue::Many(values) => self.take_list(values),
-            FieldValue::Pairs(entries) => self.take_entries(entries),
+            FieldValue::One(value) => self.recycle_value(value),
+            FieldValue::Many(values) => self.recycle_list(values),
+            FieldValue::Pairs(entries) => self.recycle_entries(entries),
         }
     }
 
-    #[cycle(take_back)]
-    fn take_list(&mut self, mut values: Values) {
+    #[cycle(recycle)]
+    fn recycle_list(&mut self, mut values: Values) {
         while let Some(value) = values.pop() {
-            self.take_value(value);
+            self.recycle_value(value);
         }
         keep(&mut self.lists, values, MAX_ROOM);
     }
 
-    #[cycle(take_back)]
-    fn take_entries(&mut self, mut entries: Entries) {
+    #[cycle(recycle)]
+    fn recycle_entries(&mut self, mut entries: Entries) {
         while let Some((key, value)) = entries.pop() {
-            self.take_value(key);
-            self.take_value(value);
+            self.recycle_value(key);
+            self.recycle_value(value);
         }
         keep(&mut self.entries, entries, MAX_ROOM);
     }
 
-    #[cycle(take_back)]
-    fn take_value(&mut self, value: Value) {
+    #[cycle(recycle)]
+    fn recycle_value(&mut self, value: Value) {
         match value {
             Value::Number(_) => {}
             Value::Run(run) => keep(&mut self.runs, run.into_vec(), MAX_RUN_ROOM),
-            Value::Node(tree) => self.take_back(tree),
+            Value::Node(tree) => self.recycle(tree),
         }
     }
 
@@ -141,8 +141,8 @@ impl Spare {
 
 // Keeps a vector, unless there are enough of them or its capacity is above `most`.
 fn keep<T: Drop>(kept: &mut Vec<Vec<T>>, vector: Vec<T>, most: usize)
-    requires { AreFew (rooms kept.old.items) most }
-    ensures { AreFew (rooms kept.new.items) most }
+    requires { AreWithinLimits (capacities kept.old.items) most }
+    ensures { AreWithinLimits (capacities kept.new.items) most }
 {
     if kept.len() < MAX_KEPT && vector.capacity() <= most {
         let _ = kept.push(vector);
@@ -152,7 +152,7 @@ fn keep<T: Drop>(kept: &mut Vec<Vec<T>>, vector: Vec<T>, most: usize)
 // The vector that was kept last, emptied, or a new one.
 fn empty<T: Drop>(alloc: Global, kept: &mut Vec<Vec<T>>) -> Vec<T>
     ensures value { result.items ≡ [] }
-    ensures few { (most : ℕ) → AreFew (rooms kept.old.items) most → AreFew (rooms kept.new.items) most }
+    ensures few { (most : ℕ) → AreWithinLimits (capacities kept.old.items) most → AreWithinLimits (capacities kept.new.items) most }
 {
     match kept.pop() {
         Some(mut vector) => {

@@ -11,18 +11,18 @@ ghost use Rattle.std.specs.Prelude.{◌≡◌, ◌<◌, [], length, IfOk, OnOk, 
 ghost use Rattle.mrpc_table.specs.Valid.{IsValid};
 ghost use Rattle.mrpc_table.specs.Normal.{IsNormal};
 ghost use Rattle.wire_base.specs.Encoding.{encoding, fields_bytes};
-ghost use Rattle.mrpc_table.specs.Ascending.{AllAscend, FieldsAscend};
+ghost use Rattle.mrpc_table.specs.Ascending.{AreAllFieldsAscending, AreFieldsAscending};
 ghost use Rattle.mrpc_table.specs.Capped.{capped};
 
+mod backward_buffer;
 mod look_up;
-mod output;
 mod size;
 mod write;
 
 use crate::size::message_len;
 use crate::write::write_message;
+pub use backward_buffer::BackwardBuffer;
 use mrpc_table::{Bytes, Field, Memory, Table, Tree};
-pub use output::Output;
 use std::alloc::Global;
 
 /// The encoding of a normal tree of the message at index `msg` of the table.
@@ -40,7 +40,12 @@ pub fn encode(alloc: Global, tree: &Tree, table: &Table, msg: u32) -> Result<Byt
 
 /// Like `encode`, but overwrites `out` and reuses its capacity. A caller with many trees allocates only for a tree that
 /// is longer than all before. If it is out of memory, `out` is empty.
-pub fn encode_into(out: &mut Output, tree: &Tree, table: &Table, msg: u32) -> Result<(), Memory>
+pub fn encode_into(
+    out: &mut BackwardBuffer,
+    tree: &Tree,
+    table: &Table,
+    msg: u32,
+) -> Result<(), Memory>
     requires valid { IsValid table.now }
     requires known { msg < length table.now.messages }
     requires normal { IsNormal table.now msg tree.now }
@@ -63,24 +68,24 @@ pub fn encoded_len(tree: &Tree, table: &Table, msg: u32) -> u64
 
 // The encoding of any tree as a message with these fields.
 fn encoded(alloc: Global, tree: &Tree, table: &Table, fields: &[Field]) -> Result<Bytes, Memory>
-    requires all { AllAscend table.now }
-    requires ascend { FieldsAscend fields.now }
+    requires all { AreAllFieldsAscending table.now }
+    requires ascend { AreFieldsAscending fields.now }
     ensures { IfOk result (λ bytes. bytes ≡ fields_bytes table.now fields.now tree.now) }
 {
-    let mut out = Output::new(alloc)?;
+    let mut out = BackwardBuffer::new(alloc)?;
     write_message(&mut out, tree, table, fields)?;
     Ok(out.into_bytes())
 }
 
 // Like `encoded`, but overwrites `out`.
 fn encoded_into(
-    out: &mut Output,
+    out: &mut BackwardBuffer,
     tree: &Tree,
     table: &Table,
     fields: &[Field],
 ) -> Result<(), Memory>
-    requires all { AllAscend table.now }
-    requires ascend { FieldsAscend fields.now }
+    requires all { AreAllFieldsAscending table.now }
+    requires ascend { AreFieldsAscending fields.now }
     ensures written { OnOk result (out.new ≡ fields_bytes table.now fields.now tree.now) }
     ensures memory { OnErr result (out.new ≡ []) }
 {

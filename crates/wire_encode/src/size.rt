@@ -3,7 +3,7 @@
 ghost use Rattle.std.specs.Prelude.{◌≡◌, ℕ, ◌+◌, ◌<◌, length};
 ghost use Rattle.mrpc_table.specs.View.{item_of, items_of, pairs_of, content_of};
 ghost use Rattle.wire_base.specs.Encoding.{varint, tag, number_bytes, item_bytes, joined_bytes, records_bytes, entries_bytes, content_bytes, fields_bytes};
-ghost use Rattle.mrpc_table.specs.Ascending.{AllAscend, FieldsAscend};
+ghost use Rattle.mrpc_table.specs.Ascending.{AreAllFieldsAscending, AreFieldsAscending};
 ghost use Rattle.mrpc_table.specs.Capped.{capped};
 
 use crate::look_up::type_of;
@@ -13,8 +13,8 @@ use wire_base::{varint_len, zigzag};
 // The length of a message.
 #[cycle(size)]
 pub(crate) fn message_len(tree: &Tree, table: &Table, fields: &[Field]) -> u64
-    requires all { AllAscend table.now }
-    requires ascend { FieldsAscend fields.now }
+    requires all { AreAllFieldsAscending table.now }
+    requires ascend { AreFieldsAscending fields.now }
     ensures { result ≡ capped (length (fields_bytes table.now fields.now tree.now)) }
 {
     let mut total = 0u64;
@@ -27,8 +27,8 @@ pub(crate) fn message_len(tree: &Tree, table: &Table, fields: &[Field]) -> u64
 // The length of the content of a field.
 #[cycle(size)]
 fn field_len(content: &FieldValue, table: &Table, fields: &[Field], number: u32) -> u64
-    requires all { AllAscend table.now }
-    requires ascend { FieldsAscend fields.now }
+    requires all { AreAllFieldsAscending table.now }
+    requires ascend { AreFieldsAscending fields.now }
     ensures { result
         ≡ capped (length (content_bytes table.now fields.now number (content_of content.now))) }
 {
@@ -51,7 +51,7 @@ fn field_len(content: &FieldValue, table: &Table, fields: &[Field], number: u32)
 // The length of the elements of a packed field.
 #[cycle(size)]
 fn joined_len(values: &Values, table: &Table, kind: Kind) -> u64
-    requires { AllAscend table.now }
+    requires { AreAllFieldsAscending table.now }
     ensures { result ≡ capped (length (joined_bytes table.now kind (items_of values.now.items))) }
 {
     let mut total = 0u64;
@@ -64,7 +64,7 @@ fn joined_len(values: &Values, table: &Table, kind: Kind) -> u64
 // The length of a record for each element.
 #[cycle(size)]
 fn records_len(values: &Values, table: &Table, number: u32, kind: Kind) -> u64
-    requires { AllAscend table.now }
+    requires { AreAllFieldsAscending table.now }
     ensures { result ≡ capped (length (records_bytes table.now number kind (items_of values.now.items))) }
 {
     let tag = tag_len(number, kind.wire_type());
@@ -79,7 +79,7 @@ fn records_len(values: &Values, table: &Table, number: u32, kind: Kind) -> u64
 // The length of a record for each entry.
 #[cycle(size)]
 fn entries_len(entries: &Entries, table: &Table, number: u32, key: Kind, kind: Kind) -> u64
-    requires { AllAscend table.now }
+    requires { AreAllFieldsAscending table.now }
     ensures { result
         ≡ capped (length (entries_bytes table.now number key kind (pairs_of entries.now.items))) }
 {
@@ -99,7 +99,7 @@ fn entries_len(entries: &Entries, table: &Table, number: u32, key: Kind, kind: K
 // The length of a value without its tag.
 #[cycle(size)]
 fn value_len(value: &Value, table: &Table, kind: Kind) -> u64
-    requires { AllAscend table.now }
+    requires { AreAllFieldsAscending table.now }
     ensures { result ≡ capped (length (item_bytes table.now kind (item_of value.now))) }
 {
     match value {

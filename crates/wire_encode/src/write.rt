@@ -5,24 +5,24 @@ ghost use Rattle.mrpc_table.specs.Normal.{kind_at, label_at};
 ghost use Rattle.mrpc_table.specs.View.{item_of, items_of, pairs_of, content_of};
 ghost use Rattle.mrpc_table.specs.declared.table.Field.{Field};
 ghost use Rattle.wire_base.specs.Encoding.{varint, tag, delimited, number_bytes, item_bytes, joined_bytes, records_bytes, entries_bytes, content_bytes, fields_bytes};
-ghost use Rattle.mrpc_table.specs.Ascending.{AllAscend, FieldsAscend};
+ghost use Rattle.mrpc_table.specs.Ascending.{AreAllFieldsAscending, AreFieldsAscending};
 ghost use Rattle.wire_encode.specs.Records.{record_bytes, entry_bytes};
 
+use crate::backward_buffer::BackwardBuffer;
 use crate::look_up::type_near;
-use crate::output::Output;
 use mrpc_table::{Entries, Field, FieldValue, Kind, Label, Memory, Table, Tree, Value, Values};
 use wire_base::zigzag;
 
 // Writes a message.
 #[cycle(write)]
 pub(crate) fn write_message(
-    out: &mut Output,
+    out: &mut BackwardBuffer,
     tree: &Tree,
     table: &Table,
     fields: &[Field],
 ) -> Result<(), Memory>
-    requires all { AllAscend table.now }
-    requires ascend { FieldsAscend fields.now }
+    requires all { AreAllFieldsAscending table.now }
+    requires ascend { AreFieldsAscending fields.now }
     ensures { OnOk result (out.new ≡ fields_bytes table.now fields.now tree.now ++ out.old) }
 {
     let parts = &tree.fields;
@@ -40,14 +40,14 @@ pub(crate) fn write_message(
 #[cycle(write)]
 #[inline(always)]
 fn write_field(
-    out: &mut Output,
+    out: &mut BackwardBuffer,
     content: &FieldValue,
     table: &Table,
     number: u32,
     kind: Kind,
     label: Label,
 ) -> Result<(), Memory>
-    requires { AllAscend table.now }
+    requires { AreAllFieldsAscending table.now }
     ensures { (fs : List Field) → kind ≡ kind_at fs number → label ≡ label_at fs number
         → OnOk result (out.new ≡ content_bytes table.now fs number (content_of content.now) ++ out.old) }
 {
@@ -68,13 +68,13 @@ fn write_field(
 #[cycle(write)]
 #[inline(never)]
 fn write_packed(
-    out: &mut Output,
+    out: &mut BackwardBuffer,
     values: &Values,
     table: &Table,
     number: u32,
     kind: Kind,
 ) -> Result<(), Memory>
-    requires { AllAscend table.now }
+    requires { AreAllFieldsAscending table.now }
     ensures { OnOk result (out.new
         ≡ (tag number 2 ++ delimited (joined_bytes table.now kind (items_of values.now.items))) ++ out.old) }
 {
@@ -86,8 +86,13 @@ fn write_packed(
 
 // Writes the elements of a packed field.
 #[cycle(write)]
-fn write_joined(out: &mut Output, values: &Values, table: &Table, kind: Kind) -> Result<(), Memory>
-    requires { AllAscend table.now }
+fn write_joined(
+    out: &mut BackwardBuffer,
+    values: &Values,
+    table: &Table,
+    kind: Kind,
+) -> Result<(), Memory>
+    requires { AreAllFieldsAscending table.now }
     ensures { OnOk result (out.new ≡ joined_bytes table.now kind (items_of values.now.items) ++ out.old) }
 {
     for place in (0..values.len()).rev() {
@@ -101,13 +106,13 @@ fn write_joined(out: &mut Output, values: &Values, table: &Table, kind: Kind) ->
 #[cycle(write)]
 #[inline(never)]
 fn write_records(
-    out: &mut Output,
+    out: &mut BackwardBuffer,
     values: &Values,
     table: &Table,
     number: u32,
     kind: Kind,
 ) -> Result<(), Memory>
-    requires { AllAscend table.now }
+    requires { AreAllFieldsAscending table.now }
     ensures { OnOk result (out.new ≡ records_bytes table.now number kind (items_of values.now.items) ++ out.old) }
 {
     for place in (0..values.len()).rev() {
@@ -121,13 +126,13 @@ fn write_records(
 #[cycle(write)]
 #[inline(always)]
 fn write_record(
-    out: &mut Output,
+    out: &mut BackwardBuffer,
     value: &Value,
     table: &Table,
     number: u32,
     kind: Kind,
 ) -> Result<(), Memory>
-    requires { AllAscend table.now }
+    requires { AreAllFieldsAscending table.now }
     ensures { OnOk result (out.new ≡ record_bytes table.now number kind (item_of value.now) ++ out.old) }
 {
     write_value(out, value, table, kind)?;
@@ -138,14 +143,14 @@ fn write_record(
 #[cycle(write)]
 #[inline(never)]
 fn write_entries(
-    out: &mut Output,
+    out: &mut BackwardBuffer,
     entries: &Entries,
     table: &Table,
     number: u32,
     key: Kind,
     kind: Kind,
 ) -> Result<(), Memory>
-    requires { AllAscend table.now }
+    requires { AreAllFieldsAscending table.now }
     ensures { OnOk result (out.new ≡ entries_bytes table.now number key kind (pairs_of entries.now.items) ++ out.old) }
 {
     for place in (0..entries.len()).rev() {
@@ -158,14 +163,14 @@ fn write_entries(
 // Writes the record of an entry.
 #[cycle(write)]
 fn write_entry(
-    out: &mut Output,
+    out: &mut BackwardBuffer,
     entry: &(Value, Value),
     table: &Table,
     number: u32,
     key: Kind,
     kind: Kind,
 ) -> Result<(), Memory>
-    requires { AllAscend table.now }
+    requires { AreAllFieldsAscending table.now }
     ensures { OnOk result
         (out.new ≡ entry_bytes table.now number key kind (item_of entry.now.0) (item_of entry.now.1) ++ out.old) }
 {
@@ -179,8 +184,13 @@ fn write_entry(
 // Writes a value without its tag.
 #[cycle(write)]
 #[inline(always)]
-fn write_value(out: &mut Output, value: &Value, table: &Table, kind: Kind) -> Result<(), Memory>
-    requires { AllAscend table.now }
+fn write_value(
+    out: &mut BackwardBuffer,
+    value: &Value,
+    table: &Table,
+    kind: Kind,
+) -> Result<(), Memory>
+    requires { AreAllFieldsAscending table.now }
     ensures { OnOk result (out.new ≡ item_bytes table.now kind (item_of value.now) ++ out.old) }
 {
     match value {
@@ -198,7 +208,7 @@ fn write_value(out: &mut Output, value: &Value, table: &Table, kind: Kind) -> Re
 }
 
 // Writes how many bytes were written since the buffer had `behind` of them.
-fn write_length(out: &mut Output, behind: usize) -> Result<(), Memory>
+fn write_length(out: &mut BackwardBuffer, behind: usize) -> Result<(), Memory>
     requires { behind ≤ length out.old }
     ensures { OnOk result (out.new ≡ varint (length out.old - behind) ++ out.old) }
 {
@@ -208,7 +218,7 @@ fn write_length(out: &mut Output, behind: usize) -> Result<(), Memory>
 
 // Writes a number of the kind.
 #[inline(always)]
-fn write_number(out: &mut Output, kind: Kind, n: u64) -> Result<(), Memory>
+fn write_number(out: &mut BackwardBuffer, kind: Kind, n: u64) -> Result<(), Memory>
     ensures { OnOk result (out.new ≡ number_bytes kind n ++ out.old) }
 {
     match kind {
@@ -228,7 +238,7 @@ fn write_number(out: &mut Output, kind: Kind, n: u64) -> Result<(), Memory>
 }
 
 // Writes a tag.
-fn write_tag(out: &mut Output, number: u32, wire_type: u64) -> Result<(), Memory>
+fn write_tag(out: &mut BackwardBuffer, number: u32, wire_type: u64) -> Result<(), Memory>
     requires { wire_type < 8 }
     ensures { OnOk result (out.new ≡ tag number wire_type ++ out.old) }
 {

@@ -6,7 +6,7 @@ use Rattle.std.proofs.lemmas.List.Sorted.{IsPermutation-append_right, IsPermutat
 use Rattle.std.proofs.lemmas.List.Sums.{sum_by-cons}
 use mathlib.Core.Option.{some, some-injective, some-ne-none}
 use lib.ListN.{get_elem?}
-use Rattle.worker_pool.specs.Rule.{Every}
+use Rattle.worker_pool.specs.Rule.{EachHas}
 
 module _ {V : Type 0} where
   pub there : (views : List V) (pass : ℕ) (v w : V) → get_elem? views pass ≡ some v → get_elem? (set views pass w) pass ≡ some w
@@ -115,10 +115,10 @@ module _ {X : Type 0} where
   take_front (x ∷ xs) ys zero e = absurd (omega (arith, e))
   take_front (x ∷ xs) ys (suc n) e = ap (λ l. x ∷ l) (take_front xs ys n (omega (arith, e)))
 
-  pub every_append : (P : X → Type 0) (xs ys : List X) → Every P xs → Every P ys → Every P (xs ++ ys)
+  pub every_append : (P : X → Type 0) (xs ys : List X) → EachHas P xs → EachHas P ys → EachHas P (xs ++ ys)
   every_append P [] ys p q = q
   every_append P (x ∷ xs) ys p q = (p.0, every_append P xs ys p.1 q)
 
-  pub every_implies : (P Q : X → Type 0) → ((x : X) → P x → Q x) → (xs : List X) → Every P xs → Every Q xs
+  pub every_implies : (P Q : X → Type 0) → ((x : X) → P x → Q x) → (xs : List X) → EachHas P xs → EachHas Q xs
   every_implies P Q step [] p = tt
   every_implies P Q step (x ∷ xs) p = (step x p.0, every_implies P Q step xs p.1)

@@ -10,9 +10,9 @@ use Rattle.std.proofs.lemmas.List.{length-map}
 use Rattle.std.proofs.lemmas.List.FromFn.{length-range_with_len}
 use Rattle.std.proofs.lemmas.List.Sorted.{All-permutation, IsPermutation-map, IsPermutation-trans, length_permutation, sum_by-IsPermutation}
 use Rattle.std.proofs.lemmas.List.Sums.{sum_by-append, sum_by-cons}
-use Rattle.worker_pool.specs.declared.hand.Numbered.{Numbered}
+use Rattle.worker_pool.specs.declared.pass_view.NumberedItem.{NumberedItem}
 use Rattle.worker_pool.specs.Later.{IsLater}
-use Rattle.worker_pool.specs.Rule.{Every, IsOneOf, StandOnce, numbers_of, times}
+use Rattle.worker_pool.specs.Rule.{EachHas, IsLaterItem, AreAllOnce, numbers_of, occurrences}
 use Rattle.worker_pool.proofs.Lists.{got_here}
 
 -- 1 if both numbers are equal, otherwise 0
@@ -95,7 +95,7 @@ rises_once a (suc n) (y ∷ ys) r same =
     λ i. e i ∷ rest i
 
 module _ {T : Type 0} where
-  rises_of : (xs : List (Numbered T)) (a : ℕ) → ((d : Numbered T) → 0 < length xs → a ≤ (get_or xs 0 d).number)
+  rises_of : (xs : List (NumberedItem T)) (a : ℕ) → ((d : NumberedItem T) → 0 < length xs → a ≤ (get_or xs 0 d).number)
       → IsNonDecreasingBy (λ x. x.number) xs → Rises a (numbers_of xs)
   rises_of [] a first s = tt
   rises_of (x ∷ xs) a first s = (
@@ -104,42 +104,42 @@ module _ {T : Type 0} where
   )
 
   -- if items are sorted by number and each number below n occurs once, their numbers are those from 0
-  pub numbers_by_number : (n : ℕ) (xs : List (Numbered T)) → IsPermutation (range_with_len 0 n) (numbers_of xs)
+  pub numbers_by_number : (n : ℕ) (xs : List (NumberedItem T)) → IsPermutation (range_with_len 0 n) (numbers_of xs)
       → IsNonDecreasingBy (λ x. x.number) xs → numbers_of xs ≡ range_with_len 0 n
   numbers_by_number n xs once order =
       rises_once 0 n (numbers_of xs) (rises_of xs 0 (λ d some. omega arith) order)
       (λ x. sum_by-IsPermutation (hit x) _ _ once)
 
-  pub all_from_every : (P : Numbered T → Type 0) (xs : List (Numbered T)) → Every P xs → All P xs
+  pub all_from_every : (P : NumberedItem T → Type 0) (xs : List (NumberedItem T)) → EachHas P xs → All P xs
   all_from_every P [] p k d lt = absurd (omega (arith, lt))
   all_from_every P (x ∷ xs) p zero d lt = p.0
   all_from_every P (x ∷ xs) p (suc k) d lt = all_from_every P xs p.1 k d (omega (arith, lt))
 
-  pub every_from_all : (P : Numbered T → Type 0) (xs : List (Numbered T)) → All P xs → Every P xs
+  pub every_from_all : (P : NumberedItem T → Type 0) (xs : List (NumberedItem T)) → All P xs → EachHas P xs
   every_from_all P [] p = tt
   every_from_all P (x ∷ xs) p = (p 0 x (omega arith), every_from_all P xs (λ k d lt. p (suc k) d (omega (arith, lt))))
 
-  pub every_permutation : (P : Numbered T → Type 0) (xs ys : List (Numbered T)) → IsPermutation xs ys → Every P xs → Every P ys
+  pub every_permutation : (P : NumberedItem T → Type 0) (xs ys : List (NumberedItem T)) → IsPermutation xs ys → EachHas P xs → EachHas P ys
   every_permutation P xs ys same p = every_from_all P ys (All-permutation P xs ys same (all_from_every P xs p))
 
-  pub all_of_items : (P : T → Type 0) (xs : List (Numbered T)) → Every (λ x. P x.item.value) xs → All P (map (λ x. x.item.value) xs)
+  pub all_of_items : (P : T → Type 0) (xs : List (NumberedItem T)) → EachHas (λ x. P x.item.value) xs → All P (map (λ x. x.item.value) xs)
   all_of_items P [] p k d lt = absurd (omega (arith, lt))
   all_of_items P (x ∷ xs) p zero d lt = p.0
   all_of_items P (x ∷ xs) p (suc k) d lt = all_of_items P xs p.1 k d (omega (arith, lt))
 
   -- there are as many as at the start
-  pub as_many : (firsts : List T) (kept xs : List (Numbered T)) → StandOnce firsts (numbers_of kept) → IsPermutation kept xs → length xs ≡ length firsts
+  pub as_many : (firsts : List T) (kept xs : List (NumberedItem T)) → AreAllOnce firsts (numbers_of kept) → IsPermutation kept xs → length xs ≡ length firsts
   as_many firsts kept xs once same =
       let a = length_permutation kept xs same in
       let b = length_permutation _ _ once in
       let c = length-range_with_len 0 (length firsts) in
-      let d = length-map kept (λ (x : Numbered T). x.number) in
+      let d = length-map kept (λ (x : NumberedItem T). x.number) in
       omega (arith, a, b, c, d)
 
   module _ (since : T → T → Type 0) where
     -- items with numbers from `a` are later states of the original ones from that index
-    placed : (before firsts : List T) (xs : List (Numbered T)) (a : ℕ) → a ≡ length before
-        → numbers_of xs ≡ range_with_len a (length firsts) → Every (IsOneOf since (before ++ firsts)) xs
+    placed : (before firsts : List T) (xs : List (NumberedItem T)) (a : ℕ) → a ≡ length before
+        → numbers_of xs ≡ range_with_len a (length firsts) → EachHas (IsLaterItem since (before ++ firsts)) xs
         → AllZip (IsLater since) firsts (map (λ x. x.item.value) xs)
     placed before [] [] a at numbers ones = tt
     placed before [] (x ∷ xs) a at numbers ones = let e = ap length numbers in absurd (omega (arith, e))
@@ -149,16 +149,16 @@ module _ {T : Type 0} where
         let tail : numbers_of xs ≡ range_with_len (a + 1) (length fs) = cc numbers in
         let next : a + 1 ≡ length (before ++ f ∷ []) = omega (arith, at, length-append before (f ∷ [])) in (
           got_here before f fs x.number (λ first. IsLater since first x.item.value) (head ∙ at) ones.0,
-          placed (before ++ f ∷ []) fs xs (a + 1) next tail (subst (λ l. Every (IsOneOf since l) xs) (sym (append_assoc before (f ∷ []) fs)) ones.1),
+          placed (before ++ f ∷ []) fs xs (a + 1) next tail (subst (λ l. EachHas (IsLaterItem since l) xs) (sym (append_assoc before (f ∷ []) fs)) ones.1),
         )
 
     -- the items by number are later states of the original ones, each at its index
-    pub in_place : (firsts : List T) (kept xs : List (Numbered T)) → StandOnce firsts (numbers_of kept)
-        → IsPermutation kept xs → IsNonDecreasingBy (λ x. x.number) xs → Every (IsOneOf since firsts) kept
+    pub in_place : (firsts : List T) (kept xs : List (NumberedItem T)) → AreAllOnce firsts (numbers_of kept)
+        → IsPermutation kept xs → IsNonDecreasingBy (λ x. x.number) xs → EachHas (IsLaterItem since firsts) kept
         → AllZip (IsLater since) firsts (map (λ x. x.item.value) xs)
     in_place firsts kept xs once same order ones =
-        let numbers = numbers_by_number (length firsts) xs (IsPermutation-trans _ _ _ once (IsPermutation-map (λ (x : Numbered T). x.number) kept xs same)) order in
-        placed [] firsts xs 0 refl numbers (every_permutation (IsOneOf since firsts) kept xs same ones)
+        let numbers = numbers_by_number (length firsts) xs (IsPermutation-trans _ _ _ once (IsPermutation-map (λ (x : NumberedItem T). x.number) kept xs same)) order in
+        placed [] firsts xs 0 refl numbers (every_permutation (IsLaterItem since firsts) kept xs same ones)
 
 -- each number of a range occurs in it once, and no other number does
 range_here : (a n x : ℕ) → a ≤ x → x < a + n → counted x (range_with_len a n) ≡ 1
@@ -182,13 +182,13 @@ range_else a (suc n) x past =
     let rest = range_else (a + 1) n x (omega (arith, past)) in
     omega (arith, s, h, rest)
 
-pub stand_once : (n : ℕ) (xs ys : List ℕ) → IsPermutation (range_with_len 0 n) (xs ++ ys) → (x : ℕ) → x < n → times x xs + times x ys ≡ 1
+pub stand_once : (n : ℕ) (xs ys : List ℕ) → IsPermutation (range_with_len 0 n) (xs ++ ys) → (x : ℕ) → x < n → occurrences x xs + occurrences x ys ≡ 1
 unfolding hit
 stand_once n xs ys once x below =
     let all : counted x (xs ++ ys) ≡ counted x (range_with_len 0 n) = sum_by-IsPermutation (hit x) _ _ once in
     sym (sum_by-append (hit x) xs ys) ∙ all ∙ range_here 0 n x (omega arith) (omega (arith, below))
 
-pub stand_nowhere : (n : ℕ) (xs ys : List ℕ) → IsPermutation (range_with_len 0 n) (xs ++ ys) → (x : ℕ) → n ≤ x → times x xs + times x ys ≡ 0
+pub stand_nowhere : (n : ℕ) (xs ys : List ℕ) → IsPermutation (range_with_len 0 n) (xs ++ ys) → (x : ℕ) → n ≤ x → occurrences x xs + occurrences x ys ≡ 0
 unfolding hit
 stand_nowhere n xs ys once x past =
     let all : counted x (xs ++ ys) ≡ counted x (range_with_len 0 n) = sum_by-IsPermutation (hit x) _ _ once in

@@ -4,9 +4,9 @@ use Rattle.std.proofs.lemmas.List.FromFn.{length-range_with_len}
 use Rattle.std.proofs.lemmas.List.Sorted.{IsPermutation-refl, length_permutation}
 use mathlib.Core.Option.{some, some-injective, some-ne-none}
 use lib.ListN.{get_elem?}
-use Rattle.worker_pool.specs.declared.hand.Hand.{Hand}
-use Rattle.worker_pool.specs.declared.hand.Numbered.{Numbered}
-use Rattle.worker_pool.specs.Rule.{Fits, IsOneOf, IsPooled, hand}
+use Rattle.worker_pool.specs.declared.pass_view.PassView.{PassView}
+use Rattle.worker_pool.specs.declared.pass_view.NumberedItem.{NumberedItem}
+use Rattle.worker_pool.specs.Rule.{IsViewOfPool, IsLaterItem, IsPooled, hand}
 use Rattle.worker_pool.proofs.Orders.{stand_once}
 
 abbrev grows : ℕ → ℕ → Type 0
@@ -17,17 +17,17 @@ abbrev two : List ℕ
 two = 7 ∷ 8 ∷ []
 
 -- the caller has all parts but one, and a worker has the first item in hand
-abbrev passes : List (Hand ℕ)
+abbrev passes : List (PassView ℕ)
 passes = hand 1023 [] two ∷ hand 1 (0 ∷ []) two ∷ []
 
-each : (pass : ℕ) (v : Hand ℕ) → get_elem? passes pass ≡ some v → Fits two v
-each zero v e = subst (Fits two) (some-injective _ _ e) (record { knows = λ _. refl; idle = λ _. refl })
-each (suc zero) v e = subst (Fits two) (some-injective _ _ e) (record { knows = λ _. refl; idle = λ none. absurd (omega (arith, none)) })
+each : (pass : ℕ) (v : PassView ℕ) → get_elem? passes pass ≡ some v → IsViewOfPool two v
+each zero v e = subst (IsViewOfPool two) (some-injective _ _ e) (record { knows = λ _. refl; idle = λ _. refl })
+each (suc zero) v e = subst (IsViewOfPool two) (some-injective _ _ e) (record { knows = λ _. refl; idle = λ none. absurd (omega (arith, none)) })
 each (suc (suc pass)) v e = absurd (some-ne-none v (sym e))
 
 -- a box of each number
 module _ (boxed : ℕ → Box ℕ Global) (holds : (n : ℕ) → (boxed n).value ≡ n) where
-  abbrev numbered : ℕ → ℕ → Numbered ℕ
+  abbrev numbered : ℕ → ℕ → NumberedItem ℕ
   numbered number item = record { number = number; item = boxed item }
 
   -- the second is in the queue, and has grown
@@ -42,7 +42,7 @@ module _ (boxed : ℕ → Box ℕ Global) (holds : (n : ℕ) → (boxed n).value
   }
 
   -- a pass with all parts knows the original items
-  knows : (items : List (Numbered ℕ)) (held : List ℕ) (rule : IsPooled grows items (hand 1024 held two ∷ [])) → two ≡ rule.firsts
+  knows : (items : List (NumberedItem ℕ)) (held : List ℕ) (rule : IsPooled grows items (hand 1024 held two ∷ [])) → two ≡ rule.firsts
   knows items held rule = (rule.passes 0 (hand 1024 held two) refl).knows (omega arith)
 
   -- no item is lost, and none occurs twice
@@ -60,8 +60,8 @@ module _ (boxed : ℕ → Box ℕ Global) (holds : (n : ℕ) → (boxed n).value
       omega (arith, once)
 
   -- an item in the queue is a later state of the original one with its number: no other item, and no earlier state
-  none_earlier : IsOneOf grows two (numbered 1 6) → ⊥
+  none_earlier : IsLaterItem grows two (numbered 1 6) → ⊥
   none_earlier one = let least = one 8 (omega arith) in omega (arith, least)
 
-  none_unknown : IsOneOf grows two (numbered 2 9) → ⊥
+  none_unknown : IsLaterItem grows two (numbered 2 9) → ⊥
   none_unknown one = one

@@ -1,6 +1,6 @@
 //! What a worker does when it finds nothing to do.
 
-use polling::Pauses;
+use polling::Backoff;
 use std::sync::Wait;
 
 // The idle visits of one worker since it last did something. It pauses after as many idle visits in a row as there
@@ -9,14 +9,14 @@ use std::sync::Wait;
 pub(crate) struct Idle {
     // The idle visits since the last pause.
     visits: u64,
-    pauses: Pauses,
+    pauses: Backoff,
 }
 
 impl Idle {
     pub(crate) fn new() -> Idle {
         Idle {
             visits: 0,
-            pauses: Pauses::new(),
+            pauses: Backoff::new(),
         }
     }
 
@@ -30,13 +30,13 @@ impl Idle {
     pub(crate) fn after_visit<R: Wait>(&mut self, rt: &R, left: u64) {
         self.visits = self.visits.saturating_add(1);
         if self.visits >= left {
-            self.pause(rt);
+            self.wait(rt);
         }
     }
 
     // No item has anything to do now.
-    pub(crate) fn pause<R: Wait>(&mut self, rt: &R) {
+    pub(crate) fn wait<R: Wait>(&mut self, rt: &R) {
         self.visits = 0;
-        self.pauses.pause(rt);
+        self.pauses.wait(rt);
     }
 }

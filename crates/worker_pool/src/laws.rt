@@ -3,23 +3,23 @@
 ghost use Rattle.std.specs.Prelude.{◌≡◌, ◌≢◌, ◌≤◌, ◌<◌, ◌+◌, ℕ, List, [], length};
 ghost use mathlib.Core.Option.{some};
 ghost use lib.ListN.{get_elem?};
-ghost use Rattle.worker_pool.specs.declared.hand.Hand.{Hand};
-ghost use Rattle.worker_pool.specs.declared.hand.Numbered.{Numbered};
-ghost use Rattle.worker_pool.specs.declared.limits.TheConstants.{MOST_ITEMS};
-ghost use Rattle.worker_pool.specs.Rule.{IsPooled, numbers_of, numbers_out, times};
+ghost use Rattle.worker_pool.specs.declared.pass_view.PassView.{PassView};
+ghost use Rattle.worker_pool.specs.declared.pass_view.NumberedItem.{NumberedItem};
+ghost use Rattle.worker_pool.specs.declared.limits.TheConstants.{MAX_POOL_ITEMS};
+ghost use Rattle.worker_pool.specs.Rule.{IsPooled, numbers_of, numbers_out, occurrences};
 
-use crate::visited::Visited;
+use crate::pool_item::PoolItem;
 
 /// The law of item numbers, for any contents of a run's queue and any views of its passes. The number of each item
 /// occurs once, in the queue or in one pass, and no other number occurs. So if a pass holds an item, as after taking
 /// one, the queue has a free slot.
-pub fn items_stand_once<T: Visited>()
-    ensures once { (items : List (Numbered T)) (views : List (Hand T)) (rule : IsPooled T.since items views)
+pub fn items_are_unique<T: PoolItem>()
+    ensures once { (items : List (NumberedItem T)) (views : List (PassView T)) (rule : IsPooled T.since items views)
         (number : ℕ) → number < length rule.firsts
-        → times number (numbers_out views) + times number (numbers_of items) ≡ 1 }
-    ensures no_other { (items : List (Numbered T)) (views : List (Hand T)) (rule : IsPooled T.since items views)
+        → occurrences number (numbers_out views) + occurrences number (numbers_of items) ≡ 1 }
+    ensures no_other { (items : List (NumberedItem T)) (views : List (PassView T)) (rule : IsPooled T.since items views)
         (number : ℕ) → length rule.firsts ≤ number
-        → times number (numbers_out views) + times number (numbers_of items) ≡ 0 }
-    ensures place { (items : List (Numbered T)) (views : List (Hand T)) (rule : IsPooled T.since items views)
-        (pass : ℕ) (v : Hand T) → get_elem? views pass ≡ some v → v.held ≢ [] → length items < MOST_ITEMS }
+        → occurrences number (numbers_out views) + occurrences number (numbers_of items) ≡ 0 }
+    ensures place { (items : List (NumberedItem T)) (views : List (PassView T)) (rule : IsPooled T.since items views)
+        (pass : ℕ) (v : PassView T) → get_elem? views pass ≡ some v → v.held ≢ [] → length items < MAX_POOL_ITEMS }
 {}

@@ -7,23 +7,23 @@
 //! on the ruled array queue of `crossbeam_queue`, and on `polling` for the backoff and the stop flag.
 //!
 //! The layer above uses one contract. Each item is returned once, at its index, as a later state of the item that was
-//! passed in, as the item's own trait [`Visited`] defines it. If the run wasn't stopped, each item is finished.
+//! passed in, as the item's own trait [`PoolItem`] defines it. If the run wasn't stopped, each item is finished.
 //!
-//! This rests on the rule of the queue ([`items_stand_once`]). Each number below the number of items occurs once: in
+//! This rests on the rule of the queue ([`items_are_unique`]). Each number below the number of items occurs once: in
 //! the queue, in one worker's hand, or among the finished items that a worker keeps. So a worker that has taken an
 //! item always finds a slot to put it back. No clause states in which order or by which worker items are visited, or
 //! that a run ends.
 #![tactic(auto)]
 
-mod hand;
 mod idle;
 mod laws;
 mod limits;
+mod pass_view;
 mod pool;
-mod visited;
+mod pool_item;
 mod worker;
 
-pub use laws::items_stand_once;
-pub use limits::{MOST_ITEMS, MOST_WORKERS};
-pub use pool::{Ran, run};
-pub use visited::{Visit, Visited};
+pub use laws::items_are_unique;
+pub use limits::{MAX_POOL_ITEMS, MAX_POOL_WORKERS};
+pub use pool::{PoolResult, run};
+pub use pool_item::{PoolItem, VisitResult};

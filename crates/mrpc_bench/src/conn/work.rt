@@ -5,8 +5,8 @@ ghost use Rattle.std.specs.Prelude.{◌≡◌, ◌<◌, All, IfSome};
 ghost use Rattle.std.specs.Bool.{OnTrue};
 ghost use Rattle.mrpc_table.specs.Valid.{IsValid};
 ghost use Rattle.engine_core.specs.Policies.{IsPolicy, KnowsTenantOf};
-ghost use Rattle.conn_core.specs.Steps.{IfPolicy};
-ghost use Rattle.mrpc_bench.specs.Work.{IsYoung};
+ghost use Rattle.conn_core.specs.ConnectionSteps.{IfPolicy};
+ghost use Rattle.mrpc_bench.specs.Work.{HasCounterRoom};
 
 use crate::discard;
 use chain_upgrade::Chain;
@@ -88,10 +88,10 @@ impl<'t> Model for Work<'t> {
 
 // Whether each counter of a connection has room for one more.
 #[tactic(auto, using(crate::proofs::Young::young))]
-fn is_young(conn: &Conn) -> bool
-    ensures { OnTrue result (IsYoung conn.now) }
+fn has_counter_room(conn: &Conn) -> bool
+    ensures { OnTrue result (HasCounterRoom conn.now) }
 {
-    conn.numbers_are_few();
+    conn.counters_are_bounded();
     conn.history().len() < 1000000000
 }
 
@@ -203,7 +203,7 @@ impl<'t> Work<'t> {
     fn operate(&mut self, step: Op) -> Option<()>
         requires { IfPolicy step IsPolicy }
     {
-        if !is_young(&self.conn) {
+        if !has_counter_room(&self.conn) {
             discard(step);
             return None;
         }
@@ -289,7 +289,7 @@ impl<'t> Work<'t> {
 
     // Accepts the message.
     pub(crate) fn accept_one(&mut self) -> Option<()> {
-        if !is_young(&self.conn) {
+        if !has_counter_room(&self.conn) {
             return None;
         }
         let ask = Ask {

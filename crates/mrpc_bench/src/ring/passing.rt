@@ -2,7 +2,7 @@
 ghost use Rattle.std.specs.Prelude.{◌≡◌, ◌<◌, ◌+◌, [], length};
 ghost use Rattle.std.specs.Thread.{IsSync};
 ghost use Rattle.mrpc_table.specs.Valid.{IsValid};
-ghost use Rattle.descriptor_ring.specs.Rings.{IsOf};
+ghost use Rattle.descriptor_ring.specs.Rings.{IsDescriptorOf};
 
 use descriptor_ring::{Descriptor, Full, Receiver, Sender, Taken};
 use graph_copy::CopyResult;
@@ -29,7 +29,7 @@ const LIMIT: u64 = 1;
 
 // The results of a ring's reader.
 #[derive(Clone, Copy)]
-pub(crate) struct Passed {
+pub(crate) struct RingResults {
     // The number of descriptors taken.
     pub taken: u64,
     // The number of their messages that were copied.
@@ -45,7 +45,7 @@ pub(crate) fn pass<R: Threads + Wait + Sync>(
     alloc: Global,
     table: &Table,
     count: u32,
-) -> Result<Passed, AllocError>
+) -> Result<RingResults, AllocError>
     requires few { count < 4294967294 }
     requires valid { IsValid table.now }
     requires known { 0 < length table.now.messages }
@@ -62,7 +62,7 @@ fn over_heap<R: Threads + Wait + Sync>(
     count: u64,
     writer: Writer,
     mut reader: Reader,
-) -> Result<Passed, AllocError>
+) -> Result<RingResults, AllocError>
     requires count { count < 4294967294 }
     requires words { writer.heap.words ≡ WORDS }
     requires one_heap { reader.heap ≡ writer.heap }
@@ -77,7 +77,7 @@ fn over_heap<R: Threads + Wait + Sync>(
             requires { IsSync R.row × (count < 4294967294) × (writer.heap.words ≡ WORDS)
                 × (sender.heap ≡ writer.heap) × (writer.stores ≡ []) × (sender.sent ≡ []) }
         { write_all(rt, count, writer, sender) },
-        move || -> Passed
+        move || -> RingResults
             requires { IsSync R.row × IsValid table.now × (0 < length table.now.messages) × (reader.heap.words ≡ WORDS)
                 × (receiver.heap ≡ reader.heap) }
         { read_all(rt, alloc, table, &mut reader, &mut receiver) },
@@ -111,7 +111,7 @@ fn send_all<R: Wait>(rt: &R, count: u64, writer: &mut Writer, sender: &mut Sende
 }
 
 fn message(writer: &mut Writer, addr: u64) -> Descriptor
-    ensures of_heap { IsOf writer.old.heap result }
+    ensures of_heap { IsDescriptorOf writer.old.heap result }
     ensures same { writer.new ≡ writer.old }
 {
     Descriptor {
@@ -126,7 +126,7 @@ fn message(writer: &mut Writer, addr: u64) -> Descriptor
 
 // Retries until the ring has room.
 fn send<R: Wait>(rt: &R, sender: &mut Sender, mut descriptor: Descriptor)
-    requires of_heap { IsOf sender.old.heap descriptor }
+    requires of_heap { IsDescriptorOf sender.old.heap descriptor }
     requires few { length sender.old.sent < 4294967294 }
     ensures sent { length sender.new.sent ≡ length sender.old.sent + 1 }
     ensures heap { sender.new.heap ≡ sender.old.heap }
@@ -164,13 +164,13 @@ fn read_all<R: Wait>(
     table: &Table,
     reader: &mut Reader,
     receiver: &mut Receiver,
-) -> Passed
+) -> RingResults
     requires valid { IsValid table.now }
     requires known { 0 < length table.now.messages }
     requires words { reader.old.heap.words ≡ WORDS }
     requires one_heap { receiver.old.heap ≡ reader.old.heap }
 {
-    let mut passed = Passed {
+    let mut passed = RingResults {
         taken: 0,
         copied: 0,
         sum: 0,
@@ -201,7 +201,7 @@ fn number_of(
     requires valid { IsValid table.now }
     requires known { 0 < length table.now.messages }
     requires words { reader.old.heap.words ≡ WORDS }
-    requires of_heap { IsOf reader.old.heap descriptor }
+    requires of_heap { IsDescriptorOf reader.old.heap descriptor }
     ensures { reader.new.heap ≡ reader.old.heap }
 {
     let Descriptor { addr, note, .. } = descriptor;

@@ -1,7 +1,7 @@
 //! Runs over links in memory, which fail as listed.
 
 use crate::devices::{Devices, Failing, words_of};
-use mem_fabric::{ListedFaults, MemFabric};
+use mem_fabric::{InjectedFailures, MemFabric};
 use mrpc_base::{Fabric, FixedClock, OpenGate};
 use mrpc_top::{DONE, FABRIC_FAILED, LINK_FAILED, run_command};
 use std::alloc::Global;
@@ -28,12 +28,12 @@ const NONE: Failing<'static> = Failing {
 };
 
 // The openings that fail, and the sends of connection 1 that fail.
-fn listed(rt: &impl Abort, alloc: Global, openings: &[u64], sends: &[u64]) -> ListedFaults {
+fn listed(rt: &impl Abort, alloc: Global, openings: &[u64], sends: &[u64]) -> InjectedFailures {
     let mut failing_sends = Vec::new(alloc);
     for send in sends {
         failing_sends.push((1, *send)).expect(rt, "memory");
     }
-    ListedFaults {
+    InjectedFailures {
         openings: openings.to_vec(alloc).expect(rt, "memory"),
         sends: failing_sends,
         receives: Vec::new(alloc),
@@ -67,19 +67,19 @@ fn ran<R: Abort + Threads + Wait + Sync>(
     rt: &R,
     alloc: Global,
     scenario: &[u8],
-    faults: ListedFaults,
+    failures: InjectedFailures,
     status: u8,
 ) -> Devices {
     let mut devices = Devices::new(rt, alloc, scenario, NONE);
-    let fabric = MemFabric::new(rt, alloc, faults);
+    let fabric = MemFabric::new(rt, alloc, failures);
     assert!(rt; status_over(rt, alloc, &mut devices, fabric) == status);
     devices
 }
 
 #[test]
-fn nothing_is_told_where_a_link_was_not_opened(rt: HostRuntime) {
-    let faults = listed(&rt, rt.alloc(), &[1], &[]);
-    let devices = ran(&rt, rt.alloc(), SCENARIO, faults, FABRIC_FAILED);
+fn nothing_is_reported_if_a_link_was_not_opened(rt: HostRuntime) {
+    let failures = listed(&rt, rt.alloc(), &[1], &[]);
+    let devices = ran(&rt, rt.alloc(), SCENARIO, failures, FABRIC_FAILED);
     assert!(rt; devices.out.calls() == 0);
 }
 
@@ -100,15 +100,15 @@ fn assert_fails<R: Abort + Threads + Wait + Sync>(
     rows: &[Row],
 ) {
     for (send, told) in rows {
-        let faults = listed(rt, alloc, &[], &[*send]);
-        let devices = ran(rt, alloc, scenario, faults, LINK_FAILED);
+        let failures = listed(rt, alloc, &[], &[*send]);
+        let devices = ran(rt, alloc, scenario, failures, LINK_FAILED);
         assert!(rt; devices.out.written() == *told);
     }
 }
 
 // The first send is that of its hello. The second is the frame of its call, which was in the queue before.
 #[test]
-fn a_link_that_fails_is_told(rt: HostRuntime) {
+fn a_link_that_fails_is_reported(rt: HostRuntime) {
     let rows: [Row; 2] = [
         (1, b"unbound 1 transport\nunbound 2 ended\ntotals 0 0 0 0\n"),
         (
@@ -133,9 +133,9 @@ const BEHIND: &[u8] = b"took 1 1 0 0 2 1 1 copy 089601\nsent 1 1 19\narrived 1 2
     method 0 2 2 0 0\ntotals 2 2 0 0\n";
 
 #[test]
-fn a_block_that_is_not_held_is_told(rt: HostRuntime) {
-    let faults = listed(&rt, rt.alloc(), &[], &[]);
-    let devices = ran(&rt, rt.alloc(), FALSE_RECLAIM, faults, DONE);
+fn a_block_that_is_not_held_is_reported(rt: HostRuntime) {
+    let failures = listed(&rt, rt.alloc(), &[], &[]);
+    let devices = ran(&rt, rt.alloc(), FALSE_RECLAIM, failures, DONE);
     let told = devices.out.written();
     assert!(rt; told == BEFORE || told == BEHIND);
 }

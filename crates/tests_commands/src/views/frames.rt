@@ -40,7 +40,7 @@ fn a_failed_read_leaves_all_unwritten(rt: HostRuntime) {
 }
 
 #[test]
-fn nothing_is_said_behind_a_failed_line(rt: HostRuntime) {
+fn nothing_is_explained_after_a_failed_line(rt: HostRuntime) {
     let failing = Failing {
         reads: &[],
         lines: &[2],

@@ -16,7 +16,7 @@ fn is_read(rt: &impl Abort, source: &mut MemSource) {
     assert!(rt; source.read(&mut buf) == Got::Bytes(2));
     assert!(rt; buf[1] == b'c');
     assert!(rt; source.read(&mut buf) == Got::End);
-    assert!(rt; source.faults() == 1);
+    assert!(rt; source.failures() == 1);
 }
 
 #[test]
@@ -36,7 +36,7 @@ fn is_written(rt: &impl Abort, sink: &mut MemSink) {
     assert!(rt; !write_all(sink, b"c"));
     assert!(rt; write_all(sink, b"de"));
     assert!(rt; sink.written() == b"abde".as_slice());
-    assert!(rt; sink.faults() == 1);
+    assert!(rt; sink.failures() == 1);
 }
 
 #[test]
@@ -60,7 +60,7 @@ fn is_sent(rt: &impl Abort, link: &mut MemLink) {
     assert!(rt; link.send(b"c") == Handed::Failed);
     link.finish();
     assert!(rt; link.send(b"d") == Handed::Failed);
-    assert!(rt; link.faults() == 2);
+    assert!(rt; link.failures() == 2);
     assert!(rt; link.handed().len() == 1);
 }
 

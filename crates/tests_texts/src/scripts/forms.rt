@@ -2,13 +2,15 @@
 
 use mrpc_table::Decimal;
 use script_grammar::{
-    Judged, Keyword, form_of, judge, keyword_at, name_at, number_at, unbounded_at,
+    Keyword, WordValues, check_words, form_of, keyword_at, name_at, number_at, unbounded_at,
 };
 use std::process::Abort;
 
-fn judged<'a>(rt: &impl Abort, line: &'a [u8]) -> Judged<'a> {
+fn judged<'a>(rt: &impl Abort, line: &'a [u8]) -> WordValues<'a> {
     let form = form_of(line).expect(rt, "a form");
-    judge(form.sorts(), line).ok().expect(rt, "no fault")
+    check_words(form.word_kinds(), line)
+        .ok()
+        .expect(rt, "no fault")
 }
 
 #[test]
@@ -20,7 +22,7 @@ fn words_say_something(rt: HostRuntime) {
 }
 
 #[test]
-fn names_and_keywords_stand_for_themselves(rt: HostRuntime) {
+fn names_and_keywords_are_their_own_values(rt: HostRuntime) {
     let words = judged(&rt, b"policy a rate 1 per 2 burst 3 deny");
     assert!(rt; name_at(words.as_slice(), 1) == b"a".as_slice());
     assert!(rt; matches!(keyword_at(words.as_slice(), 8), Some(Keyword::Deny)));

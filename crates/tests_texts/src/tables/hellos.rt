@@ -36,7 +36,7 @@ fn mismatch(rt: &impl Abort, alloc: Global, ours: &[u8], theirs: &[u8]) -> (u64,
 }
 
 #[test]
-fn the_first_byte_that_differs_is_told(rt: HostRuntime) {
+fn the_first_byte_that_differs_is_reported(rt: HostRuntime) {
     let (byte, ours, theirs) = mismatch(&rt, rt.alloc(), TEXT, OTHER_NAME);
     assert!(rt; byte == 31);
     assert!(rt; ours == 97);

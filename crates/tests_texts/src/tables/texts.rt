@@ -6,7 +6,7 @@ use crate::discard;
 use mrpc_table::{Bytes, Table, Tree, fits};
 use std::alloc::Global;
 use std::process::Abort;
-use table_text::{one_fault, one_text, read_table, table_text};
+use table_text::{read_table, table_fault_is_unique, table_text, table_text_is_unique};
 
 const SMALL: &[u8] =
     b"enum E\nvalue 0 A\nmessage M\nfield 1 map:string enum:E a\nmethod 0 S Get M M\n";
@@ -23,8 +23,8 @@ fn is_text(rt: &impl Abort, bytes: &Bytes, expected: &[u8]) {
 
 #[test]
 fn texts_are_read_and_written(rt: HostRuntime) {
-    one_text();
-    one_fault();
+    table_text_is_unique();
+    table_fault_is_unique();
     let table = table(&rt, rt.alloc(), SMALL);
     is_text(
         &rt,

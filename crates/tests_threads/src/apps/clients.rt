@@ -3,7 +3,7 @@
 ghost use Rattle.app_program.specs.Programs.{IsClientProgram};
 ghost use Rattle.tests_threads.specs.declared.apps.port.TheConstants.{WORDS};
 
-use crate::apps::port::{CLOSED, Giving, Taking, open};
+use crate::apps::port::{AppInput, AppOutput, CLOSED, open};
 use crate::apps::programs::{RECLAIM, SUBMIT, once, one_call, twice};
 use app_program::Program;
 use std::alloc::Global;
@@ -20,7 +20,7 @@ enum Given {
     Closed,
 }
 
-fn give<R: Abort + Wait>(rt: &R, mut giving: Giving, given: Given) {
+fn give<R: Abort + Wait>(rt: &R, mut giving: AppInput, given: Given) {
     match given {
         Given::Nothing => {}
         Given::Half => giving.tell_half(rt),
@@ -38,7 +38,7 @@ fn a_client_calls_and_gives_blocks_back(rt: HostRuntime) {
     assert_called(&rt, &mut taking);
 }
 
-fn assert_called<R: Abort + Wait>(rt: &R, taking: &mut Taking) {
+fn assert_called<R: Abort + Wait>(rt: &R, taking: &mut AppOutput) {
     assert!(rt; taking.call(rt) == 2);
     assert!(rt; taking.word(2) == 150);
     assert!(rt; taking.call(rt) == CLOSED);

@@ -2,7 +2,7 @@
 
 ghost use Rattle.std.specs.Prelude.{◌≤◌};
 
-use crate::apps::port::{CLOSED, Giving, Taking, open};
+use crate::apps::port::{AppInput, AppOutput, CLOSED, open};
 use std::process::Abort;
 use std::sync::Wait;
 
@@ -22,7 +22,7 @@ fn word_at(place: u64) -> u64
     }
 }
 
-fn store_messages(giving: &mut Giving) {
+fn store_messages(giving: &mut AppInput) {
     for place in 1..51u64 {
         giving.store(place, word_at(place));
     }
@@ -40,7 +40,7 @@ fn a_request_of_too_many_loads_has_no_reply(rt: HostRuntime) {
     assert_one_reply(&rt, &mut taking);
 }
 
-fn assert_one_reply<R: Abort + Wait>(rt: &R, taking: &mut Taking) {
+fn assert_one_reply<R: Abort + Wait>(rt: &R, taking: &mut AppOutput) {
     let reply = taking.call(rt);
     assert!(rt; reply < CLOSED);
     assert!(rt; taking.word(reply) == 0);

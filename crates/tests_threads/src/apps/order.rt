@@ -1,7 +1,7 @@
 //! An echo beside a service that stores to a block as soon as it is returned: the content of a reply was
 //! copied before.
 
-use crate::apps::port::{App, Giving, Taking, open};
+use crate::apps::port::{App, AppInput, AppOutput, open};
 use std::alloc::Global;
 use std::process::Abort;
 use std::sync::Wait;
@@ -15,7 +15,7 @@ const ELEMENTS: u64 = 1000;
 const ROUNDS: u32 = 64;
 
 // Stores a message with this many elements at place 1. The elements follow it, from place 3 on.
-fn store_message(giving: &mut Giving) {
+fn store_message(giving: &mut AppInput) {
     giving.store(1, ELEMENTS);
     giving.store(2, 3);
     for place in 3..ELEMENTS + 3 {
@@ -25,7 +25,7 @@ fn store_message(giving: &mut Giving) {
 
 // Sends notices of requests one by one, each with its number as last element. Stores the next request once
 // the block was returned, and counts the replies that have the number.
-fn serve<R: Abort + Wait>(rt: &R, mut giving: Giving, mut taking: Taking) -> u32 {
+fn serve<R: Abort + Wait>(rt: &R, mut giving: AppInput, mut taking: AppOutput) -> u32 {
     store_message(&mut giving);
     let mut right = 0u32;
     for number in 1..ROUNDS + 1 {
@@ -42,7 +42,7 @@ fn serve<R: Abort + Wait>(rt: &R, mut giving: Giving, mut taking: Taking) -> u32
 }
 
 // The last element of the next reply's message.
-fn last_element<R: Wait>(rt: &R, taking: &mut Taking) -> u64 {
+fn last_element<R: Wait>(rt: &R, taking: &mut AppOutput) -> u64 {
     let reply = taking.wait_for_call(rt);
     taking.word(reply.saturating_add(ELEMENTS + 1))
 }
@@ -51,8 +51,8 @@ fn in_two_threads<R: Abort + Threads + Wait + Sync>(
     rt: &R,
     alloc: Global,
     app: App,
-    giving: Giving,
-    taking: Taking,
+    giving: AppInput,
+    taking: AppOutput,
 ) -> (bool, u32) {
     join(
         rt,

@@ -2,7 +2,7 @@
 
 ghost use Rattle.std.specs.Prelude.{◌≡◌, ◌≤◌, []};
 ghost use Rattle.app_program.specs.Programs.{IsClientProgram, IsServerProgram};
-ghost use Rattle.descriptor_ring.specs.Rings.{IsOf};
+ghost use Rattle.descriptor_ring.specs.Rings.{IsDescriptorOf};
 
 use app_program::Program;
 use app_stub::{AppEnd, AppPort};
@@ -91,7 +91,7 @@ fn is_whole(rt: &impl Abort, end: AppEnd) -> bool {
 }
 
 // What the service sends to an application.
-pub(crate) struct Giving {
+pub(crate) struct AppInput {
     writer: Writer,
     notices: Sender,
     blocks: NumberSender,
@@ -99,7 +99,7 @@ pub(crate) struct Giving {
     told: u64,
 }
 
-impl Model for Giving {
+impl Model for AppInput {
     ghost use Rattle.std.specs.Prelude.{◌≡◌, ◌≤◌, ℕ, length};
     ghost use Rattle.tests_threads.specs.declared.apps.port.TheConstants.{WORDS};
 
@@ -111,9 +111,9 @@ impl Model for Giving {
         × (length g.notices.sent ≤ g.told) × (length g.blocks.sent ≤ g.told) };
 }
 
-impl Drop for Giving {
+impl Drop for AppInput {
     fn drop(self) {
-        let Giving {
+        let AppInput {
             writer: _writer,
             notices: _notices,
             blocks: _blocks,
@@ -122,7 +122,7 @@ impl Drop for Giving {
     }
 }
 
-impl Giving {
+impl AppInput {
     // Stores at a place from 1 on, up to a million times.
     pub(crate) fn store(&mut self, place: u64, value: u64) {
         if 1 <= place && place < WORDS && self.writer.made() < 1_000_000 {
@@ -150,7 +150,7 @@ impl Giving {
 
     // Closes both rings.
     pub(crate) fn close<R: Abort + Wait>(self, rt: &R) {
-        let Giving {
+        let AppInput {
             writer: _writer,
             notices,
             blocks,
@@ -162,7 +162,7 @@ impl Giving {
 }
 
 fn notice(writer: &mut Writer, number: u32, addr: u64) -> Descriptor
-    ensures of_heap { IsOf writer.old.heap result }
+    ensures of_heap { IsDescriptorOf writer.old.heap result }
     ensures same { writer.new ≡ writer.old }
 {
     Descriptor {
@@ -176,7 +176,7 @@ fn notice(writer: &mut Writer, number: u32, addr: u64) -> Descriptor
 }
 
 // What the service takes from an application.
-pub(crate) struct Taking {
+pub(crate) struct AppOutput {
     reader: Reader,
     calls: Receiver,
     reclaims: NumberReceiver,
@@ -184,7 +184,7 @@ pub(crate) struct Taking {
     tried: u64,
 }
 
-impl Model for Taking {
+impl Model for AppOutput {
     ghost use Rattle.std.specs.Prelude.{◌≡◌, ℕ};
     ghost use Rattle.tests_threads.specs.declared.apps.port.TheConstants.{WORDS};
 
@@ -195,9 +195,9 @@ impl Model for Taking {
     ghost invariant = { λ t. (t.reader.heap.words ≡ WORDS) × (t.calls.heap ≡ t.reader.heap) };
 }
 
-impl Drop for Taking {
+impl Drop for AppOutput {
     fn drop(self) {
-        let Taking {
+        let AppOutput {
             reader: _reader,
             calls: _calls,
             reclaims: _reclaims,
@@ -206,7 +206,7 @@ impl Drop for Taking {
     }
 }
 
-impl Taking {
+impl AppOutput {
     // The address of the next call, whose note is met; or `CLOSED` or `EMPTY`.
     pub(crate) fn call<R: Wait>(&mut self, rt: &R) -> u64 {
         self.tried = self.tried.wrapping_add(1);
@@ -263,7 +263,7 @@ impl Taking {
 }
 
 // New rings and a new heap for what the service sends, and the application's ends of them.
-fn open_giving(rt: &impl Abort, alloc: Global) -> (Giving, Reader, Receiver, NumberReceiver)
+fn open_giving(rt: &impl Abort, alloc: Global) -> (AppInput, Reader, Receiver, NumberReceiver)
     ensures words { result.1.heap.words ≡ WORDS }
     ensures heap { result.2.heap ≡ result.1.heap }
     ensures unused { (result.1.loads ≡ []) × (result.2.taken ≡ []) × (result.3.taken ≡ []) }
@@ -271,7 +271,7 @@ fn open_giving(rt: &impl Abort, alloc: Global) -> (Giving, Reader, Receiver, Num
     let (writer, reader) = shared_heap::open(alloc, WORDS).expect(rt, "memory");
     let (sender, notices) = descriptor_ring::open(alloc, NOTICES, &reader).expect(rt, "memory");
     let (numbers, blocks) = descriptor_ring::open_numbers(alloc, NOTICES).expect(rt, "memory");
-    let giving = Giving {
+    let giving = AppInput {
         writer,
         notices: sender,
         blocks: numbers,
@@ -282,7 +282,11 @@ fn open_giving(rt: &impl Abort, alloc: Global) -> (Giving, Reader, Receiver, Num
 
 // New rings with this much room and a new heap for what the service takes, and the application's ends of
 // them.
-fn open_taking(rt: &impl Abort, alloc: Global, room: u64) -> (Taking, Writer, Sender, NumberSender)
+fn open_taking(
+    rt: &impl Abort,
+    alloc: Global,
+    room: u64,
+) -> (AppOutput, Writer, Sender, NumberSender)
     requires { (1 ≤ room) × (room ≤ 1024) }
     ensures words { result.1.heap.words ≡ WORDS }
     ensures heap { result.2.heap ≡ result.1.heap }
@@ -292,7 +296,7 @@ fn open_taking(rt: &impl Abort, alloc: Global, room: u64) -> (Taking, Writer, Se
     let (writer, reader) = shared_heap::open(alloc, WORDS).expect(rt, "memory");
     let (sender, calls) = descriptor_ring::open(alloc, room, &reader).expect(rt, "memory");
     let (numbers, reclaims) = descriptor_ring::open_numbers(alloc, room).expect(rt, "memory");
-    let taking = Taking {
+    let taking = AppOutput {
         reader,
         calls,
         reclaims,
@@ -317,7 +321,7 @@ pub(crate) fn open(
     alloc: Global,
     room: u64,
     stopped: bool,
-) -> (App, Giving, Taking)
+) -> (App, AppInput, AppOutput)
     requires { (1 ≤ room) × (room ≤ 1024) }
 {
     let (taking, writer, sender, reclaims) = open_taking(rt, alloc, room);

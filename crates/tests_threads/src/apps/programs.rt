@@ -1,7 +1,7 @@
 //! Programs of a few lines.
 
 ghost use Rattle.std.specs.Prelude.{◌≡◌, ◌≤◌, ◌+◌, All, length};
-ghost use Rattle.app_program.specs.Programs.{IsClientLine, IsClientProgram, IsServerProgram, line_stores, stores_of};
+ghost use Rattle.app_program.specs.Programs.{IsClientLine, IsClientProgram, IsServerProgram, line_stores, program_stores};
 ghost use Rattle.tests_threads.specs.declared.apps.port.TheConstants.{WORDS};
 
 use app_program::{Program, ProgramLine};
@@ -15,7 +15,7 @@ fn add(rt: &impl Abort, program: &mut Program, line: ProgramLine)
     requires lines { All (IsClientLine WORDS) program.old }
     ensures lines { All (IsClientLine WORDS) program.new }
     ensures length { length program.new ≡ length program.old + 1 }
-    ensures stores { length (stores_of program.new) ≤ length (stores_of program.old) + 2 }
+    ensures stores { length (program_stores program.new) ≤ length (program_stores program.old) + 2 }
 {
     program.push(line).expect(rt, "memory");
 }

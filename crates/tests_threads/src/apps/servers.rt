@@ -1,6 +1,6 @@
 //! Servers.
 
-use crate::apps::port::{CLOSED, Taking, open};
+use crate::apps::port::{AppOutput, CLOSED, open};
 use crate::apps::programs::one_reply;
 use std::process::Abort;
 use std::sync::Wait;
@@ -15,7 +15,7 @@ fn a_server_replies(rt: HostRuntime) {
     assert_replied(&rt, &mut taking);
 }
 
-fn assert_replied<R: Abort + Wait>(rt: &R, taking: &mut Taking) {
+fn assert_replied<R: Abort + Wait>(rt: &R, taking: &mut AppOutput) {
     assert!(rt; taking.call(rt) == 2);
     assert!(rt; taking.word(2) == 5000);
     assert!(rt; taking.call(rt) == CLOSED);

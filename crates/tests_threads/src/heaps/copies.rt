@@ -96,7 +96,7 @@ impl Drop for Copier {
 
 impl Copier {
     // Copies the message once.
-    fn copy(&mut self, alloc: Global, seen: &mut Seen) {
+    fn copy(&mut self, alloc: Global, seen: &mut CopyStats) {
         self.copies = self.copies.wrapping_add(1);
         match copy_message(alloc, &mut self.reader, &self.table, 0, 2, 2) {
             Ok(answer) => seen.see(&answer),
@@ -105,8 +105,8 @@ impl Copier {
     }
 
     // Copies it 2000 times.
-    fn copy_often(&mut self, alloc: Global) -> Seen {
-        let mut seen = Seen {
+    fn copy_often(&mut self, alloc: Global) -> CopyStats {
+        let mut seen = CopyStats {
             last: 0,
             rising: true,
             torn: true,
@@ -135,7 +135,7 @@ fn both_ends(rt: &impl Abort, alloc: Global) -> (Spinner, Copier) {
 
 // The results of copies of a message that is stored to concurrently.
 #[derive(Clone, Copy)]
-struct Seen {
+struct CopyStats {
     // The number of the last message that was copied, 0 if none was.
     last: u64,
     // Whether no copy was out of memory, and none had a lesser number than the one before.
@@ -144,7 +144,7 @@ struct Seen {
     torn: bool,
 }
 
-impl Seen {
+impl CopyStats {
     fn see(&mut self, answer: &CopyResult) {
         match answer {
             CopyResult::Copied { tree, .. } => {
@@ -177,7 +177,7 @@ fn copy_beside_spinning<R: Threads + Sync>(
     alloc: Global,
     mut spinner: Spinner,
     mut copier: Copier,
-) -> (Seen, u64) {
+) -> (CopyStats, u64) {
     let stop = AtomicBool::new(false);
     let told = &stop;
     join(

@@ -2,7 +2,7 @@
 //! thread.
 
 ghost use Rattle.std.specs.Prelude.{◌≡◌, ◌≤◌, ◌<◌, ◌+◌, [], length};
-ghost use Rattle.descriptor_ring.specs.Rings.{IsOf};
+ghost use Rattle.descriptor_ring.specs.Rings.{IsDescriptorOf};
 
 use crate::discard;
 use crate::heaps::notes::a_heap;
@@ -72,9 +72,9 @@ fn a_full_ring_of_numbers_refuses_and_is_closed_once_there_is_room(rt: HostRunti
     assert_none(&rt, &mut receiver);
     assert_fills(&rt, &mut sender);
     let mut sender = unclosed(&rt, sender);
-    assert_told(&rt, &mut sender, &mut receiver);
+    assert_observed(&rt, &mut sender, &mut receiver);
     let sent = closed(&rt, sender);
-    receiver.hear_all(sent);
+    receiver.observe_all(sent);
     assert_ends(&rt, &mut receiver);
     discard(receiver);
 }
@@ -95,13 +95,17 @@ fn assert_fills<R: Abort + Wait>(rt: &R, sender: &mut NumberSender)
 }
 
 // Each end observes the ring's progress, before and after the take of the first number.
-fn assert_told<R: Abort + Wait>(rt: &R, sender: &mut NumberSender, receiver: &mut NumberReceiver)
+fn assert_observed<R: Abort + Wait>(
+    rt: &R,
+    sender: &mut NumberSender,
+    receiver: &mut NumberReceiver,
+)
     requires { receiver.old.ring ≡ sender.old.ring }
     ensures { (receiver.new.ring ≡ receiver.old.ring) × (sender.new.ring ≡ sender.old.ring) }
 {
-    receiver.hear(sender.progress());
+    receiver.observe(sender.progress());
     assert!(rt; taken(rt, receiver) == 7);
-    sender.hear(receiver.progress());
+    sender.observe(receiver.progress());
 }
 
 fn assert_ends<R: Abort + Wait>(rt: &R, receiver: &mut NumberReceiver) {
@@ -111,7 +115,7 @@ fn assert_ends<R: Abort + Wait>(rt: &R, receiver: &mut NumberReceiver) {
 
 // A descriptor of what the writer stored at place 2.
 fn submission(writer: &mut Writer) -> Descriptor
-    ensures of_heap { IsOf writer.old.heap result }
+    ensures of_heap { IsDescriptorOf writer.old.heap result }
     ensures same { writer.new ≡ writer.old }
 {
     Descriptor {
@@ -172,10 +176,10 @@ fn a_full_ring_of_one_descriptor_refuses(rt: HostRuntime) {
     let (mut writer, mut reader) = a_heap(&rt, rt.alloc());
     let (mut sender, mut receiver) = open(rt.alloc(), 1, &reader).expect(&rt, "memory");
     assert_one_waits(&rt, &mut writer, &mut sender);
-    receiver.hear(sender.progress());
+    receiver.observe(sender.progress());
     assert_one_comes(&rt, &mut reader, &mut receiver);
-    sender.hear(receiver.progress());
-    receiver.hear_all(all_sent(&rt, sender));
+    sender.observe(receiver.progress());
+    receiver.observe_all(all_sent(&rt, sender));
     assert_all_came(&rt, &mut reader, &mut receiver);
     discard(receiver);
     discard(writer);

@@ -5,7 +5,7 @@ ghost use Rattle.spsc_queue.specs.Ends.{producer_queue, consumer_queue, AreEnds}
 
 use crate::discard;
 use mrpc_table::Bytes;
-use spsc_queue::{Consumer, Found, Piece, PieceReader, Producer, meet, open};
+use spsc_queue::{Consumer, Piece, PieceReader, Producer, ReadResult, meet, open};
 use std::alloc::Global;
 use std::process::Abort;
 use std::sync::Wait;
@@ -14,7 +14,7 @@ use std::sync::Wait;
 fn refused<R: Wait>(rt: &R, producer: &mut Producer<u32>, item: u32) -> u32
     ensures queue { producer_queue producer.new ≡ producer_queue producer.old }
 {
-    match producer.put(rt, item) {
+    match producer.try_push(rt, item) {
         Ok(()) => 0,
         Err(back) => back,
     }
@@ -24,7 +24,7 @@ fn refused<R: Wait>(rt: &R, producer: &mut Producer<u32>, item: u32) -> u32
 fn next<R: Wait>(rt: &R, consumer: &mut Consumer<u32>) -> u32
     ensures queue { consumer_queue consumer.new ≡ consumer_queue consumer.old }
 {
-    match consumer.take(rt) {
+    match consumer.pop(rt) {
         Some(item) => item,
         None => 0,
     }
@@ -47,7 +47,7 @@ fn assert_comes_out<R: Abort + Wait>(
     requires { AreEnds producer.old consumer.old }
 {
     assert!(rt; refused(rt, producer, 7) == 0);
-    producer.put_waiting(rt, 8);
+    producer.push_blocking(rt, 8);
     assert!(rt; refused(rt, producer, 9) == 9);
     assert!(rt; producer.len(rt) == 2);
     meet(producer, consumer);
@@ -62,8 +62,8 @@ fn assert_places_stay<R: Abort + Wait>(
     producer: &mut Producer<u32>,
     consumer: &mut Consumer<u32>,
 ) {
-    producer.put_leaving(rt, 1, 7);
-    producer.put_reserved(rt, 8);
+    producer.push_leaving(rt, 1, 7);
+    producer.push_reserved(rt, 8);
     assert!(rt; refused(rt, producer, 9) == 9);
     assert!(rt; next(rt, consumer) == 7);
     assert!(rt; next(rt, consumer) == 8);
@@ -76,7 +76,7 @@ fn put_bytes<R: Abort + Wait>(
     bytes: &[u8],
 ) {
     let copy = Bytes::from_slice(alloc, bytes).expect(rt, "memory");
-    producer.put_waiting(rt, Piece::Bytes(copy));
+    producer.push_blocking(rt, Piece::Bytes(copy));
 }
 
 // A reader of the bytes 7, 8 and 9, of an empty chunk and of the sentinel 5.
@@ -84,7 +84,7 @@ fn a_reader<R: Abort + Wait>(rt: &R, alloc: Global) -> PieceReader<u8> {
     let (mut producer, consumer) = open::<Piece<u8>>(alloc, 4).expect(rt, "memory");
     put_bytes(rt, alloc, &mut producer, &[7, 8, 9]);
     put_bytes(rt, alloc, &mut producer, &[]);
-    producer.put_waiting(rt, Piece::Mark(5));
+    producer.push_blocking(rt, Piece::Sentinel(5));
     PieceReader::new(alloc, consumer)
 }
 
@@ -93,12 +93,12 @@ fn a_reader<R: Abort + Wait>(rt: &R, alloc: Global) -> PieceReader<u8> {
 fn found<R: Wait>(rt: &R, reader: &mut PieceReader<u8>) -> u32 {
     let mut buf = [0; 2];
     match reader.read(rt, &mut buf) {
-        Found::Bytes(1) => u32::from(buf[0]),
-        Found::Bytes(_) => u32::from(buf[0])
+        ReadResult::Bytes(1) => u32::from(buf[0]),
+        ReadResult::Bytes(_) => u32::from(buf[0])
             .wrapping_mul(10)
             .wrapping_add(u32::from(buf[1])),
-        Found::Mark(number) => u32::from(number).wrapping_add(100),
-        Found::Nothing => 0,
+        ReadResult::Sentinel(number) => u32::from(number).wrapping_add(100),
+        ReadResult::Nothing => 0,
     }
 }
 

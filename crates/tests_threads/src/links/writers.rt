@@ -4,7 +4,7 @@ ghost use Rattle.std.specs.Prelude.{◌≡◌};
 
 use crate::discard;
 use crate::links::talks::{Talked, talk};
-use link_queue::{Passed, QueueLink, WriterEnd, open};
+use link_queue::{ClosedQueueLink, QueueLink, WriterEnd, open};
 use mrpc_base::{Came, Handed, Link, MemLink};
 use std::alloc::Global;
 use std::process::Abort;
@@ -14,11 +14,11 @@ use std::thread::Threads;
 
 // A link that is out of memory in each send, and with `in_receives` also in each receive.
 #[derive(Drop)]
-struct Wanting {
+struct OutOfMemoryLink {
     in_receives: bool,
 }
 
-impl Link for Wanting {
+impl Link for OutOfMemoryLink {
     ghost use Rattle.std.specs.Prelude.{[], None, false, ⊤};
 
     ghost handed = { λ _. [] };
@@ -31,7 +31,7 @@ impl Link for Wanting {
 
     ghost peer_finished = { λ old new. ⊤ };
 
-    ghost faults = { λ _. 0 };
+    ghost failures = { λ _. 0 };
 
     ghost since = { λ old new. new.in_receives ≡ old.in_receives };
 
@@ -58,7 +58,7 @@ impl Link for Wanting {
 }
 
 // A talk over the link, which is then closed.
-fn talk_and_close<R: Wait>(rt: &R, mut link: QueueLink<R>) -> (Passed, Talked)
+fn talk_and_close<R: Wait>(rt: &R, mut link: QueueLink<R>) -> (ClosedQueueLink, Talked)
     ensures forward { result.0.forward ≡ link.entry.forward }
     ensures backward { result.0.backward ≡ link.entry.backward }
 {
@@ -68,7 +68,7 @@ fn talk_and_close<R: Wait>(rt: &R, mut link: QueueLink<R>) -> (Passed, Talked)
 
 // The results of a talk through a writer, besides the inner link.
 #[derive(Clone, Copy)]
-pub(crate) struct Told {
+pub(crate) struct TalkResults {
     pub talked: Talked,
     pub failed: bool,
     pub memory: bool,
@@ -76,7 +76,7 @@ pub(crate) struct Told {
 
 // A talk over an inner link through queues of one slot, with the writer in a thread of its own. Returns the
 // inner link.
-pub(crate) fn talk_over<R, L>(rt: &R, alloc: Global, inner: L) -> (L, Told)
+pub(crate) fn talk_over<R, L>(rt: &R, alloc: Global, inner: L) -> (L, TalkResults)
 where
     R: Abort + Threads + Wait + Sync,
     L: Link + Send + Drop,
@@ -89,10 +89,10 @@ where
         move || talk_and_close(rt, link),
     );
     end.meet(passed);
-    let told = Told {
+    let told = TalkResults {
         talked,
         failed: end.failed(),
-        memory: end.memory(),
+        memory: end.is_out_of_memory(),
     };
     (end.into_link(), told)
 }
@@ -114,7 +114,7 @@ fn talk_in_memory<R: Abort + Threads + Wait + Sync>(
     alloc: Global,
     sends: &[u64],
     receives: &[u64],
-) -> (Told, usize) {
+) -> (TalkResults, usize) {
     let inner = three_bytes(rt, alloc, sends, receives);
     let (inner, told) = talk_over(rt, alloc, inner);
     (told, inner.handed().len())
@@ -142,9 +142,9 @@ fn each_receive_fails(rt: HostRuntime) {
 }
 
 #[test]
-fn memory_is_wanting(rt: HostRuntime) {
+fn a_link_runs_out_of_memory(rt: HostRuntime) {
     for in_receives in [false, true] {
-        let (_, told) = talk_over(&rt, rt.alloc(), Wanting { in_receives });
+        let (_, told) = talk_over(&rt, rt.alloc(), OutOfMemoryLink { in_receives });
         assert!(rt; told.talked.sent == 5);
         assert!(rt; told.talked.came == 0);
         assert!(rt; told.talked.last == Came::Memory);
@@ -187,7 +187,7 @@ fn has_the_frame(link: &MemLink) -> bool {
 
 fn assert_works(rt: &impl Abort, end: &WriterEnd<MemLink>) {
     assert!(rt; !end.failed());
-    assert!(rt; !end.memory());
+    assert!(rt; !end.is_out_of_memory());
     assert!(rt; has_the_frame(end.link()));
     assert!(rt; end.link().is_finished());
 }

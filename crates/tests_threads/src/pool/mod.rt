@@ -9,7 +9,7 @@ use std::sync::Wait;
 use std::sync::atomic::{AtomicBool, AtomicU64, Ordering};
 use std::thread::Threads;
 use std::time::Duration;
-use worker_pool::{Visit, Visited, run};
+use worker_pool::{PoolItem, VisitResult, run};
 
 // What an item does.
 #[derive(Clone, Copy)]
@@ -25,16 +25,16 @@ enum Way {
 }
 
 // What the items of a run share.
-struct Common<'r, R> {
+struct PoolContext<'r, R> {
     rt: &'r R,
     tickets: AtomicU64,
     slept: AtomicBool,
     stop: RunFlag,
 }
 
-impl<'r, R> Drop for Common<'r, R> {
+impl<'r, R> Drop for PoolContext<'r, R> {
     fn drop(self) {
-        let Common {
+        let PoolContext {
             rt: _,
             tickets: _,
             slept: _,
@@ -43,9 +43,9 @@ impl<'r, R> Drop for Common<'r, R> {
     }
 }
 
-impl<'r, R: Abort> Common<'r, R> {
-    fn new(rt: &'r R, alloc: Global) -> Common<'r, R> {
-        Common {
+impl<'r, R: Abort> PoolContext<'r, R> {
+    fn new(rt: &'r R, alloc: Global) -> PoolContext<'r, R> {
+        PoolContext {
             rt,
             tickets: AtomicU64::new(0),
             slept: AtomicBool::new(false),
@@ -56,15 +56,15 @@ impl<'r, R: Abort> Common<'r, R> {
 
 // An item that draws a ticket at each visit, and counts the tickets that weren't its turn among seven.
 #[derive(Drop)]
-struct Item<'c, R> {
-    common: &'c Common<'c, R>,
+struct TestItem<'c, R> {
+    common: &'c PoolContext<'c, R>,
     way: Way,
     number: u64,
     visits: u64,
     strays: u64,
 }
 
-impl<'c, R> Visited for Item<'c, R> {
+impl<'c, R> PoolItem for TestItem<'c, R> {
     ghost use Rattle.std.specs.Prelude.{◌≡◌, ⊤};
 
     ghost since = { λ old new. new.number ≡ old.number };
@@ -72,8 +72,8 @@ impl<'c, R> Visited for Item<'c, R> {
     ghost over = { λ _. ⊤ };
 }
 
-impl<'c, R: Wait> Item<'c, R> {
-    fn visit(&mut self) -> Visit
+impl<'c, R: Wait> TestItem<'c, R> {
+    fn visit(&mut self) -> VisitResult
         ensures { self.new.number ≡ self.old.number }
     {
         let ticket = self.common.tickets.fetch_add(1, Ordering::SeqCst);
@@ -84,21 +84,21 @@ impl<'c, R: Wait> Item<'c, R> {
         self.act()
     }
 
-    fn act(&self) -> Visit {
+    fn act(&self) -> VisitResult {
         match self.way {
-            Way::Works(times) if self.visits < times => Visit::Worked,
-            Way::Works(_) => Visit::Over,
+            Way::Works(times) if self.visits < times => VisitResult::Worked,
+            Way::Works(_) => VisitResult::Over,
             Way::Stops => {
                 if self.visits == 3 {
                     self.common.stop.set();
                 }
-                Visit::Worked
+                VisitResult::Worked
             }
-            Way::Waits if self.common.slept.load(Ordering::SeqCst) => Visit::Over,
-            Way::Waits => Visit::Idle,
+            Way::Waits if self.common.slept.load(Ordering::SeqCst) => VisitResult::Over,
+            Way::Waits => VisitResult::Idle,
             Way::Sleeps => {
                 self.sleep();
-                Visit::Over
+                VisitResult::Over
             }
         }
     }
@@ -111,11 +111,15 @@ impl<'c, R: Wait> Item<'c, R> {
 }
 
 // An item of each way, by number.
-fn items<'c, R: Abort>(alloc: Global, common: &'c Common<'c, R>, ways: &[Way]) -> Vec<Item<'c, R>> {
+fn items<'c, R: Abort>(
+    alloc: Global,
+    common: &'c PoolContext<'c, R>,
+    ways: &[Way],
+) -> Vec<TestItem<'c, R>> {
     let mut items = Vec::new(alloc);
     let mut number = 0u64;
     for way in ways {
-        let item = Item {
+        let item = TestItem {
             common,
             way: *way,
             number,
@@ -130,7 +134,7 @@ fn items<'c, R: Abort>(alloc: Global, common: &'c Common<'c, R>, ways: &[Way]) -
 
 // The results of a run.
 #[derive(Clone, Copy)]
-struct Found {
+struct PoolOutcome {
     stopped: bool,
     // Whether all items were returned in order of their numbers.
     in_order: bool,
@@ -141,8 +145,8 @@ struct Found {
     most: u64,
 }
 
-impl Found {
-    fn add<R>(&mut self, place: u64, item: &Item<R>) {
+impl PoolOutcome {
+    fn add<R>(&mut self, place: u64, item: &TestItem<R>) {
         self.in_order &= item.number == place;
         if let Way::Works(times) = item.way {
             self.planned &= item.visits == times;
@@ -151,8 +155,8 @@ impl Found {
         self.most = self.most.max(item.visits);
     }
 
-    fn of<R>(items: &[Item<R>], stopped: bool) -> Found {
-        let mut found = Found {
+    fn of<R>(items: &[TestItem<R>], stopped: bool) -> PoolOutcome {
+        let mut found = PoolOutcome {
             stopped,
             in_order: true,
             planned: true,
@@ -176,10 +180,10 @@ fn visits_of<R: Abort + Threads + Wait + Sync>(
     ways: &[Way],
     workers: usize,
     is_set: bool,
-) -> Found
+) -> PoolOutcome
     requires { (1 ≤ workers) × (workers ≤ 8) }
 {
-    let common = Common::new(rt, alloc);
+    let common = PoolContext::new(rt, alloc);
     if is_set {
         common.stop.set();
     }
@@ -191,10 +195,10 @@ fn visits_of<R: Abort + Threads + Wait + Sync>(
 fn visits_with<R: Abort + Threads + Wait + Sync>(
     rt: &R,
     alloc: Global,
-    common: &Common<R>,
+    common: &PoolContext<R>,
     ways: &[Way],
     workers: usize,
-) -> Found
+) -> PoolOutcome
     requires { (1 ≤ workers) × (workers ≤ 8) }
 {
     let items = items(alloc, common, ways);
@@ -205,12 +209,12 @@ fn visits_with<R: Abort + Threads + Wait + Sync>(
         items,
         workers,
         &common.stop,
-        &|item: &mut Item<R>| -> Visit
+        &|item: &mut TestItem<R>| -> VisitResult
             ensures { item.new.number ≡ item.old.number }
         { item.visit() },
     )
     .expect(rt, "memory");
-    Found::of(&ran.items, ran.stopped)
+    PoolOutcome::of(&ran.items, ran.stopped)
 }
 
 #[test]
@@ -242,7 +246,7 @@ fn a_flag_that_a_visit_sets_stops_many_workers(rt: HostRuntime) {
 }
 
 #[test]
-fn a_flag_that_is_set_lets_nothing_begin(rt: HostRuntime) {
+fn a_flag_that_is_set_lets_nothing_start(rt: HostRuntime) {
     let found = visits_of(&rt, rt.alloc(), &[Way::Stops; 3], 2, true);
     assert!(rt; found.stopped);
     assert!(rt; found.most == 0);

@@ -7,14 +7,14 @@ use std::alloc::Global;
 use std::process::Abort;
 use std::sync::Wait;
 use std::time::Clock;
-use tcp_fabric::{SocketLink, Wrote};
+use tcp_fabric::{SocketLink, WriteResult};
 
 // A link whose socket has these bytes and answers as listed.
 fn link<'r, R: Abort>(
     rt: &'r R,
     alloc: Global,
     incoming: &[u8],
-    writes: &[Wrote],
+    writes: &[WriteResult],
     reads: &[Came],
 ) -> SocketLink<'r, R, ListedSocket> {
     let incoming = incoming.to_vec(alloc).expect(rt, "memory");
@@ -59,7 +59,7 @@ fn taken<R>(link: &SocketLink<R, ListedSocket>) -> u32 {
 
 // An operation on a link, and its expected result.
 #[derive(Clone, Copy)]
-enum Step<'a> {
+enum LinkStep<'a> {
     // The send of a frame succeeds.
     Sends(&'a [u8]),
     // It fails.
@@ -77,18 +77,18 @@ enum Step<'a> {
 }
 
 // Whether a step has its expected result.
-fn holds<R: Wait + Clock>(link: &mut SocketLink<R, ListedSocket>, step: Step) -> bool {
+fn holds<R: Wait + Clock>(link: &mut SocketLink<R, ListedSocket>, step: LinkStep) -> bool {
     match step {
-        Step::Sends(frame) => sends(link, frame),
-        Step::Fails(frame) => !sends(link, frame),
-        Step::Gives(bytes) => next(link) == bytes,
-        Step::Finish => {
+        LinkStep::Sends(frame) => sends(link, frame),
+        LinkStep::Fails(frame) => !sends(link, frame),
+        LinkStep::Gives(bytes) => next(link) == bytes,
+        LinkStep::Finish => {
             link.finish();
             true
         }
-        Step::Taken(bytes) => taken(link) == bytes,
-        Step::Faults(count) => link.faults() == count,
-        Step::Finished => link.socket().finished,
+        LinkStep::Taken(bytes) => taken(link) == bytes,
+        LinkStep::Faults(count) => link.failures() == count,
+        LinkStep::Finished => link.socket().finished,
     }
 }
 
@@ -97,9 +97,9 @@ fn assert_steps<R: Abort + Wait + Clock>(
     rt: &R,
     alloc: Global,
     incoming: &[u8],
-    writes: &[Wrote],
+    writes: &[WriteResult],
     reads: &[Came],
-    steps: &[Step],
+    steps: &[LinkStep],
 ) {
     let mut link = link(rt, alloc, incoming, writes, reads);
     assert_all(rt, &mut link, steps);
@@ -109,7 +109,7 @@ fn assert_steps<R: Abort + Wait + Clock>(
 fn assert_all<R: Abort + Wait + Clock>(
     rt: &R,
     link: &mut SocketLink<R, ListedSocket>,
-    steps: &[Step],
+    steps: &[LinkStep],
 ) {
     let mut place = 0u32;
     for step in steps {
@@ -124,14 +124,19 @@ fn a_frame_goes_out_byte_by_byte(rt: HostRuntime) {
         &rt,
         rt.alloc(),
         &[],
-        &[Wrote::Took(1), Wrote::Full, Wrote::Took(1), Wrote::Full],
+        &[
+            WriteResult::Took(1),
+            WriteResult::Full,
+            WriteResult::Took(1),
+            WriteResult::Full,
+        ],
         &[Came::Idle; 2],
         &[
-            Step::Sends(&[1, 2, 3]),
-            Step::Sends(&[]),
-            Step::Sends(&[4]),
-            Step::Taken(1234),
-            Step::Faults(0),
+            LinkStep::Sends(&[1, 2, 3]),
+            LinkStep::Sends(&[]),
+            LinkStep::Sends(&[4]),
+            LinkStep::Taken(1234),
+            LinkStep::Faults(0),
         ],
     );
 }
@@ -142,33 +147,33 @@ fn what_comes_while_a_frame_waits_is_received_first(rt: HostRuntime) {
         &rt,
         rt.alloc(),
         &[5, 6, 7, 8],
-        &[Wrote::Took(1), Wrote::Full, Wrote::Full],
+        &[WriteResult::Took(1), WriteResult::Full, WriteResult::Full],
         &[Came::Bytes(2), Came::Bytes(1)],
         &[
-            Step::Sends(&[1, 2, 3]),
-            Step::Gives(56),
-            Step::Gives(7),
-            Step::Gives(8),
-            Step::Gives(END),
-            Step::Gives(END),
+            LinkStep::Sends(&[1, 2, 3]),
+            LinkStep::Gives(56),
+            LinkStep::Gives(7),
+            LinkStep::Gives(8),
+            LinkStep::Gives(END),
+            LinkStep::Gives(END),
         ],
     );
 }
 
 #[test]
-fn an_end_found_while_a_frame_waits_is_told_behind_the_bytes(rt: HostRuntime) {
+fn an_end_found_while_a_frame_waits_is_returned_after_the_bytes(rt: HostRuntime) {
     assert_steps(
         &rt,
         rt.alloc(),
         &[5],
-        &[Wrote::Full; 3],
+        &[WriteResult::Full; 3],
         &[Came::Bytes(1), Came::End],
         &[
-            Step::Sends(&[1, 2, 3]),
-            Step::Gives(5),
-            Step::Gives(END),
-            Step::Sends(&[4]),
-            Step::Taken(1234),
+            LinkStep::Sends(&[1, 2, 3]),
+            LinkStep::Gives(5),
+            LinkStep::Gives(END),
+            LinkStep::Sends(&[4]),
+            LinkStep::Taken(1234),
         ],
     );
 }
@@ -179,16 +184,16 @@ fn a_frame_that_fails_midway_cuts_the_link(rt: HostRuntime) {
         &rt,
         rt.alloc(),
         &[5],
-        &[Wrote::Took(2), Wrote::Failed],
+        &[WriteResult::Took(2), WriteResult::Failed],
         &[],
         &[
-            Step::Fails(&[1, 2, 3]),
-            Step::Finished,
-            Step::Fails(&[4]),
-            Step::Taken(12),
+            LinkStep::Fails(&[1, 2, 3]),
+            LinkStep::Finished,
+            LinkStep::Fails(&[4]),
+            LinkStep::Taken(12),
             // After a reset the socket would report that the other side has finished.
-            Step::Gives(FAILED),
-            Step::Faults(3),
+            LinkStep::Gives(FAILED),
+            LinkStep::Faults(3),
         ],
     );
 }
@@ -199,19 +204,19 @@ fn a_reset_while_a_frame_waits_fails_it(rt: HostRuntime) {
         &rt,
         rt.alloc(),
         &[5],
-        &[Wrote::Full; 2],
+        &[WriteResult::Full; 2],
         &[Came::Bytes(1), Came::Failed],
         &[
-            Step::Fails(&[1, 2, 3]),
-            Step::Gives(5),
-            Step::Gives(FAILED),
-            Step::Faults(2),
+            LinkStep::Fails(&[1, 2, 3]),
+            LinkStep::Gives(5),
+            LinkStep::Gives(FAILED),
+            LinkStep::Faults(2),
         ],
     );
 }
 
 #[test]
-fn a_receive_answers_what_the_socket_does(rt: HostRuntime) {
+fn a_receive_returns_the_result_of_the_socket(rt: HostRuntime) {
     assert_steps(
         &rt,
         rt.alloc(),
@@ -219,14 +224,14 @@ fn a_receive_answers_what_the_socket_does(rt: HostRuntime) {
         &[],
         &[Came::Idle, Came::Failed],
         &[
-            Step::Gives(IDLE),
-            Step::Faults(0),
-            Step::Gives(FAILED),
-            Step::Gives(FAILED),
-            Step::Finish,
-            Step::Finished,
-            Step::Fails(&[4]),
-            Step::Faults(3),
+            LinkStep::Gives(IDLE),
+            LinkStep::Faults(0),
+            LinkStep::Gives(FAILED),
+            LinkStep::Gives(FAILED),
+            LinkStep::Finish,
+            LinkStep::Finished,
+            LinkStep::Fails(&[4]),
+            LinkStep::Faults(3),
         ],
     );
 }

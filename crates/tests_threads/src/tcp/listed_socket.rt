@@ -1,12 +1,12 @@
 //! A socket in memory with listed results.
 
 ghost use Rattle.std.specs.Prelude.{◌≡◌, ◌≢◌, ◌<◌, ◌≤◌, ◌++◌, [], length, take};
-ghost use Rattle.mrpc_base.specs.Linking.{OnCame, OnNoneCame};
-ghost use Rattle.tcp_fabric.specs.Sockets.{OnWrote, OnNoneWrote};
+ghost use Rattle.mrpc_base.specs.Links.{OnCame, OnNoneCame};
+ghost use Rattle.tcp_fabric.specs.Sockets.{OnWritten, OnNoneWritten};
 
 use mrpc_base::Came;
 use std::alloc::Global;
-use tcp_fabric::{Socket, Wrote};
+use tcp_fabric::{Socket, WriteResult};
 
 // The k-th write answers the k-th entry of `writes`, and takes no more bytes than that allows; a write past
 // the end of the list takes all. Likewise the k-th read; a read past the end of the list returns as much as
@@ -17,7 +17,7 @@ pub(crate) struct ListedSocket {
     pub given: Vec<u8>,
     pub finished: bool,
     incoming: Vec<u8>,
-    writes: Vec<Wrote>,
+    writes: Vec<WriteResult>,
     reads: Vec<Came>,
     written: usize,
     read: usize,
@@ -27,7 +27,7 @@ impl ListedSocket {
     pub(crate) fn new(
         alloc: Global,
         incoming: Vec<u8>,
-        writes: Vec<Wrote>,
+        writes: Vec<WriteResult>,
         reads: Vec<Came>,
     ) -> ListedSocket
         ensures taken { result.taken.items ≡ [] }
@@ -69,17 +69,17 @@ impl ListedSocket {
     }
 
     // Takes the first bytes of `piece`.
-    fn take(&mut self, piece: &[u8], count: usize) -> Wrote
+    fn take(&mut self, piece: &[u8], count: usize) -> WriteResult
         requires within { count ≤ length piece.now }
         requires some { 0 < count }
-        ensures count { OnWrote result (λ n. n ≡ count) }
-        ensures appended { OnWrote result (λ n. self.new.taken.items ≡ self.old.taken.items ++ take n piece.now) }
-        ensures kept { OnNoneWrote result (self.new.taken.items ≡ self.old.taken.items) }
+        ensures count { OnWritten result (λ n. n ≡ count) }
+        ensures appended { OnWritten result (λ n. self.new.taken.items ≡ self.old.taken.items ++ take n piece.now) }
+        ensures kept { OnNoneWritten result (self.new.taken.items ≡ self.old.taken.items) }
         ensures same_given { self.new.given ≡ self.old.given }
     {
         match self.taken.extend_from_slice(&piece[..count]) {
-            Ok(()) => Wrote::Took(count),
-            Err(_) => Wrote::Failed,
+            Ok(()) => WriteResult::Took(count),
+            Err(_) => WriteResult::Failed,
         }
     }
 }
@@ -91,11 +91,11 @@ impl Socket for ListedSocket {
 
     ghost given = { λ s. Some s.given.items };
 
-    fn write(&mut self, piece: &[u8]) -> Wrote {
+    fn write(&mut self, piece: &[u8]) -> WriteResult {
         let answer = self.writes.get(self.written).copied();
         self.written = self.written.saturating_add(1);
         match answer {
-            Some(Wrote::Took(most)) => self.take(piece, most.min(piece.len()).max(1)),
+            Some(WriteResult::Took(most)) => self.take(piece, most.min(piece.len()).max(1)),
             Some(other) => other,
             None => self.take(piece, piece.len()),
         }

@@ -11,7 +11,7 @@ use std::thread::Threads;
 use std::time::Clock;
 use std::{io, thread};
 use tcp_fabric::{
-    Ends, Loopback, Network, Socket, SocketLink, SystemFault, SystemSocket, TcpFabric,
+    Loopback, Network, Socket, SocketLink, SocketPair, SystemFault, SystemSocket, TcpFabric,
 };
 
 // The longest frame, and how many of them fill both sockets.
@@ -91,7 +91,7 @@ const RESET: &str = "Connection reset by peer (os error 104)";
 #[test]
 fn a_peer_that_is_reset_is_a_failure(rt: HostRuntime) {
     let (network, fault) = loopback(&rt, rt.alloc(), &rt);
-    let Ends {
+    let SocketPair {
         first,
         second,
         first_port,
@@ -129,11 +129,11 @@ fn reads_a_byte<R: Wait, S: Socket + Drop>(rt: &R, mut socket: S) -> bool {
 }
 
 // A frame that fills both sockets, of which the peer reads a byte: how its send ends.
-fn sends_to_a_reset<R>(rt: &R, alloc: Global, ends: Ends<SystemSocket>) -> Handed
+fn sends_to_a_reset<R>(rt: &R, alloc: Global, ends: SocketPair<SystemSocket>) -> Handed
 where
     R: Abort + Threads + Wait + Clock + Sync,
 {
-    let Ends {
+    let SocketPair {
         first,
         second,
         first_port,
@@ -192,7 +192,7 @@ fn assert_refused<R: Abort + Wait + Clock + Sync>(
     let (network, fault) = loopback(rt, alloc, &system);
     let mut fabric = TcpFabric::new(rt, alloc, network);
     assert!(rt; is_refused(&mut fabric));
-    assert!(rt; fabric.faults() == 1);
+    assert!(rt; fabric.failures() == 1);
     assert!(rt; words(rt, alloc, &fault).as_str() == noted);
     discard(fabric);
 }

@@ -9,4 +9,4 @@ returns-in-Some-clause-means c =
 pub returns-in-Some-clause-only : goal.returns-in-Some-clause-only
 returns-in-Some-clause-only c u means =
     let here = whole-means c.args.table.now c.args.msg c.args.bytes.now c.fields-fields.result.now _ c.fields-fields.ensures.value c.in-Some.ensures in
-    c.one_merging.ensures.one c.args.table.now c.args.msg c.args.bytes.now (node_of c.in-Some.fields.items) u here means
+    c.merging_is_unique.ensures.one c.args.table.now c.args.msg c.args.bytes.now (node_of c.in-Some.fields.items) u here means

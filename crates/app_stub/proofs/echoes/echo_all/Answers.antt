@@ -1,5 +1,5 @@
 use Rattle.std.proofs.Common.{ap, sym, refl, map, length, arith, ◌∙◌}
-use Rattle.app_stub.specs.Desks.{echo_of}
+use Rattle.app_stub.specs.EchoStates.{echo_of}
 use Rattle.app_stub.specs.Serving.{submission_of}
 use Rattle.app_stub.proofs.Echoings.{nothing_echoed}
 use Rattle.app_stub.proofs.echoes.echo_all.Goals as goal

@@ -25,9 +25,9 @@ loop-preserved g c =
     let before = c.loop.invariant in
     let came = c.in_ok-notice.ensures in
     let served = c.in_ok-serve-in-Some-2.ensures in
-    let given = c.in_ok-give_back-in-Some-2.ensures in
+    let given = c.in_ok-reclaim_block-in-Some-2.ensures in
     let notices = c.loop.delivery.notices.taken in
-    let one_more : c.give_back.new.self.notices.taken ≡ notices ++ c.in-Some-2.notice ∷ [] =
+    let one_more : c.reclaim_block.new.self.notices.taken ≡ notices ++ c.in-Some-2.notice ∷ [] =
     ap (λ r. r.taken) given.notices ∙ (rw c.in-Some-2.is at came.taken) in (
       served.heap.0 ∙ before.0,
       served.heap.1 ∙ before.1,

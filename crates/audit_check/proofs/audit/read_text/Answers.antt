@@ -14,15 +14,15 @@ loop-rest-init c = record {
   progress = c.in_ok-progress.ensures c.args.table.now;
 }
 
-pub take_front-requires-clause-few : goal.take_front-requires-clause-few
-take_front-requires-clause-few c =
+pub take_first_line-requires-clause-few : goal.take_first_line-requires-clause-few
+take_first_line-requires-clause-few c =
     omega (arith, few_lines c.args.table.now c.args.declared.now c.args.loads c.args.text.now c.loop-rest.rest.now c.loop-rest.progress c.loop-rest.invariant, c.requires.short)
 
-pub take_front-requires-clause-familiar : goal.take_front-requires-clause-familiar
-take_front-requires-clause-familiar c = let r = c.loop-rest.invariant in (c.args.loads, r.history, r.told, r.progress)
+pub take_first_line-requires-clause-familiar : goal.take_first_line-requires-clause-familiar
+take_first_line-requires-clause-familiar c = let r = c.loop-rest.invariant in (c.args.loads, r.history, r.told, r.progress)
 
-pub take_front-requires-clause-some : goal.take_front-requires-clause-some
-take_front-requires-clause-some c = grind (arith, c.is_empty.ensures, c.loop-rest-test.true)
+pub take_first_line-requires-clause-some : goal.take_first_line-requires-clause-some
+take_first_line-requires-clause-some c = grind (arith, c.is_empty.ensures, c.loop-rest-test.true)
 
 pub returns-in_err-others-clause-bad : goal.returns-in_err-others-clause-bad
 returns-in_err-others-clause-bad c =

@@ -1,5 +1,5 @@
 use Rattle.std.proofs.Common.{length}
-use Rattle.audit_check.specs.Reading.{IsRead}
+use Rattle.audit_check.specs.TextProgress.{IsRead}
 use Rattle.audit_check.proofs.audit.read_text.Given as goal
 
 abbrev pub invariant-loop-rest : goal.invariant-loop-rest

@@ -1,7 +1,7 @@
 use Rattle.std.proofs.Common.{◌<◌, ◌∙◌, ℕ, length, arith, sym, subst}
 use Rattle.std.proofs.lemmas.List.{length-map}
-use Rattle.engine_core.specs.Marks.{StandingCall, seqs_of}
-use Rattle.audit_rules.specs.Asking.{LetsAll}
+use Rattle.engine_core.specs.Marks.{PendingCall, seqs_of}
+use Rattle.audit_rules.specs.Asking.{HasPassedFirst}
 use Rattle.audit_rules.proofs.Asked.{entries-same, numbers-same, of-table, apart-same}
 use Rattle.audit_rules.proofs.Entries.{apart-rising, found, not-named, not-passed, not-standing, zip-at}
 use Rattle.audit_rules.proofs.Numbers.{within}
@@ -10,12 +10,12 @@ use Rattle.audit_rules.proofs.ask.ask.Goals as goal
 
 pub returns-in_err-place-clause-none : goal.returns-in_err-place-clause-none
 returns-in_err-place-clause-none c = λ u past n row stands. rw c.from_residual.ensures (λ e at.
-    not-standing u past c.args.engines.now n c.args.calls.now row.ties.same_chain (c.chain_goes_on.ensures.is_chain u past row.prefix).names stands
+    not-standing u past c.args.engines.now n c.args.calls.now row.ties.same_chain (c.chain_after_event.ensures.is_chain u past row.prefix).names stands
     c.args.name.now c.args.seq e c.in_err-place.ensures.none at)
 
 pub returns-in_err-at-clause-none : goal.returns-in_err-at-clause-none
 returns-in_err-at-clause-none c = λ u past n row stands. rw c.from_residual-in_err-at.ensures (λ e at.
-    not-named u past c.args.engines.now n c.args.calls.now row.ties.same_chain (c.chain_goes_on.ensures.is_chain u past row.prefix).names stands
+    not-named u past c.args.engines.now n c.args.calls.now row.ties.same_chain (c.chain_after_event.ensures.is_chain u past row.prefix).names stands
     c.args.name.now c.args.seq e (sym c.in_err-at.ensures) at)
 
 pub index-from-requires : goal.index-from-requires
@@ -23,7 +23,7 @@ index-from-requires c =
     omega (
       arith,
       within (seqs_of c.args.calls.now) c.in_ok-place.place c.args.seq c.in_ok-place.ensures.found,
-      length-map c.args.calls.now (λ (s : StandingCall). s.call.seq),
+      length-map c.args.calls.now (λ (s : PendingCall). s.call.seq),
     )
 
 pub reaches-requires-clause-place : goal.reaches-requires-clause-place
@@ -31,17 +31,17 @@ reaches-requires-clause-place c =
     omega (
       arith,
       within (seqs_of c.args.calls.now) c.in_ok-place.place c.args.seq c.in_ok-place.ensures.found,
-      length-map c.args.calls.now (λ (s : StandingCall). s.call.seq),
+      length-map c.args.calls.now (λ (s : PendingCall). s.call.seq),
     )
 
 pub returns-then-not-reaches-clause-none : goal.returns-then-not-reaches-clause-none
 returns-then-not-reaches-clause-none c = λ u past n row stands e at.
     (let there = found c.args.name.now c.in_ok-at.at c.args.engines.now (sym c.in_ok-at.ensures) in
-    not-passed u past c.args.engines.now n c.args.calls.now row.ties.same_chain (c.chain_goes_on.ensures.is_chain u past row.prefix).names stands
+    not-passed u past c.args.engines.now n c.args.calls.now row.ties.same_chain (c.chain_after_event.ensures.is_chain u past row.prefix).names stands
     c.args.name.now c.args.seq c.in_ok-at.at e there.engine there.at there.named
     (c.if-not-reaches.ensures.stops u past n c.args.seq row.prefix row.ties (apart-rising 0 c.requires.rising.0 c.args.calls.now c.requires.rising.1) row.shows c.in_ok-place.ensures.found
-    (subst (λ (r : ℕ). LetsAll u past c.args.seq r) (sym c.index-from.ensures)
-    (zip-at (LetsAll u past) (seqs_of c.args.calls.now) c.args.reached.now.items c.in_ok-place.place c.args.seq
+    (subst (λ (r : ℕ). HasPassedFirst u past c.args.seq r) (sym c.index-from.ensures)
+    (zip-at (HasPassedFirst u past) (seqs_of c.args.calls.now) c.args.reached.now.items c.in_ok-place.place c.args.seq
     c.index-from.result.now row.reaches c.in_ok-place.ensures.found))) at)
 
 pub index_mut-requires : goal.index_mut-requires
@@ -49,7 +49,7 @@ index_mut-requires c =
     omega (
       arith,
       within (seqs_of c.args.calls.now) c.in_ok-place.place c.args.seq c.in_ok-place.ensures.found,
-      length-map c.args.calls.now (λ (s : StandingCall). s.call.seq),
+      length-map c.args.calls.now (λ (s : PendingCall). s.call.seq),
     )
 
 pub work-outcome-requires-clause-place : goal.work-outcome-requires-clause-place
@@ -57,7 +57,7 @@ work-outcome-requires-clause-place c =
     let here : c.in_ok-place.place < length (seqs_of c.reaches.new.calls) =
     rw c.reaches.ensures.numbers
     (within (seqs_of c.args.calls.now) c.in_ok-place.place c.args.seq c.in_ok-place.ensures.found) in
-    omega (arith, length-map c.reaches.new.calls (λ (s : StandingCall). s.call.seq))
+    omega (arith, length-map c.reaches.new.calls (λ (s : PendingCall). s.call.seq))
 
 pub returns-clause-numbers : goal.returns-clause-numbers
 returns-clause-numbers c = numbers-same c.reaches.new.engines c.reaches.new.calls c.in_ok-at.at c.in_ok-place.place
@@ -79,11 +79,11 @@ returns-clause-asked c = λ u past n row stands.
     (let apart = apart-rising 0 c.requires.rising.0 c.args.calls.now c.requires.rising.1 in
     asked-turn u past n c.args.engines.now c.args.calls.now c.args.reached.now.items c.args.seq c.args.name.now
     c.args.now c.in_ok-place.place c.in_ok-at.at c.reaches.new.engines c.reaches.new.calls
-    c.work-outcome.result c.work-outcome.new.engines c.work-outcome.new.calls row (c.chain_goes_on.ensures.is_chain u past row.prefix).names stands c.in_ok-place.ensures.found
+    c.work-outcome.result c.work-outcome.new.engines c.work-outcome.new.calls row (c.chain_after_event.ensures.is_chain u past row.prefix).names stands c.in_ok-place.ensures.found
     (sym c.in_ok-at.ensures) (c.if-not-reaches.ensures.ties u past n row.prefix row.ties apart) (apart-same c.args.calls.now c.reaches.new.calls c.reaches.ensures.numbers apart)
     c.reaches.ensures.numbers c.reaches.ensures.entries
     (c.if-not-reaches.ensures.passes u past n c.args.seq row.prefix row.ties apart row.shows c.in_ok-place.ensures.found
-    (subst (λ (r : ℕ). LetsAll u past c.args.seq r) (sym c.index-from.ensures)
-    (zip-at (LetsAll u past) (seqs_of c.args.calls.now) c.args.reached.now.items c.in_ok-place.place c.args.seq
+    (subst (λ (r : ℕ). HasPassedFirst u past c.args.seq r) (sym c.index-from.ensures)
+    (zip-at (HasPassedFirst u past) (seqs_of c.args.calls.now) c.args.reached.now.items c.in_ok-place.place c.args.seq
     c.index-from.result.now row.reaches c.in_ok-place.ensures.found)))
-    c.work-outcome.ensures.works c.ties_go_on.ensures.works)
+    c.work-outcome.ensures.works c.ties_after_event.ensures.works)

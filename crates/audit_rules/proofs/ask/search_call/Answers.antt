@@ -1,6 +1,6 @@
 use Rattle.std.proofs.Common.{◌≢◌, ◌<◌, get_or, length, arith}
 use Rattle.std.proofs.lemmas.List.{length-map}
-use Rattle.engine_core.specs.Marks.{StandingCall, seqs_of}
+use Rattle.engine_core.specs.Marks.{PendingCall, seqs_of}
 use Rattle.audit_rules.proofs.Numbers.{less-before, more-behind, none-there, not-there}
 use Rattle.audit_rules.proofs.ask.search_call.Goals as goal
 use Rattle.audit_rules.proofs.ask.search_call.Goals.{else-low-len-via-then-low-len+else-seq_at-seq-2, else-low-len-via-else-low-len}
@@ -29,5 +29,5 @@ returns-else-low-len-clause-none c = none-there 0 c.requires.0 (seqs_of c.args.c
     apart inside = elim c.else-low-len.branch [
       | else-low-len-via-then-low-len+else-seq_at-seq-2 w ↦ not-there (seqs_of c.args.calls.now) c.loop-low.low
           w.seq_at-then-low-len.result c.args.seq w.seq_at-then-low-len.ensures w.if-seq_at-seq-2.false
-      | else-low-len-via-else-low-len w ↦ absurd (omega (arith, length-map c.args.calls.now (λ (s : StandingCall). s.call.seq)))
+      | else-low-len-via-else-low-len w ↦ absurd (omega (arith, length-map c.args.calls.now (λ (s : PendingCall). s.call.seq)))
     ]

@@ -6,5 +6,5 @@ use Rattle.audit_text.proofs.copy.copy_at.Goals as goal
 
 pub returns-in-Some : goal.returns-in-Some
 returns-in-Some c =
-    subst (λ (rest : Option (Bor (List ℕ))). ReadsTree c.args.table.now c.args.message (words_in rest) c.copied.result) (sym c.in-Some.is)
-    (read-alone c.args.table.now c.requires.valid c.args.message c.in-Some.text.now c.copied.result c.copied.ensures)
+    subst (λ (rest : Option (Bor (List ℕ))). ReadsTree c.args.table.now c.args.message (words_in rest) c.message_of_word.result) (sym c.in-Some.is)
+    (read-alone c.args.table.now c.requires.valid c.args.message c.in-Some.text.now c.message_of_word.result c.message_of_word.ensures)

@@ -18,6 +18,6 @@ returns-clause-told c =
 pub returns-clause-only : goal.returns-clause-only
 returns-clause-only c =
     let is : c.args.line.now ≡ c.in-Some.text.now ++ 10 ∷ [] = search rules in
-    whole-only c.a_line_is_cut_into_its_words.ensures.happening c.a_line_is_cut_into_its_words.ensures.stands
-    c.a_text_has_one_history.ensures.front c.a_stands_line_tells_one_call.ensures.apart
-    c.a_stands_line_tells_one_call.ensures.one c.args.table.now c.requires c.args.declared.now c.args.line.now c.in-Some.text.now c.line_of.result is c.line_of.ensures
+    whole-only c.line_splits_into_words.ensures.happening c.line_splits_into_words.ensures.stands
+    c.history_of_text_is_unique.ensures.front c.stands_line_determines_call.ensures.apart
+    c.stands_line_determines_call.ensures.one c.args.table.now c.requires c.args.declared.now c.args.line.now c.in-Some.text.now c.line_of.result is c.line_of.ensures

@@ -3,7 +3,7 @@ use Rattle.std.proofs.lemmas.List.Elements.{All-push}
 use Rattle.call_history.specs.Legal.{History}
 use Rattle.audit_text.specs.Lines.{audit, audit_line}
 use Rattle.audit_text.specs.Writable.{IsWritable}
-use Rattle.audit_text.specs.Faults.{HasNoLine, IsFirstBad}
+use Rattle.audit_text.specs.Faults.{HasNoLine, IsFirstInvalidLine}
 use Rattle.audit_text.specs.declared.reading.AuditFault.TheVariants.{Bad}
 use Rattle.audit_text.proofs.Histories.{audit-more, no-history, nothing-left}
 use Rattle.audit_text.proofs.reading.read_audit.Goals as goal
@@ -16,7 +16,7 @@ returns-in_default-clause-only c =
     let rest = c.loop-rest.rest.now in
     let some : rest ≢ [] = search rules in
     let none : HasNoLine T declared rest = search rules in
-    absurd (no-history c.a_text_has_one_history.ensures.front T c.requires declared c.loop-rest.history h rest
+    absurd (no-history c.history_of_text_is_unique.ensures.front T c.requires declared c.loop-rest.history h rest
     c.loop-rest.invariant.told all some none (sym c.loop-rest.invariant.text ∙ e))
 
 pub loop-rest-preserved : goal.loop-rest-preserved
@@ -45,7 +45,7 @@ returns-clause-only c =
     let text : c.args.text.now ≡ audit c.args.table.now c.loop-rest.history =
     c.loop-rest.invariant.text ∙ ap (λ r. audit c.args.table.now c.loop-rest.history ++ r) none
     ∙ append-nil (audit c.args.table.now c.loop-rest.history) in
-    c.a_text_has_one_history.ensures.text c.args.table.now c.args.declared.now c.loop-rest.history h c.requires c.loop-rest.invariant.told all (sym text ∙ e)
+    c.history_of_text_is_unique.ensures.text c.args.table.now c.args.declared.now c.loop-rest.history h c.requires c.loop-rest.invariant.told all (sym text ∙ e)
 
 pub returns-clause-only_bad : goal.returns-clause-only_bad
 returns-clause-only_bad c =
@@ -55,7 +55,7 @@ returns-clause-only_bad c =
     let text : c.args.text.now ≡ audit c.args.table.now c.loop-rest.history =
     c.loop-rest.invariant.text ∙ ap (λ r. audit c.args.table.now c.loop-rest.history ++ r) none
     ∙ append-nil (audit c.args.table.now c.loop-rest.history) in
-    c.a_text_has_one_bad_line.ensures.not_both c.args.table.now c.args.declared.now c.args.text.now c.loop-rest.history line c.requires c.loop-rest.invariant.told text is
+    c.first_invalid_line_is_unique.ensures.not_both c.args.table.now c.args.declared.now c.args.text.now c.loop-rest.history line c.requires c.loop-rest.invariant.told text is
 
 pub returns-in_default-clause-only_bad : goal.returns-in_default-clause-only_bad
 returns-in_default-clause-only_bad c =
@@ -66,13 +66,13 @@ returns-in_default-clause-only_bad c =
     let some : rest ≢ [] = search rules in
     let none : HasNoLine T declared rest = search rules in
     let count : c.len.result + 1 ≡ length c.loop-rest.history + 1 = search rules in
-    let bad : IsFirstBad T declared c.args.text.now (c.len.result + 1) = record {
+    let bad : IsFirstInvalidLine T declared c.args.text.now (c.len.result + 1) = record {
       before = c.loop-rest.history;
       rest = rest;
       told = c.loop-rest.invariant.told;
       text_is = c.loop-rest.invariant.text;
       number = count;
-      some_left = some;
+      not_empty = some;
       none_next = none;
     } in
-    inl (ap Bad (c.a_text_has_one_bad_line.ensures.bad T declared c.args.text.now (c.len.result + 1) line c.requires bad is))
+    inl (ap Bad (c.first_invalid_line_is_unique.ensures.bad T declared c.args.text.now (c.len.result + 1) line c.requires bad is))

@@ -1,6 +1,6 @@
 use Rattle.std.proofs.Common.{sym, subst}
 use Rattle.engine_core.specs.declared.op.Op.{Op as Step}
-use Rattle.conn_core.specs.Kept.{IsChanged}
+use Rattle.conn_core.specs.Invariant.{IsChanged}
 use Rattle.conn_core.proofs.Placing.{on-ok}
 use Rattle.conn_core.proofs.changing.change.Goals as goal
 

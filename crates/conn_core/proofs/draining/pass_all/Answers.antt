@@ -1,8 +1,8 @@
 use Rattle.std.proofs.Common.{◌≡◌, ◌<◌, length, ap, arith}
-use Rattle.call_history.specs.Behind.{chain}
+use Rattle.call_history.specs.Trace.{chain}
 use Rattle.call_history.specs.Draining.{is_over}
 use Rattle.chain_upgrade.specs.Chains.{ChainParts}
-use Rattle.conn_core.specs.Connections.{behind, course, under}
+use Rattle.conn_core.specs.Connections.{conn_trace, conn_state, judge_context}
 use Rattle.conn_core.proofs.TurnByTurn.{chain-long, known-later, passes-again, passes-rest, same-length, same-under, went-both}
 use Rattle.conn_core.proofs.draining.pass_all.Goals as goal
 
@@ -23,8 +23,8 @@ engines-preserved-then-turns_at g c =
           (λ (x : ChainParts). length x.engines) c.chain.ensures,
       c.engines-test.true,
     ) in (
-      passes-rest (under c.args.conn.now) (under c.engines.conn) c.engines.at (course c.args.conn.now)
-          (course c.engines.conn) (course c.turns_at.new.conn)
+      passes-rest (judge_context c.args.conn.now) (judge_context c.engines.conn) c.engines.at (conn_state c.args.conn.now)
+          (conn_state c.engines.conn) (conn_state c.turns_at.new.conn)
           (same-under c.args.conn.now c.engines.conn c.engines.invariant.1.same) c.engines.invariant.0
           (omega (arith, inside, chain-long c.engines.conn c.is_connection-in-engines.ensures))
           c.if-turns_at.ensures.rest,
@@ -49,8 +49,8 @@ engines-preserved g c =
           (λ (x : ChainParts). length x.engines) c.chain.ensures,
       c.engines-test.true,
     ) in (
-      passes-again (under c.args.conn.now) (under c.engines.conn) c.engines.at (course c.args.conn.now)
-          (course c.engines.conn) (course c.turns_at.new.conn)
+      passes-again (judge_context c.args.conn.now) (judge_context c.engines.conn) c.engines.at (conn_state c.args.conn.now)
+          (conn_state c.engines.conn) (conn_state c.turns_at.new.conn)
           (same-under c.args.conn.now c.engines.conn c.engines.invariant.1.same) c.engines.invariant.0
           (omega (arith, inside, chain-long c.engines.conn c.is_connection-in-engines.ensures))
           c.if-turns_at.ensures.again,
@@ -62,7 +62,7 @@ engines-preserved g c =
 
 pub returns-clause-passes : goal.returns-clause-passes
 returns-clause-passes g c =
-    let over : c.engines.at ≡ length (chain (behind c.engines.conn)).entries =
+    let over : c.engines.at ≡ length (chain (conn_trace c.engines.conn)).entries =
     omega (
       arith,
       c.engines-in-engines.ensures.count,
@@ -73,4 +73,4 @@ returns-clause-passes g c =
       same-length c.args.conn.now c.engines.conn c.is_connection.ensures c.is_connection-2.ensures
           c.engines.invariant.1.same_chain,
     ) in
-    c.engines.invariant.0 (course c.engines.conn) (is_over c.engines.at (course c.engines.conn) over)
+    c.engines.invariant.0 (conn_state c.engines.conn) (is_over c.engines.at (conn_state c.engines.conn) over)

@@ -1,8 +1,8 @@
 use Rattle.std.proofs.Common.{◌≢◌, inl, inr, length, refl, sym, ◌∙◌, subst, arith}
 use Rattle.std.specs.Prelude.{None}
 use Rattle.engine_core.specs.Moves.{first_at}
-use Rattle.call_history.specs.Draining.{SendsSome, none}
-use Rattle.conn_core.specs.Connections.{Connection, course, under}
+use Rattle.call_history.specs.Draining.{HasSentSome, none}
+use Rattle.conn_core.specs.Connections.{Connection, conn_state, judge_context}
 use Rattle.conn_core.proofs.SentAll.{failed-tickets, fails-behind, fewer-standing, hands-both, sends-one, sent-tickets}
 use Rattle.conn_core.proofs.TurnByTurn.{same-trans, same-under}
 use Rattle.conn_core.proofs.draining.send_all.Goals as goal
@@ -13,8 +13,8 @@ calls-smaller g c = omega
 
 pub calls-preserved : goal.calls-preserved
 calls-preserved g c = (
-  sends-one (under c.args.conn.now) (under c.calls.conn) (course c.args.conn.now) (course c.calls.conn)
-      (course c.send_ready.new.self) c.in-Sent.seq c.in-Sent.ensures.sent.0
+  sends-one (judge_context c.args.conn.now) (judge_context c.calls.conn) (conn_state c.args.conn.now) (conn_state c.calls.conn)
+      (conn_state c.send_ready.new.self) c.in-Sent.seq c.in-Sent.ensures.sent.0
       (same-under c.args.conn.now c.calls.conn c.calls.invariant.1) c.calls.invariant.0 c.in-Sent.ensures.sent.1,
   same-trans c.args.conn.now c.calls.conn c.send_ready.new.self c.calls.invariant.1 c.in-Sent.ensures.same,
   λ tenant window. sent-tickets c.calls.conn c.send_ready.new.self c.in-Sent.seq c.in-Sent.ensures.sent tenant window ∙
@@ -30,15 +30,15 @@ calls-preserved g c = (
 
 pub returns-in-Nothing-clause-done : goal.returns-in-Nothing-clause-done
 returns-in-Nothing-clause-done g c =
-    λ is. subst (λ (x : Connection). SendsSome (under c.args.conn.now) (course c.args.conn.now) (course x))
+    λ is. subst (λ (x : Connection). HasSentSome (judge_context c.args.conn.now) (conn_state c.args.conn.now) (conn_state x))
     (sym (c.in-Nothing.ensures.as_before (inl refl)))
-    (c.calls.invariant.0 (course c.calls.conn) (none (course c.calls.conn)))
+    (c.calls.invariant.0 (conn_state c.calls.conn) (none (conn_state c.calls.conn)))
 
 pub returns-in-Failed-clause-failed : goal.returns-in-Failed-clause-failed
 returns-in-Failed-clause-failed g c = λ is.
-    fails-behind g.L.Link.refused g.L.Link.handed g.L.Link.faults g.L.Link.since c.args.conn.now c.calls.conn
+    fails-behind g.L.Link.refused g.L.Link.handed g.L.Link.failures g.L.Link.since c.args.conn.now c.calls.conn
     c.send_ready.new.self c.args.link.now c.calls.link c.send_ready.new.link c.calls.invariant.1
-    c.in-Failed.ensures.same (c.calls.invariant.0 (course c.calls.conn) (none (course c.calls.conn)))
+    c.in-Failed.ensures.same (c.calls.invariant.0 (conn_state c.calls.conn) (none (conn_state c.calls.conn)))
     (c.in-Failed.ensures.failed refl) (c.in-Failed.ensures.refused refl) c.in-Failed.ensures.handed
     c.calls.invariant.7 c.calls.invariant.6
 
@@ -49,9 +49,9 @@ returns-in-Failed-clause-tickets g c =
 
 pub returns-in-Memory-clause-memory : goal.returns-in-Memory-clause-memory
 returns-in-Memory-clause-memory g c =
-    λ is. subst (λ (x : Connection). SendsSome (under c.args.conn.now) (course c.args.conn.now) (course x))
+    λ is. subst (λ (x : Connection). HasSentSome (judge_context c.args.conn.now) (conn_state c.args.conn.now) (conn_state x))
     (sym (c.in-Memory.ensures.as_before (inr refl)))
-    (c.calls.invariant.0 (course c.calls.conn) (none (course c.calls.conn)))
+    (c.calls.invariant.0 (conn_state c.calls.conn) (none (conn_state c.calls.conn)))
 
 pub returns-in-Memory-clause-still_ready : goal.returns-in-Memory-clause-still_ready
 returns-in-Memory-clause-still_ready g c =

@@ -2,12 +2,12 @@ use Rattle.std.proofs.Common.{◌≡◌, ◌∙◌, ap, refl, subst, sym, arith}
 use Rattle.std.specs.Prelude.{All, None}
 use Rattle.engine_core.specs.Moves.{first_at}
 use Rattle.engine_core.specs.Policies.{KnowsTenantOf}
-use Rattle.call_history.specs.Events.{turns}
+use Rattle.call_history.specs.Transitions.{turns}
 use Rattle.engine_core.specs.declared.outcome.Noted.TheVariants as notes
 use Rattle.engine_core.specs.declared.outcome.Outcome.TheVariants as outcomes
-use Rattle.conn_core.specs.Connections.{Connection, course, under}
-use Rattle.conn_core.specs.Kept.{Went}
-use Rattle.conn_core.specs.Steps.{Steps}
+use Rattle.conn_core.specs.Connections.{Connection, conn_state, judge_context}
+use Rattle.conn_core.specs.Invariant.{HasAdvancedByTurns}
+use Rattle.conn_core.specs.ConnectionSteps.{IsStep}
 use Rattle.conn_core.proofs.Passing.{fewer-waiting, turn-in}
 use Rattle.conn_core.proofs.TurnByTurn.{again-redacted, follows-done, known-later, rest-held, rest-idle, same-under, went-both, went-turn, went-unnoted}
 use Rattle.conn_core.proofs.draining.turns_at.Goals as goal
@@ -22,20 +22,20 @@ turn-requires-clause-known g c =
 
 pub returns-in-Idle-clause-rest : goal.returns-in-Idle-clause-rest
 returns-in-Idle-clause-rest g c =
-    rest-idle (under c.args.conn.now) c.args.at (course c.args.conn.now) (course c.turns.conn)
-    (course c.turn.new.self) c.turns.invariant.0
+    rest-idle (judge_context c.args.conn.now) c.args.at (conn_state c.args.conn.now) (conn_state c.turns.conn)
+    (conn_state c.turn.new.self) c.turns.invariant.0
     (subst (λ (x : Connection). first_at c.args.at x.chain.row ≡ None) c.if-not-pass_unnoted.ensures.as_before
     (c.in-Idle.ensures.idle.0 refl))
-    (ap (λ (x : Connection). course x) ((c.in-Idle.ensures.as_before refl).0 ∙ c.if-not-pass_unnoted.ensures.as_before))
+    (ap (λ (x : Connection). conn_state x) ((c.in-Idle.ensures.as_before refl).0 ∙ c.if-not-pass_unnoted.ensures.as_before))
 
 pub returns-in-Held-clause-rest : goal.returns-in-Held-clause-rest
 returns-in-Held-clause-rest g c =
-    rest-held (under c.args.conn.now) (under c.turns.conn) c.args.at c.in-Held.seq c.in-Held.level c.in-Held.cost
-    (course c.args.conn.now) (course c.turns.conn)
-    (course c.turn.new.self) (same-under c.args.conn.now c.turns.conn c.turns.invariant.1.same) c.turns.invariant.0
-    (turn-in (under c.turns.conn) (course c.turns.conn) (course c.turn.new.self) c.args.at c.in-Held.seq
+    rest-held (judge_context c.args.conn.now) (judge_context c.turns.conn) c.args.at c.in-Held.seq c.in-Held.level c.in-Held.cost
+    (conn_state c.args.conn.now) (conn_state c.turns.conn)
+    (conn_state c.turn.new.self) (same-under c.args.conn.now c.turns.conn c.turns.invariant.1.same) c.turns.invariant.0
+    (turn-in (judge_context c.turns.conn) (conn_state c.turns.conn) (conn_state c.turn.new.self) c.args.at c.in-Held.seq
     (outcomes.Held c.in-Held.level c.in-Held.cost)
-    (subst (λ (x : Connection). Steps x
+    (subst (λ (x : Connection). IsStep x
     (turns c.args.at c.in-Held.seq (outcomes.Held c.in-Held.level c.in-Held.cost)) c.turn.new.self)
     c.if-not-pass_unnoted.ensures.as_before c.in-Held.ensures.turned))
 
@@ -44,7 +44,7 @@ returns-in-Held-clause-went g c =
     went-both g.Q.Tickets.knows g.Q.Tickets.drawn g.Q.Tickets.since c.args.conn.now c.turns.conn c.turn.new.self
     c.args.tickets.now c.turns.tickets c.turn.new.tickets
     c.turns.invariant.1
-    (subst (λ (x : Connection). Went g.Q.Tickets.knows g.Q.Tickets.drawn g.Q.Tickets.since x c.turn.new.self
+    (subst (λ (x : Connection). HasAdvancedByTurns g.Q.Tickets.knows g.Q.Tickets.drawn g.Q.Tickets.since x c.turn.new.self
     c.turns.tickets c.turn.new.tickets) c.if-not-pass_unnoted.ensures.as_before
     (went-turn g.Q.Tickets.knows g.Q.Tickets.drawn g.Q.Tickets.since c.pass_unnoted.new.self c.turn.new.self
     c.turns.tickets c.turn.new.tickets c.args.at c.turn.result
@@ -52,12 +52,12 @@ returns-in-Held-clause-went g c =
 
 pub returns-in-Redacted-clause-again : goal.returns-in-Redacted-clause-again
 returns-in-Redacted-clause-again g c =
-    again-redacted (under c.args.conn.now) (under c.turns.conn) c.args.at c.in-Redacted.seq (course c.args.conn.now)
-    (course c.turns.conn)
-    (course c.turn.new.self) (same-under c.args.conn.now c.turns.conn c.turns.invariant.1.same) c.turns.invariant.0
-    (turn-in (under c.turns.conn) (course c.turns.conn)
-    (course c.turn.new.self) c.args.at c.in-Redacted.seq outcomes.Redacted
-    (subst (λ (x : Connection). Steps x (turns c.args.at c.in-Redacted.seq outcomes.Redacted) c.turn.new.self)
+    again-redacted (judge_context c.args.conn.now) (judge_context c.turns.conn) c.args.at c.in-Redacted.seq (conn_state c.args.conn.now)
+    (conn_state c.turns.conn)
+    (conn_state c.turn.new.self) (same-under c.args.conn.now c.turns.conn c.turns.invariant.1.same) c.turns.invariant.0
+    (turn-in (judge_context c.turns.conn) (conn_state c.turns.conn)
+    (conn_state c.turn.new.self) c.args.at c.in-Redacted.seq outcomes.Redacted
+    (subst (λ (x : Connection). IsStep x (turns c.args.at c.in-Redacted.seq outcomes.Redacted) c.turn.new.self)
     c.if-not-pass_unnoted.ensures.as_before c.in-Redacted.ensures.turned))
 
 pub returns-in-Redacted-clause-went : goal.returns-in-Redacted-clause-went
@@ -65,7 +65,7 @@ returns-in-Redacted-clause-went g c =
     went-both g.Q.Tickets.knows g.Q.Tickets.drawn g.Q.Tickets.since c.args.conn.now c.turns.conn c.turn.new.self
     c.args.tickets.now c.turns.tickets c.turn.new.tickets
     c.turns.invariant.1
-    (subst (λ (x : Connection). Went g.Q.Tickets.knows g.Q.Tickets.drawn g.Q.Tickets.since x c.turn.new.self
+    (subst (λ (x : Connection). HasAdvancedByTurns g.Q.Tickets.knows g.Q.Tickets.drawn g.Q.Tickets.since x c.turn.new.self
     c.turns.tickets c.turn.new.tickets) c.if-not-pass_unnoted.ensures.as_before
     (went-turn g.Q.Tickets.knows g.Q.Tickets.drawn g.Q.Tickets.since c.pass_unnoted.new.self c.turn.new.self
     c.turns.tickets c.turn.new.tickets c.args.at c.turn.result
@@ -76,25 +76,25 @@ turns-smaller-in-Moved g c = omega (
   arith,
   fewer-waiting c.turns.conn c.turn.new.self c.args.at c.in-Moved.seq
       (outcomes.Passed c.in-Moved.noted) c.is_connection-in-turns.ensures tt
-      (subst (λ (x : Connection). Steps x
+      (subst (λ (x : Connection). IsStep x
       (turns c.args.at c.in-Moved.seq (outcomes.Passed c.in-Moved.noted)) c.turn.new.self)
       c.if-not-pass_unnoted.ensures.as_before c.in-Moved.ensures.turned),
 )
 
 pub turns-preserved-in-Moved : goal.turns-preserved-in-Moved
 turns-preserved-in-Moved g c = (
-  follows-done (under c.args.conn.now) (under c.turns.conn) c.args.at c.in-Moved.seq (outcomes.Passed c.in-Moved.noted)
-      (course c.args.conn.now) (course c.turns.conn)
-      (course c.turn.new.self) (same-under c.args.conn.now c.turns.conn c.turns.invariant.1.same) c.turns.invariant.0 tt
-      (turn-in (under c.turns.conn) (course c.turns.conn) (course c.turn.new.self) c.args.at c.in-Moved.seq
+  follows-done (judge_context c.args.conn.now) (judge_context c.turns.conn) c.args.at c.in-Moved.seq (outcomes.Passed c.in-Moved.noted)
+      (conn_state c.args.conn.now) (conn_state c.turns.conn)
+      (conn_state c.turn.new.self) (same-under c.args.conn.now c.turns.conn c.turns.invariant.1.same) c.turns.invariant.0 tt
+      (turn-in (judge_context c.turns.conn) (conn_state c.turns.conn) (conn_state c.turn.new.self) c.args.at c.in-Moved.seq
       (outcomes.Passed c.in-Moved.noted)
-      (subst (λ (x : Connection). Steps x
+      (subst (λ (x : Connection). IsStep x
       (turns c.args.at c.in-Moved.seq (outcomes.Passed c.in-Moved.noted)) c.turn.new.self)
       c.if-not-pass_unnoted.ensures.as_before c.in-Moved.ensures.turned)),
   went-both g.Q.Tickets.knows g.Q.Tickets.drawn g.Q.Tickets.since c.args.conn.now c.turns.conn c.turn.new.self
       c.args.tickets.now c.turns.tickets c.turn.new.tickets
       c.turns.invariant.1
-      (subst (λ (x : Connection). Went g.Q.Tickets.knows g.Q.Tickets.drawn g.Q.Tickets.since x c.turn.new.self
+      (subst (λ (x : Connection). HasAdvancedByTurns g.Q.Tickets.knows g.Q.Tickets.drawn g.Q.Tickets.since x c.turn.new.self
       c.turns.tickets c.turn.new.tickets) c.if-not-pass_unnoted.ensures.as_before
       (went-turn g.Q.Tickets.knows g.Q.Tickets.drawn g.Q.Tickets.since c.pass_unnoted.new.self c.turn.new.self
       c.turns.tickets c.turn.new.tickets c.args.at c.turn.result
@@ -106,25 +106,25 @@ turns-smaller-in-Refused g c = omega (
   arith,
   fewer-waiting c.turns.conn c.turn.new.self c.args.at c.in-Refused.seq
       (outcomes.Refused c.in-Refused.noted c.in-Refused.why) c.is_connection-in-turns.ensures tt
-      (subst (λ (x : Connection). Steps x
+      (subst (λ (x : Connection). IsStep x
       (turns c.args.at c.in-Refused.seq (outcomes.Refused c.in-Refused.noted c.in-Refused.why)) c.turn.new.self)
       c.if-not-pass_unnoted.ensures.as_before c.in-Refused.ensures.turned),
 )
 
 pub turns-preserved-in-Refused : goal.turns-preserved-in-Refused
 turns-preserved-in-Refused g c = (
-  follows-done (under c.args.conn.now) (under c.turns.conn) c.args.at c.in-Refused.seq
-      (outcomes.Refused c.in-Refused.noted c.in-Refused.why) (course c.args.conn.now) (course c.turns.conn)
-      (course c.turn.new.self) (same-under c.args.conn.now c.turns.conn c.turns.invariant.1.same) c.turns.invariant.0 tt
-      (turn-in (under c.turns.conn) (course c.turns.conn) (course c.turn.new.self) c.args.at c.in-Refused.seq
+  follows-done (judge_context c.args.conn.now) (judge_context c.turns.conn) c.args.at c.in-Refused.seq
+      (outcomes.Refused c.in-Refused.noted c.in-Refused.why) (conn_state c.args.conn.now) (conn_state c.turns.conn)
+      (conn_state c.turn.new.self) (same-under c.args.conn.now c.turns.conn c.turns.invariant.1.same) c.turns.invariant.0 tt
+      (turn-in (judge_context c.turns.conn) (conn_state c.turns.conn) (conn_state c.turn.new.self) c.args.at c.in-Refused.seq
       (outcomes.Refused c.in-Refused.noted c.in-Refused.why)
-      (subst (λ (x : Connection). Steps x
+      (subst (λ (x : Connection). IsStep x
       (turns c.args.at c.in-Refused.seq (outcomes.Refused c.in-Refused.noted c.in-Refused.why)) c.turn.new.self)
       c.if-not-pass_unnoted.ensures.as_before c.in-Refused.ensures.turned)),
   went-both g.Q.Tickets.knows g.Q.Tickets.drawn g.Q.Tickets.since c.args.conn.now c.turns.conn c.turn.new.self
       c.args.tickets.now c.turns.tickets c.turn.new.tickets
       c.turns.invariant.1
-      (subst (λ (x : Connection). Went g.Q.Tickets.knows g.Q.Tickets.drawn g.Q.Tickets.since x c.turn.new.self
+      (subst (λ (x : Connection). HasAdvancedByTurns g.Q.Tickets.knows g.Q.Tickets.drawn g.Q.Tickets.since x c.turn.new.self
       c.turns.tickets c.turn.new.tickets) c.if-not-pass_unnoted.ensures.as_before
       (went-turn g.Q.Tickets.knows g.Q.Tickets.drawn g.Q.Tickets.since c.pass_unnoted.new.self c.turn.new.self
       c.turns.tickets c.turn.new.tickets c.args.at c.turn.result
@@ -143,10 +143,10 @@ turns-smaller g c =
 pub turns-preserved : goal.turns-preserved
 turns-preserved g c =
     let p = c.if-not-pass_unnoted.ensures.passed in (
-      follows-done (under c.args.conn.now) (under c.turns.conn) c.args.at p.seq (outcomes.Passed notes.Nothing)
-          (course c.args.conn.now) (course c.turns.conn) (course c.pass_unnoted.new.self)
+      follows-done (judge_context c.args.conn.now) (judge_context c.turns.conn) c.args.at p.seq (outcomes.Passed notes.Nothing)
+          (conn_state c.args.conn.now) (conn_state c.turns.conn) (conn_state c.pass_unnoted.new.self)
           (same-under c.args.conn.now c.turns.conn c.turns.invariant.1.same) c.turns.invariant.0 tt
-          (turn-in (under c.turns.conn) (course c.turns.conn) (course c.pass_unnoted.new.self) c.args.at p.seq
+          (turn-in (judge_context c.turns.conn) (conn_state c.turns.conn) (conn_state c.pass_unnoted.new.self) c.args.at p.seq
           (outcomes.Passed notes.Nothing) p.step),
       went-both g.Q.Tickets.knows g.Q.Tickets.drawn g.Q.Tickets.since c.args.conn.now c.turns.conn
           c.pass_unnoted.new.self c.args.tickets.now c.turns.tickets c.turns.tickets c.turns.invariant.1

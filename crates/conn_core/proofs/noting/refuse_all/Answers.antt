@@ -4,7 +4,7 @@ use Rattle.mrpc_table.specs.declared.call.Call.{Call}
 use Rattle.call_history.specs.declared.happening.Cause.TheVariants as cause
 use Rattle.call_history.specs.declared.happening.Happening.{Happening}
 use Rattle.call_history.specs.declared.happening.Happening.TheVariants.{Refused}
-use Rattle.conn_core.specs.Kept.{told_failure}
+use Rattle.conn_core.specs.Invariant.{failure_events}
 use Rattle.conn_core.proofs.Going.{failure-more}
 use Rattle.conn_core.proofs.noting.refuse_all.Goals as goal
 
@@ -14,7 +14,7 @@ loop-place-preserved c = (
   c.push.ensures.happenings
       ∙ ap (λ (call : Call). c.loop-place.history.happenings ++ Refused call.seq cause.Transport ∷ []) c.call.ensures
       ∙ ap (λ (h : List Happening). h ++ Refused c.at.result.now.call.seq cause.Transport ∷ []) c.loop-place.invariant.1
-      ∙ append_assoc c.args.history.now.happenings (told_failure (take c.loop-place.place c.args.calls.now))
+      ∙ append_assoc c.args.history.now.happenings (failure_events (take c.loop-place.place c.args.calls.now))
       (Refused c.at.result.now.call.seq cause.Transport ∷ [])
       ∙ sym (ap (λ (h : List Happening). c.args.history.now.happenings ++ h)
       (failure-more c.args.calls.now c.loop-place.place c.at.result.now c.at.ensures)),

@@ -3,7 +3,7 @@ use Rattle.std.specs.Prelude.{position}
 use Rattle.std.specs.List.{slice_set}
 use Rattle.std.proofs.lemmas.List.{length-set, take_at}
 use Rattle.engine_core.specs.declared.mark.Mark.{Mark}
-use Rattle.engine_core.specs.declared.mark.Note.TheVariants.{Counted}
+use Rattle.engine_core.specs.declared.mark.MarkNote.TheVariants.{Counted}
 use Rattle.engine_core.proofs.MarkLemmas.{few-others, marked-at, marked-behind}
 use Rattle.engine_core.proofs.mark.set.Goals as goal
 

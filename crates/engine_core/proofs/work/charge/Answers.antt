@@ -1,7 +1,7 @@
 use Rattle.std.proofs.Common.{ℕ, ap, refl}
 use Rattle.engine_core.specs.declared.outcome.Noted.TheVariants.{Charged}
 use Rattle.engine_core.specs.declared.outcome.Outcome.TheVariants.{Passed}
-use Rattle.engine_core.specs.Steps.{was_charged, charges, holds, refuses}
+use Rattle.engine_core.specs.EngineSteps.{was_charged, charges, holds, refuses}
 use Rattle.engine_core.proofs.Stepping.{pays, falls_short}
 use Rattle.engine_core.proofs.work.charge.Goals as goal
 

@@ -1,7 +1,7 @@
 use Rattle.std.proofs.Common.{◌≡◌, refl, ap, sym, ◌∙◌}
 use Rattle.mrpc_table.specs.declared.call.Call.{Call}
-use Rattle.engine_core.specs.Marks.{StandingCall}
-use Rattle.engine_core.specs.Steps.{is_clear, redacts}
+use Rattle.engine_core.specs.Marks.{PendingCall}
+use Rattle.engine_core.specs.EngineSteps.{is_clear, redacts}
 use Rattle.engine_core.proofs.work.clear.Goals as goal
 
 pub returns-then-clear : goal.returns-then-clear
@@ -13,4 +13,4 @@ returns-then-clear c = λ attach version level moment.
 pub returns-else-clear : goal.returns-else-clear
 returns-else-clear c = λ attach version level moment.
     let same : c.clear.new.self ≡ c.args.call.now = rw c.if-clear.false at c.clear.ensures.unchanged in
-    is_clear c.args.redact.now refl (ap (λ (call : Call). call.tree) (sym c.clear.ensures.left ∙ ap (λ (s : StandingCall). s.call) same)) refl same refl
+    is_clear c.args.redact.now refl (ap (λ (call : Call). call.tree) (sym c.clear.ensures.left ∙ ap (λ (s : PendingCall). s.call) same)) refl same refl

@@ -4,7 +4,7 @@ use Rattle.policy_access.specs.declared.verdict.Verdict.{Verdict}
 use Rattle.engine_core.specs.declared.outcome.Noted.TheVariants.{Nothing}
 use Rattle.engine_core.specs.declared.outcome.Why.TheVariants.{Denied}
 use Rattle.engine_core.specs.declared.outcome.Outcome.TheVariants.{Refused}
-use Rattle.engine_core.specs.Steps.{was_allowed, allows, denies}
+use Rattle.engine_core.specs.EngineSteps.{was_allowed, allows, denies}
 use Rattle.engine_core.proofs.work.judge.Goals as goal
 
 not_allowed : {b : Bool} → not b ≡ true → b ≡ false

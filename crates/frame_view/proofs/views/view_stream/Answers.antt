@@ -2,15 +2,15 @@ use Rattle.std.proofs.Common.{◌≡◌, ◌∙◌, [], ◌++◌, List, ℕ, dro
 use Rattle.std.specs.Io.KnownBytes.{Appends}
 use Rattle.std.proofs.lemmas.Bool.{true≢false}
 use Rattle.std.proofs.lemmas.Result.{err_from_is_err_and}
-use Rattle.frame_view.specs.Faults.{IsFaultHere}
-use Rattle.frame_view.specs.Walks.{Shows, WritesShown}
+use Rattle.frame_view.specs.Faults.{IsFaultOfNext}
+use Rattle.frame_view.specs.ViewRanges.{IsLinesOf, HasWrittenViews}
 use Rattle.frame_view.proofs.KnownBytes.{appends-nothing, appends-more}
 use Rattle.frame_view.proofs.Viewing.{WalkLaw, on_fault, shows_nothing, shows_more}
 use Rattle.frame_view.proofs.views.view_stream.Goals as goal
 
 pub loop-place-init : goal.loop-place-init
 loop-place-init g c =
-    let law : WalkLaw = record { none = c.frames_follow.ensures.none; one = c.frames_follow.ensures.one; more = c.frames_follow.ensures.more; all = c.frames_follow.ensures.all } in (
+    let law : WalkLaw = record { none = c.frames_are_consecutive.ensures.none; one = c.frames_are_consecutive.ensures.one; more = c.frames_are_consecutive.ensures.more; all = c.frames_are_consecutive.ensures.all } in (
       record {
         text = [];
         shows = shows_nothing law c.args.table.now c.args.stream.now 0;
@@ -21,14 +21,14 @@ loop-place-init g c =
 
 pub returns-in_err-place-clause-cut : goal.returns-in_err-place-clause-cut
 returns-in_err-place-clause-cut g c =
-    let law : WalkLaw = record { none = c.frames_follow.ensures.none; one = c.frames_follow.ensures.one; more = c.frames_follow.ensures.more; all = c.frames_follow.ensures.all } in
+    let law : WalkLaw = record { none = c.frames_are_consecutive.ensures.none; one = c.frames_are_consecutive.ensures.one; more = c.frames_are_consecutive.ensures.more; all = c.frames_are_consecutive.ensures.all } in
     let T = c.args.table.now in
     let stream = c.args.stream.now in
     let before = c.loop-place.invariant.0 in
-    let lines = c.view_piece-told.new.lines in
+    let lines = c.append_views-told.new.lines in
     let cut : (place : ℕ) (word : List ℕ) → (to : ℕ) × (text : List ℕ) × (lines ≡ c.new-lines.result ++ text)
-    × Shows T stream c.loop-place.place to text × IsFaultHere T to (drop to stream) place word
-    → (to : ℕ) × WritesShown T stream to (g.K.Sink.written c.args.out.now) (g.K.Sink.written c.write_all.new.out) × IsFaultHere T to (drop to stream) place word =
+    × IsLinesOf T stream c.loop-place.place to text × IsFaultOfNext T to (drop to stream) place word
+    → (to : ℕ) × HasWrittenViews T stream to (g.K.Sink.written c.args.out.now) (g.K.Sink.written c.write_all.new.out) × IsFaultOfNext T to (drop to stream) place word =
     λ place word h.
     let written : c.as_slice.result.now ≡ h.1 = c.as_slice.ensures ∙ h.2 ∙ ap (λ (bs : List ℕ). bs ++ h.1) c.new-lines.ensures in (
       h.0,
@@ -46,11 +46,11 @@ returns-in_err-place-clause-cut g c =
 
 pub loop-place-preserved : goal.loop-place-preserved
 loop-place-preserved g c =
-    let law : WalkLaw = record { none = c.frames_follow.ensures.none; one = c.frames_follow.ensures.one; more = c.frames_follow.ensures.more; all = c.frames_follow.ensures.all } in
+    let law : WalkLaw = record { none = c.frames_are_consecutive.ensures.none; one = c.frames_are_consecutive.ensures.one; more = c.frames_are_consecutive.ensures.more; all = c.frames_are_consecutive.ensures.all } in
     let before = c.loop-place.invariant in
     let told = c.in_ok-place.ensures.shown in
     let written : c.as_slice.result.now ≡ told.0 = c.as_slice.ensures ∙ told.1 ∙ ap (λ (bs : List ℕ). bs ++ told.0) c.new-lines.ensures in
-    let same : g.K.Sink.faults c.write_all.new.out ≡ g.K.Sink.faults c.loop-place.out = c.if-not-write_all.ensures.cause.stays true≢false in (
+    let same : g.K.Sink.failures c.write_all.new.out ≡ g.K.Sink.failures c.loop-place.out = c.if-not-write_all.ensures.cause.stays true≢false in (
       record {
         text = before.0.text ++ told.0;
         shows = shows_more law _ _ _ _ _ _ _ before.0.shows told.2;

@@ -5,10 +5,10 @@ use Rattle.mrpc_table.specs.Normal.{fields_of}
 use Rattle.mrpc_table.specs.View.{item_of, items_of, pairs_of, node_of}
 use Rattle.mrpc_table.specs.declared.table.Label.{Label}
 use Rattle.mrpc_table.specs.declared.tree.FieldValue.TheVariants.{One}
-use Rattle.graph_form.specs.Roles.{slot_role, own_slots, oneofs_of}
+use Rattle.graph_form.specs.Roles.{slot_role, own_slots, oneof_count}
 use Rattle.graph_form.specs.Placed.{Word}
 use Rattle.graph_form.specs.Forgotten.{slot_content, with_member}
-use Rattle.graph_copy.specs.Makes.{insert_all, TakesWord, TakesSlots}
+use Rattle.graph_copy.specs.Makes.{insert_all, IsMadeFromWord, IsMadeFromSlots}
 use Rattle.graph_copy.proofs.Inserting.{insert_last}
 use Rattle.graph_copy.proofs.Making.{run_made, no_room, node_made, item_made, slot_optional, slot_repeated, slot_packed, slot_map, slot_plain, slot_member}
 use Rattle.graph_copy.proofs.Gathering.{ElementsOn, elements_begin, elements_more, elements_end, EntriesOn}
@@ -102,18 +102,18 @@ member-returns-in-None t c = λ place depth oneof deep.
 
 pub members-loop-oneof-init : goal.members-loop-oneof-init
 members-loop-oneof-init t c =
-    let n = oneofs_of c.args.table.now c.args.message in
-    let all : oneofs_of c.args.table.now c.args.message ≡ oneofs_of c.args.table.now c.args.message - 0 = omega arith in
+    let n = oneof_count c.args.table.now c.args.message in
+    let all : oneof_count c.args.table.now c.args.message ≡ oneof_count c.args.table.now c.args.message - 0 = omega arith in
     subst (λ k. CasesOn c.args.table.now (fields_of c.args.table.now c.args.message) c.args.room n
     c.args.tape.now.loads.now k c.args.tape.now.loads.now c.args.found.now.items c.args.found.now.items) all
     (cases_begin c.args.table.now (fields_of c.args.table.now c.args.message) c.args.room n c.args.tape.now.loads.now c.args.found.now.items)
 
 pub members-loop-oneof-preserved : goal.members-loop-oneof-preserved
 members-loop-oneof-preserved t c =
-    let n = oneofs_of c.args.table.now c.args.message in
-    let some : oneofs_of c.args.table.now c.args.message - c.loop-oneof._oneof
-    ≡ suc (oneofs_of c.args.table.now c.args.message - (c.loop-oneof._oneof + 1)) =
-    omega (arith, c.loop-oneof-test.true, c.oneofs_of-oneof-end.ensures.number) in
+    let n = oneof_count c.args.table.now c.args.message in
+    let some : oneof_count c.args.table.now c.args.message - c.loop-oneof._oneof
+    ≡ suc (oneof_count c.args.table.now c.args.message - (c.loop-oneof._oneof + 1)) =
+    omega (arith, c.loop-oneof-test.true, c.oneof_count-oneof-end.ensures.number) in
     cases_more c.args.table.now (fields_of c.args.table.now c.args.message) c.args.room n (n - c.loop-oneof._oneof)
     (n - (c.loop-oneof._oneof + 1)) c.args.tape.now.loads.now c.loop-oneof.tape.loads.now
     c.member.new.tape.loads.now c.args.found.now.items c.loop-oneof.found.items c.member.new.found.items
@@ -121,8 +121,8 @@ members-loop-oneof-preserved t c =
 
 pub members-returns : goal.members-returns
 members-returns t c =
-    let n = oneofs_of c.args.table.now c.args.message in
-    let none : oneofs_of c.args.table.now c.args.message - c.loop-oneof._oneof ≡ 0 = omega (arith, c.loop-oneof-test.false, c.oneofs_of-oneof-end.ensures.number) in
+    let n = oneof_count c.args.table.now c.args.message in
+    let none : oneof_count c.args.table.now c.args.message - c.loop-oneof._oneof ≡ 0 = omega (arith, c.loop-oneof-test.false, c.oneof_count-oneof-end.ensures.number) in
     cases_end c.args.table.now (fields_of c.args.table.now c.args.message) c.args.room n c.args.tape.now.loads.now c.loop-oneof.tape.loads.now c.args.found.now.items c.loop-oneof.found.items
     (subst (λ k. CasesOn c.args.table.now (fields_of c.args.table.now c.args.message) c.args.room n
     c.args.tape.now.loads.now k c.loop-oneof.tape.loads.now c.args.found.now.items c.loop-oneof.found.items) none
@@ -133,7 +133,7 @@ node-returns t c = λ place depth deep.
     let T = c.args.table.now in
     let fs = fields_of c.args.table.now c.args.message in
     let slots = subst
-    (λ xs. TakesSlots T fs (own_slots fs) depth place c.args.tape.now.loads.now c.slots.new.tape.loads.now xs
+    (λ xs. IsMadeFromSlots T fs (own_slots fs) depth place c.args.tape.now.loads.now c.slots.new.tape.loads.now xs
     c.slots.new.found.items) c.new-found.ensures.items (c.in_ok-slots.ensures place depth deep) in
     node_done T c.args.message place depth c.args.tape.now.loads.now c.slots.new.tape.loads.now
     c.members.new.tape.loads.now c.slots.new.found.items c.members.new.found.items
@@ -143,7 +143,7 @@ node-returns t c = λ place depth deep.
 pub slot-returns-in_ok-value-in-Optional : goal.slot-returns-in_ok-value-in-Optional
 slot-returns-in_ok-value-in-Optional t c =
     let Made : Label → Type 0 = λ l. (place depth : ℕ) → depth + c.args.room ≡ 32
-    → TakesWord c.args.table.now (slot_role l c.args.kind depth, place) c.args.tape.now.loads.now
+    → IsMadeFromWord c.args.table.now (slot_role l c.args.kind depth, place) c.args.tape.now.loads.now
     c.optional.new.tape.loads.now (λ w. Some (one (item_of c.in_ok-value-in-Optional.value))
     ≡ slot_content c.args.table.now l c.args.kind w) in
     subst Made (sym c.in-Optional.is) (λ place depth deep.
@@ -156,7 +156,7 @@ pub slot-returns-in_ok-values-in-Repeated : goal.slot-returns-in_ok-values-in-Re
 slot-returns-in_ok-values-in-Repeated t c =
     let is = items_of c.in_ok-values-in-Repeated.values.items in
     let Made : Label → Type 0 = λ l. (place depth : ℕ) → depth + c.args.room ≡ 32
-    → TakesWord c.args.table.now (slot_role l c.args.kind depth, place) c.args.tape.now.loads.now
+    → IsMadeFromWord c.args.table.now (slot_role l c.args.kind depth, place) c.args.tape.now.loads.now
     c.elements.new.tape.loads.now (λ w. Some (many is) ≡ slot_content c.args.table.now l c.args.kind w) in
     ⊎_elim
     (λ same. subst Made (sym same)
@@ -175,7 +175,7 @@ pub slot-returns-in_ok-entries-in-Map : goal.slot-returns-in_ok-entries-in-Map
 slot-returns-in_ok-entries-in-Map t c =
     let ps = pairs_of c.in_ok-entries-in-Map.entries.items in
     let Made : Label → Type 0 = λ l. (place depth : ℕ) → depth + c.args.room ≡ 32
-    → TakesWord c.args.table.now (slot_role l c.args.kind depth, place) c.args.tape.now.loads.now
+    → IsMadeFromWord c.args.table.now (slot_role l c.args.kind depth, place) c.args.tape.now.loads.now
     c.entries.new.tape.loads.now (λ w. Some (pairs ps) ≡ slot_content c.args.table.now l c.args.kind w) in
     subst Made (sym c.in-Map.is) (λ place depth deep.
     slot_map c.args.table.now c.in-Map.key c.args.kind place depth c.next-first.result c.args.tape.now.loads.now
@@ -186,7 +186,7 @@ pub slot-returns-in_ok-value-in-Plain : goal.slot-returns-in_ok-value-in-Plain
 slot-returns-in_ok-value-in-Plain t c =
     let i = item_of c.in_ok-value-in-Plain.value in
     let Made : Label → Type 0 = λ l. (place depth : ℕ) → depth + c.args.room ≡ 32
-    → TakesWord c.args.table.now (slot_role l c.args.kind depth, place) c.args.tape.now.loads.now
+    → IsMadeFromWord c.args.table.now (slot_role l c.args.kind depth, place) c.args.tape.now.loads.now
     c.value.new.tape.loads.now (λ w. Some (one i) ≡ slot_content c.args.table.now l c.args.kind w) in
     ⊎_elim
     (λ same. subst Made (sym same)

@@ -1,6 +1,6 @@
 use Rattle.std.proofs.Common.{◌+◌, ◌-◌, ◌*◌, drop, length}
 use Rattle.mrpc_table.specs.Normal.{fields_of}
-use Rattle.graph_form.specs.Roles.{own_slots, oneofs_of}
+use Rattle.graph_form.specs.Roles.{own_slots, oneof_count}
 use Rattle.graph_copy.proofs.Gathering.{ElementsOn, EntriesOn, SlotsOn, CasesOn}
 use Rattle.graph_copy.proofs.build.+build.Given as goal
 
@@ -39,8 +39,8 @@ invariant-entries-loop-entry l = EntriesOn l.table l.key l.kind l.room l.count l
 
 abbrev pub invariant-members-loop-oneof : goal.invariant-members-loop-oneof
 invariant-members-loop-oneof l =
-    CasesOn l.table (fields_of l.table l.message) l.room (oneofs_of l.table l.message) l.fn.tape.loads.now
-    (oneofs_of l.table l.message - l._oneof) l.tape.loads.now l.fn.found.items l.found.items
+    CasesOn l.table (fields_of l.table l.message) l.room (oneof_count l.table l.message) l.fn.tape.loads.now
+    (oneof_count l.table l.message - l._oneof) l.tape.loads.now l.fn.found.items l.found.items
 
 abbrev pub invariant-slots-loop-place : goal.invariant-slots-loop-place
 invariant-slots-loop-place l = SlotsOn l.table (fields_of l.table l.message) (own_slots (fields_of l.table l.message))

@@ -1,10 +1,10 @@
 use Rattle.std.proofs.Common.{◌≡◌, ◌++◌, length, sym, ap, subst, ◌∙◌, arith, append-nil}
 use Rattle.graph_form.specs.Roles.{node_words, size_words}
-use Rattle.graph_form.specs.Placed.{LiesIn}
+use Rattle.graph_form.specs.Placed.{IsSpanInHeap}
 use Rattle.graph_form.specs.Malformed.{IsMalformed}
-use Rattle.graph_copy.specs.Answers.{IfCopied, IfMalformed, loads_of}
+use Rattle.graph_copy.specs.Answers.{IfCopied, IfMalformed, load_count}
 use Rattle.graph_copy.specs.Copies.{IsCopied}
-use Rattle.graph_copy.specs.Expects.{expected, AllFit}
+use Rattle.graph_copy.specs.Expected.{expected, AreInHeap}
 use Rattle.graph_copy.proofs.Completing.{stopped, copied}
 use Rattle.graph_copy.proofs.Fitting.{node_fits}
 use Rattle.graph_copy.proofs.Leading.{at_some, at_none}
@@ -15,13 +15,13 @@ take_words-requires-clause-fits g c =
     let T = c.args.table.now in
     let H = g.W.Words.size c.args.words.now in
     let lies = c.lies_in.ensures.0 c.if-not-lies_in.false in
-    let here : LiesIn H c.args.addr (size_words T c.args.msg) = record { from_one = lies.from_one; to_end = omega (arith, lies.to_end, c.size_words-root.ensures, c.words-size.ensures) } in
+    let here : IsSpanInHeap H c.args.addr (size_words T c.args.msg) = record { from_one = lies.from_one; to_end = omega (arith, lies.to_end, c.size_words-root.ensures, c.words-size.ensures) } in
     let size : c.expect_node.new.self.size ≡ H = c.in_ok-expect_node.ensures.size ∙ c.new-walk.ensures.size ∙ c.words-size.ensures in
     let words : expected T c.expect_node.new.self ≡ node_words T c.args.msg 1 c.args.addr =
     c.in_ok-expect_node.ensures.expected ∙ ap (λ es. node_words T c.args.msg 1 c.args.addr ++ es)
     (c.new-walk.ensures.expected T) ∙ append-nil (node_words T c.args.msg 1 c.args.addr) in
-    subst (λ es. AllFit c.expect_node.new.self.size es) (sym words)
-    (subst (λ h. AllFit h (node_words T c.args.msg 1 c.args.addr)) (sym size)
+    subst (λ es. AreInHeap c.expect_node.new.self.size es) (sym words)
+    (subst (λ h. AreInHeap h (node_words T c.args.msg 1 c.args.addr)) (sym size)
     (node_fits T H c.args.msg 1 c.args.addr here.to_end))
 
 pub returns-in-Some-clause-copied : goal.returns-in-Some-clause-copied
@@ -29,7 +29,7 @@ returns-in-Some-clause-copied g c =
     let T = c.args.table.now in
     let H = g.W.Words.size c.args.words.now in
     let lies = c.lies_in.ensures.0 c.if-not-lies_in.false in
-    let here : LiesIn H c.args.addr (size_words T c.args.msg) = record { from_one = lies.from_one; to_end = omega (arith, lies.to_end, c.size_words-root.ensures, c.words-size.ensures) } in
+    let here : IsSpanInHeap H c.args.addr (size_words T c.args.msg) = record { from_one = lies.from_one; to_end = omega (arith, lies.to_end, c.size_words-root.ensures, c.words-size.ensures) } in
     let size : c.expect_node.new.self.size ≡ H = c.in_ok-expect_node.ensures.size ∙ c.new-walk.ensures.size ∙ c.words-size.ensures in
     let words : expected T c.expect_node.new.self ≡ node_words T c.args.msg 1 c.args.addr =
     c.in_ok-expect_node.ensures.expected ∙ ap (λ es. node_words T c.args.msg 1 c.args.addr ++ es)
@@ -47,7 +47,7 @@ returns-in-Some-clause-malformed g c =
     let T = c.args.table.now in
     let H = g.W.Words.size c.args.words.now in
     let lies = c.lies_in.ensures.0 c.if-not-lies_in.false in
-    let here : LiesIn H c.args.addr (size_words T c.args.msg) = record { from_one = lies.from_one; to_end = omega (arith, lies.to_end, c.size_words-root.ensures, c.words-size.ensures) } in
+    let here : IsSpanInHeap H c.args.addr (size_words T c.args.msg) = record { from_one = lies.from_one; to_end = omega (arith, lies.to_end, c.size_words-root.ensures, c.words-size.ensures) } in
     let size : c.expect_node.new.self.size ≡ H = c.in_ok-expect_node.ensures.size ∙ c.new-walk.ensures.size ∙ c.words-size.ensures in
     let words : expected T c.expect_node.new.self ≡ node_words T c.args.msg 1 c.args.addr =
     c.in_ok-expect_node.ensures.expected ∙ ap (λ es. node_words T c.args.msg 1 c.args.addr ++ es)
@@ -65,7 +65,7 @@ returns-in-Some-clause-counted g c =
     let T = c.args.table.now in
     let H = g.W.Words.size c.args.words.now in
     let lies = c.lies_in.ensures.0 c.if-not-lies_in.false in
-    let here : LiesIn H c.args.addr (size_words T c.args.msg) = record { from_one = lies.from_one; to_end = omega (arith, lies.to_end, c.size_words-root.ensures, c.words-size.ensures) } in
+    let here : IsSpanInHeap H c.args.addr (size_words T c.args.msg) = record { from_one = lies.from_one; to_end = omega (arith, lies.to_end, c.size_words-root.ensures, c.words-size.ensures) } in
     let size : c.expect_node.new.self.size ≡ H = c.in_ok-expect_node.ensures.size ∙ c.new-walk.ensures.size ∙ c.words-size.ensures in
     let words : expected T c.expect_node.new.self ≡ node_words T c.args.msg 1 c.args.addr =
     c.in_ok-expect_node.ensures.expected ∙ ap (λ es. node_words T c.args.msg 1 c.args.addr ++ es)
@@ -76,14 +76,14 @@ returns-in-Some-clause-counted g c =
     c.loads_end_malformed.ensures.offence c.loads_end_malformed.ensures.limit size words here
     c.requires.least_limit stops in
     let answer = c.malformed.ensures s.front s.last (c.deref.ensures.value ∙ s.is) in
-    ap loads_of answer ∙ ap length c.deref.ensures.value
+    ap load_count answer ∙ ap length c.deref.ensures.value
 
 pub returns-clause-copied : goal.returns-clause-copied
 returns-clause-copied g c =
     let T = c.args.table.now in
     let H = g.W.Words.size c.args.words.now in
     let lies = c.lies_in.ensures.0 c.if-not-lies_in.false in
-    let here : LiesIn H c.args.addr (size_words T c.args.msg) = record { from_one = lies.from_one; to_end = omega (arith, lies.to_end, c.size_words-root.ensures, c.words-size.ensures) } in
+    let here : IsSpanInHeap H c.args.addr (size_words T c.args.msg) = record { from_one = lies.from_one; to_end = omega (arith, lies.to_end, c.size_words-root.ensures, c.words-size.ensures) } in
     let size : c.expect_node.new.self.size ≡ H = c.in_ok-expect_node.ensures.size ∙ c.new-walk.ensures.size ∙ c.words-size.ensures in
     let words : expected T c.expect_node.new.self ≡ node_words T c.args.msg 1 c.args.addr =
     c.in_ok-expect_node.ensures.expected ∙ ap (λ es. node_words T c.args.msg 1 c.args.addr ++ es)

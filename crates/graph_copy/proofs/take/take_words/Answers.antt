@@ -1,6 +1,6 @@
 use Rattle.std.proofs.Common.{◌≡◌, ◌+◌, [], ◌∷◌, ◌++◌, length, sym, ap, subst, ◌∙◌, arith, append_assoc, length-append}
-use Rattle.mrpc_base.specs.Heap.{AfterLoads}
-use Rattle.graph_copy.specs.Expects.{expected, next_word}
+use Rattle.mrpc_base.specs.Heap.{AreLoads}
+use Rattle.graph_copy.specs.Expected.{expected, next_word}
 use Rattle.graph_copy.proofs.Leading.{at_some, stops_at_limit, stops_at_word, goes_on, after_more}
 use Rattle.graph_copy.proofs.take.take_words.Goals as goal
 
@@ -17,7 +17,7 @@ returns-in_err-reason-clause-changes g c =
     let items : c.push_reserved.new.self.items ≡ c.loop-next.loads.items
     ++ (c.place-place.result, c.load-value.result) ∷ [] = c.push_reserved.ensures.items
     ∙ ap (λ xs. xs ++ (c.place-place.result, c.load-value.result) ∷ []) c.in_ok-reserve.ensures.items in
-    subst (λ xs. AfterLoads g.W.Words.after_load c.args.words.now xs c.load-value.new.self) (sym items)
+    subst (λ xs. AreLoads g.W.Words.after_load c.args.words.now xs c.load-value.new.self) (sym items)
     (after_more g.W.Words.after_load c.args.words.now c.loop-next.words c.load-value.new.self c.loop-next.loads.items
     c.place-place.result c.load-value.result c.loop-next.invariant.after c.load-value.ensures.changes)
 
@@ -26,7 +26,7 @@ returns-in-Some-2-clause-changes g c =
     let items : c.push_reserved.new.self.items ≡ c.loop-next.loads.items
     ++ (c.place-place.result, c.load-value.result) ∷ [] = c.push_reserved.ensures.items
     ∙ ap (λ xs. xs ++ (c.place-place.result, c.load-value.result) ∷ []) c.in_ok-reserve.ensures.items in
-    subst (λ xs. AfterLoads g.W.Words.after_load c.args.words.now xs c.load-value.new.self) (sym items)
+    subst (λ xs. AreLoads g.W.Words.after_load c.args.words.now xs c.load-value.new.self) (sym items)
     (after_more g.W.Words.after_load c.args.words.now c.loop-next.words c.load-value.new.self c.loop-next.loads.items
     c.place-place.result c.load-value.result c.loop-next.invariant.after c.load-value.ensures.changes)
 
@@ -74,7 +74,7 @@ loop-next-preserved g c =
           c.loop-next.invariant.adds ∙ append_assoc (g.W.Words.loads c.args.words.now) c.loop-next.loads.items
           ((c.place-place.result, c.load-value.result) ∷ []) ∙ ap (λ xs. g.W.Words.loads c.args.words.now ++ xs)
           (sym items);
-      after = subst (λ xs. AfterLoads g.W.Words.after_load c.args.words.now xs c.load-value.new.self) (sym items)
+      after = subst (λ xs. AreLoads g.W.Words.after_load c.args.words.now xs c.load-value.new.self) (sym items)
           (after_more g.W.Words.after_load c.args.words.now c.loop-next.words c.load-value.new.self
           c.loop-next.loads.items c.place-place.result c.load-value.result c.loop-next.invariant.after
           c.load-value.ensures.changes);

@@ -1,6 +1,6 @@
 use Rattle.std.proofs.Common.{◌≡◌, ◌<◌, length, sym, refl, arith, Some, subst}
 use Rattle.mrpc_table.specs.Normal.{field_at}
-use Rattle.mrpc_table.specs.Fits.{FitsWithin}
+use Rattle.mrpc_table.specs.NormalParts.{IsNormalWithin}
 use Rattle.mrpc_table.proofs.FitLemmas.{no_room, kind_known, map_key_known, label_placed, rest_more, whole_down, whole_up, many_is, pairs_is, has_some}
 use Rattle.mrpc_table.proofs.normal.+fits.Goals as goal
 
@@ -41,7 +41,7 @@ fields_fit-loop-number-preserved t c =
 
 pub tree_fits-returns-then-room-eq0 : goal.tree_fits-returns-then-room-eq0
 tree_fits-returns-then-room-eq0 t c =
-    (λ e. absurd cc, λ h. absurd (no_room c.args.table.now c.args.msg c.args.tree.now (subst (λ r. FitsWithin c.args.table.now c.args.msg r c.args.tree.now) c.if-room-eq0.true h)))
+    (λ e. absurd cc, λ h. absurd (no_room c.args.table.now c.args.msg c.args.tree.now (subst (λ r. IsNormalWithin c.args.table.now c.args.msg r c.args.tree.now) c.if-room-eq0.true h)))
 
 pub tree_fits-returns : goal.tree_fits-returns
 tree_fits-returns t c =
@@ -54,7 +54,7 @@ tree_fits-returns t c =
 pub content_fits-returns-then-not-is_empty : goal.content_fits-returns-then-not-is_empty
 content_fits-returns-then-not-is_empty t c =
     rw c.in-Many.is (many_is c.args.table.now c.args.field.now c.args.room c.in-Many.values.items c.items_fit.result
-    (c.if-not-takes_many.ensures.0 refl)
+    (c.if-not-can_have_many.ensures.0 refl)
     (has_some _ _ _ c.deref.ensures.value c.deref.ensures.len c.if-not-is_empty.ensures)
     (rw (← c.deref.ensures.value) c.items_fit.ensures))
 

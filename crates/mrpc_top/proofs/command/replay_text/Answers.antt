@@ -18,7 +18,7 @@ pub returns-in-Ok-clause-unsent : goal.returns-in-Ok-clause-unsent
 returns-in-Ok-clause-unsent g c sent =
     elim sent [
       | inl e ↦ absurd (c.replay-status.ensures.sound e)
-      | inr fault ↦ absurd (no_fault c.one_script.ensures.not_both c.args.text.now c.in-Ok.script c.in-Ok.ensures.read fault)
+      | inr fault ↦ absurd (no_fault c.replay_script_or_fault.ensures.not_both c.args.text.now c.in-Ok.script c.in-Ok.ensures.read fault)
     ]
 
 pub returns-in-Err-At-clause-cut_short : goal.returns-in-Err-At-clause-cut_short
@@ -26,7 +26,7 @@ returns-in-Err-At-clause-cut_short g c e =
     let first = rw c.in-Err-At.field-0-is at c.in-Err-At.ensures.fault in
     refused_front _ _ _ _ _ _ _ _ first c.in-Err-At.line-is
     (c.as_bytes.ensures.value ∙ c.word.ensures ∙ ap reason_word c.in-Err-At.reason-is)
-    (c.refuse.ensures.front (λ faulty.
+    (c.write_fault.ensures.front (λ faulty.
     elim e [
       | inl memory ↦ omega (arith, memory, faulty)
       | inr failed ↦ omega (arith, failed, faulty)

@@ -7,10 +7,10 @@ pub returns-in-Replay-clause-refused : goal.returns-in-Replay-clause-refused
 returns-in-Replay-clause-refused g c fault = (
   λ done.
       let d = c.replay_text.ensures.done done in
-      no_script c.one_replay.ensures.never_both c.args.command c.args.text.now d.0 c.in-Replay.is fault d.1,
+      no_script c.replay_is_unique.ensures.never_both c.args.command c.args.text.now d.0 c.in-Replay.is fault d.1,
   λ failed.
       let d = c.replay_text.ensures.broken failed in
-      no_script c.one_replay.ensures.never_both c.args.command c.args.text.now d.0 c.in-Replay.is fault d.1,
+      no_script c.replay_is_unique.ensures.never_both c.args.command c.args.text.now d.0 c.in-Replay.is fault d.1,
 )
 
 pub returns-in-Decode-clause-faulty : goal.returns-in-Decode-clause-faulty
@@ -22,9 +22,9 @@ pub returns-in-Decode-clause-refused : goal.returns-in-Decode-clause-refused
 returns-in-Decode-clause-refused g c fault = (
   λ done. no_decoding
       (record {
-        parts = c.one_decoding.ensures.parts;
-        no_text_fault = c.one_decoding.ensures.no_text_fault;
-        no_cut = c.one_decoding.ensures.no_cut;
+        parts = c.decoding_is_unique.ensures.parts;
+        no_text_fault = c.decoding_is_unique.ensures.no_text_fault;
+        no_cut = c.decoding_is_unique.ensures.no_cut;
       })
       c.args.command
       c.args.text.now
@@ -38,14 +38,14 @@ returns-in-Decode-clause-refused g c fault = (
 
 pub returns-in-Check-clause-refused : goal.returns-in-Check-clause-refused
 returns-in-Check-clause-refused g c fault = (
-  λ done. no_check c.one_check.ensures.never_both c.args.command c.args.text.now (g.K.Sink.written c.args.out.now)
+  λ done. no_check c.checked_table_is_unique.ensures.never_both c.args.command c.args.text.now (g.K.Sink.written c.args.out.now)
       (g.K.Sink.written c.check_to.new.out) c.in-Check.is fault (c.check_to.ensures.done done),
   λ failed. omega (arith, failed, c.check_to.ensures.statuses),
 )
 
 pub returns-in-Audit-clause-refused : goal.returns-in-Audit-clause-refused
 returns-in-Audit-clause-refused g c fault = (
-  λ done. no_audit c.one_audit.ensures.never_both c.args.command c.args.text.now (g.K.Sink.written c.args.out.now)
+  λ done. no_audit c.audit_answer_is_unique.ensures.never_both c.args.command c.args.text.now (g.K.Sink.written c.args.out.now)
       (g.K.Sink.written c.audit_to.new.out) c.in-Audit.is fault (c.audit_to.ensures.done done),
   λ failed. omega (arith, failed, c.audit_to.ensures.statuses),
 )

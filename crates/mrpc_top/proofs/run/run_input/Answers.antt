@@ -1,6 +1,6 @@
 use Rattle.std.proofs.Common.{inl, refl, subst, sym, ℕ, List}
-use Rattle.mrpc_base.specs.InputReading.{IsInput}
-use Rattle.mrpc_top.specs.Runs.StopsRun.{in_fault}
+use Rattle.mrpc_base.specs.WholeInput.{IsInput}
+use Rattle.mrpc_top.specs.Runs.HasStoppedRun.{in_fault}
 use Rattle.scenario.specs.Scenarios.{HasFault}
 use Rattle.mrpc_top.proofs.RunAnswers.{fault_of_read, not_faulty}
 use Rattle.mrpc_top.proofs.run.run_input.Goals as goal
@@ -20,4 +20,4 @@ returns-in-Whole-clause-cut_short g c e =
 
 pub returns-in-TooLong-clause-cut_short : goal.returns-in-TooLong-clause-cut_short
 returns-in-TooLong-clause-cut_short g c e =
-    in_fault _ (inl (c.in-TooLong.ensures.too_long cc, refl)) (c.refuse.ensures.front (not_faulty c.refuse.result e))
+    in_fault _ (inl (c.in-TooLong.ensures.too_long cc, refl)) (c.write_fault.ensures.front (not_faulty c.write_fault.result e))

@@ -6,4 +6,4 @@ use Rattle.mrpc_top.proofs.run.write_parts.Given as goal
 abbrev pub invariant-loop-part : goal.invariant-loop-part
 invariant-loop-part g l =
     Appends (g.K.Sink.written l.fn.out) (g.K.Sink.written l.out) (concat (take l.part-index l.parts))
-    × (g.K.Sink.faults l.out ≡ g.K.Sink.faults l.fn.out)
+    × (g.K.Sink.failures l.out ≡ g.K.Sink.failures l.fn.out)

@@ -1,5 +1,5 @@
 use Rattle.std.proofs.Common.{ℕ, List, [], ◌∷◌, ◌++◌, sym, ap, ◌∙◌}
-use Rattle.policy_declarations.specs.Blocks.{kept}
+use Rattle.policy_declarations.specs.Blocks.{kept_lines}
 use Rattle.policy_declarations.proofs.InnerLines.{done_more, inner_done, left_done, inner_end, left_end, kept_more, kept_same}
 use Rattle.policy_declarations.proofs.block.read_block.Goals as goal
 
@@ -7,7 +7,7 @@ pub returns-then-is_end-clause-lines : goal.returns-then-is_end-clause-lines
 returns-then-is_end-clause-lines c =
     let i = c.loop-line.invariant in
     let is = sym c.is_end.ensures ∙ c.if-is_end.true in
-    i.2 ∙ ap (kept c.args.skips) (sym (inner_done c.args.text.now i.0 c.loop-line.rest.now c.in-Some.line.now c.in-Some.behind.now i.1 c.in-Some.ensures.parts is))
+    i.2 ∙ ap (kept_lines c.args.skips) (sym (inner_done c.args.text.now i.0 c.loop-line.rest.now c.in-Some.line.now c.in-Some.behind.now i.1 c.in-Some.ensures.parts is))
 
 pub returns-then-is_end-clause-rest : goal.returns-then-is_end-clause-rest
 returns-then-is_end-clause-rest c =
@@ -41,7 +41,7 @@ loop-line-preserved c =
 pub returns-clause-lines : goal.returns-clause-lines
 returns-clause-lines c =
     let i = c.loop-line.invariant in
-    i.2 ∙ ap (kept c.args.skips) (sym (inner_end c.args.text.now i.0 c.loop-line.rest.now i.1 c.in_default.ensures.parts))
+    i.2 ∙ ap (kept_lines c.args.skips) (sym (inner_end c.args.text.now i.0 c.loop-line.rest.now i.1 c.in_default.ensures.parts))
 
 pub returns-clause-rest : goal.returns-clause-rest
 returns-clause-rest c =

@@ -1,6 +1,6 @@
 use Rattle.std.proofs.Common.{◌∙◌, ap, sym, List, ℕ}
-use Rattle.policy_redact.specs.Lines.{line_of}
-use Rattle.policy_redact.specs.Said.{said_in}
+use Rattle.policy_redact.specs.Lines.{clear_line_of}
+use Rattle.policy_redact.specs.LineContent.{judged_clear}
 use Rattle.policy_redact.proofs.ReadLemmas.{fault-found, fault-beyond, read-next, text-read}
 use Rattle.policy_redact.proofs.read.read_lines.Goals as goal
 
@@ -13,13 +13,13 @@ returns-then-place-ge-MAX_CLEARS-clause-fault c =
 
 pub returns-in-Err-clause-fault : goal.returns-in-Err-clause-fault
 returns-in-Err-clause-fault c =
-    let is = c.in_ok-reason.ensures ∙ ap (λ (l : List ℕ). said_in c.args.table.now (line_of l)) c.as_slice.ensures in
+    let is = c.in_ok-reason.ensures ∙ ap (λ (l : List ℕ). judged_clear c.args.table.now (clear_line_of l)) c.as_slice.ensures in
     fault-found c.args.table.now c.args.lines.now c.loop-place.place c.loop-place.clears.items c.index-lines-place.result c.in-Err.reason c.at-in-Err.result c.loop-place.invariant
     c.if-place-ge-MAX_CLEARS.false c.loop-place-test.true c.index-lines-place.is (sym is ∙ c.in-Err.is) c.at-in-Err.ensures
 
 pub loop-place-preserved : goal.loop-place-preserved
 loop-place-preserved c =
-    let is = c.in_ok-reason.ensures ∙ ap (λ (l : List ℕ). said_in c.args.table.now (line_of l)) c.as_slice.ensures in
+    let is = c.in_ok-reason.ensures ∙ ap (λ (l : List ℕ). judged_clear c.args.table.now (clear_line_of l)) c.as_slice.ensures in
     read-next c.args.table.now c.args.lines.now c.loop-place.place c.loop-place.clears.items c.push.new.self.items c.index-lines-place.result c.in-Ok.clear c.loop-place.invariant
     c.if-place-ge-MAX_CLEARS.false c.loop-place-test.true c.index-lines-place.is (sym is ∙ c.in-Ok.is) c.in_ok-push-in-Ok.ensures.items
 

@@ -6,15 +6,15 @@ use Rattle.mrpc_table.specs.Node.{Node, content_at}
 use Rattle.mrpc_table.specs.View.{node_of, content_of}
 use Rattle.mrpc_table.specs.Weight.{weight, content_weight}
 use Rattle.mrpc_table.specs.declared.tree.FieldValue.{FieldValue}
-use Rattle.mrpc_table.specs.PathTrees.{IsAscending, HoldsAscending}
-use Rattle.policy_redact.specs.Leaving.{without}
+use Rattle.mrpc_table.specs.PathTrees.{IsAscendingTree, IsAscendingContent}
+use Rattle.policy_redact.specs.Without.{without}
 use Rattle.policy_redact.proofs.Removing.{none-under, stepped, same-inside, lighter-inside, held, begins, rest_of}
 use Rattle.policy_redact.proofs.remove.+remove.Goals as goal
 
 pub remove_at-remove_inside-requires : goal.remove_at-remove_inside-requires
 remove_at-remove_inside-requires t c =
     let fs = c.tree.inside.fields.items in
-    let up = subst IsAscending (sym c.tree.view_is) c.requires in
+    let up = subst IsAscendingTree (sym c.tree.view_is) c.requires in
     let within = subst (λ (l : List (ℕ × FieldValue)). c.in-Some.place < length l) c.as_slice.ensures.value c.in-Some.ensures.within in (
       omega (
         arith,
@@ -22,7 +22,7 @@ remove_at-remove_inside-requires t c =
         length-drop 1 c.args.way.now,
         c.in-len1-up.len_at_least,
       ),
-      subst (λ (f : ℕ × FieldValue). HoldsAscending (content_of f.1))
+      subst (λ (f : ℕ × FieldValue). IsAscendingContent (content_of f.1))
           (sym c.index_mut.ensures.value) (held fs 0 c.in-Some.place c.index_mut.result.now up within),
     )
 
@@ -38,7 +38,7 @@ pub remove_at-returns-in-Some-clause-left : goal.remove_at-returns-in-Some-claus
 remove_at-returns-in-Some-clause-left t c =
     let fs = c.tree.inside.fields.items in
     let f = c.index_mut.result.now in
-    let up = subst IsAscending (sym c.tree.view_is) c.requires in
+    let up = subst IsAscendingTree (sym c.tree.view_is) c.requires in
     let within = subst (λ (l : List (ℕ × FieldValue)). c.in-Some.place < length l) c.as_slice.ensures.value c.in-Some.ensures.within in
     let at = subst (λ (l : List (ℕ × FieldValue)). (get_or l c.in-Some.place f).0 ≡ get_or c.args.way.now 0 0) c.as_slice.ensures.value (c.in-Some.ensures.numbered f) in
     stepped fs c.in-Some.place c.args.way.now c.args.number f c.remove_inside.new.content up c.in-len1-up.len_at_least within c.index_mut.ensures.value at c.remove_inside.ensures.left

@@ -4,8 +4,8 @@ use Rattle.mrpc_table.specs.Node.{Node, content_at}
 use Rattle.mrpc_table.specs.View.{node_of}
 use Rattle.mrpc_table.specs.Weight.{weight}
 use Rattle.mrpc_table.specs.declared.tree.FieldValue.{FieldValue}
-use Rattle.mrpc_table.specs.PathTrees.{IsAscending}
-use Rattle.policy_redact.specs.Leaving.{without}
+use Rattle.mrpc_table.specs.PathTrees.{IsAscendingTree}
+use Rattle.policy_redact.specs.Without.{without}
 use Rattle.policy_redact.proofs.Removing.{none-under, removed, lighter}
 use Rattle.policy_redact.proofs.remove.remove_field.Goals as goal
 
@@ -18,7 +18,7 @@ pub returns-clause-left : goal.returns-clause-left
 returns-clause-left c =
     let fs = c.tree.inside.fields.items in
     let d = c.remove.result in
-    let up = subst IsAscending (sym c.tree.view_is) c.requires in
+    let up = subst IsAscendingTree (sym c.tree.view_is) c.requires in
     let within = subst (λ (l : List (ℕ × FieldValue)). c.in-Some.place < length l) c.as_slice.ensures.value c.in-Some.ensures.within in
     let at = subst (λ (l : List (ℕ × FieldValue)). (get_or l c.in-Some.place d).0 ≡ c.args.number) c.as_slice.ensures.value (c.in-Some.ensures.numbered d) in
     ap node_of c.remove.ensures.items ∙ removed fs 0 c.args.number c.in-Some.place d up within at ∙ ap (without (bytes_eq (c.args.number ∷ []))) c.tree.view_is

@@ -21,14 +21,14 @@ returns-in-None-clause-next c =
     next_bad c.args.text.now c.args.place start _ c.gap_end-start.ensures.bound.0 c.gap_end-start.ensures.gap
     (ap (λ n. c.args.line + n) c.line_feeds.ensures ∙ line_on c.args.text.now c.args.place start c.args.line c.gap_end-start.ensures.bound.0 c.requires.line)
     (eqb-false _ _ (rest_long c.args.text.now start false c.is_empty.result c.is_empty.ensures c.if-is_empty.false))
-    (rw (take_rest c.args.text.now start) at (sym c.word_at.ensures.value ∙ c.in-None.is))
+    (rw (take_rest c.args.text.now start) at (sym c.leading_token.ensures.value ∙ c.in-None.is))
 
 pub returns-in-Some-clause-next : goal.returns-in-Some-clause-next
 returns-in-Some-clause-next c =
     let start = c.gap_end-start.result in
     next_word c.args.text.now c.args.place start _ c.in-Some.word c.gap_end-start.ensures.bound.0 c.gap_end-start.ensures.bound.1 c.gap_end-start.ensures.gap
     (ap (λ n. c.args.line + n) c.line_feeds.ensures ∙ line_on c.args.text.now c.args.place start c.args.line c.gap_end-start.ensures.bound.0 c.requires.line)
-    (rw (take_rest c.args.text.now start) at (sym c.word_at.ensures.value ∙ c.in-Some.is))
+    (rw (take_rest c.args.text.now start) at (sym c.leading_token.ensures.value ∙ c.in-Some.is))
 
 pub returns-in-Some-clause-goes_on : goal.returns-in-Some-clause-goes_on
 returns-in-Some-clause-goes_on c = goes_on c.args.text.now c.args.place _ (returns-in-Some-clause-next c)

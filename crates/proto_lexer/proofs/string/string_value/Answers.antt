@@ -1,6 +1,6 @@
 use Rattle.std.proofs.Common.{◌≡◌, ◌+◌, ◌-◌, List, ℕ, length, take, drop, arith, length-drop, ◌≤◌, subst}
 use Rattle.std.proofs.lemmas.List.{take_rest}
-use Rattle.proto_lexer.specs.Strings.{escape_of, StandsFor, body_of}
+use Rattle.proto_lexer.specs.Strings.{escape_of, HasStringValue, body_of}
 use Rattle.proto_lexer.proofs.Escapes.{GoesOn, string_plain, string_escape, string_done, one_value}
 use Rattle.proto_lexer.proofs.string.string_value.Goals as goal
 
@@ -25,10 +25,10 @@ loop-i-preserved c =
     }
 
 said : (literal out : List ℕ) (i : ℕ) → length (take (length literal - 1 - 1) (drop 1 literal)) ≤ i
-    → GoesOn (take (length literal - 1 - 1) (drop 1 literal)) out i → StandsFor (body_of literal) out
+    → GoesOn (take (length literal - 1 - 1) (drop 1 literal)) out i → HasStringValue (body_of literal) out
 said literal out i h so_far =
     let two : length literal - 1 - 1 ≡ length literal - 2 = omega arith in
-    subst (λ (n : ℕ). StandsFor (take n (drop 1 literal)) out) two (string_done (take (length literal - 1 - 1) (drop 1 literal)) out i h so_far)
+    subst (λ (n : ℕ). HasStringValue (take n (drop 1 literal)) out) two (string_done (take (length literal - 1 - 1) (drop 1 literal)) out i h so_far)
 
 pub returns : goal.returns
 returns c =

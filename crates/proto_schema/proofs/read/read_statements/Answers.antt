@@ -2,8 +2,8 @@ use Rattle.std.proofs.Common.{◌≡◌, ◌≤◌, ◌<◌, ◌+◌, false, tru
 use Rattle.std.proofs.lemmas.Result.{err_from_is_err_and}
 use Rattle.proto_lexer.specs.Tokens.{is_last}
 use Rattle.proto_grammar.specs.Lexemes.{lexeme}
-use Rattle.proto_schema.specs.Running.{read, draft_of, is_over, depth}
-use Rattle.proto_schema.specs.declared.statement.State.{State}
+use Rattle.proto_schema.specs.StatementReading.{read, draft_of, is_over, depth}
+use Rattle.proto_schema.specs.declared.statement.StatementState.{StatementState}
 use Rattle.proto_schema.proofs.Next.{Goes, goes_on, goes_fail, goes_over}
 use Rattle.proto_schema.proofs.read.read_statements.Goals as goal
 
@@ -27,7 +27,7 @@ returns-in_err-state c = λ ts a.
     let begun = c.in-Some.begun in
     let goes = c.in-Some.ensures text in
     let comes : Goes c.args.text.now c.args.semicolon.end c.tokens.last.end (draft_of c.tokens.draft) c.in-Some.begun =
-    subst (λ (s : State). Goes text c.args.semicolon.end c.tokens.last.end d s) (sym goes.0) c.tokens.invariant.comes in
+    subst (λ (s : StatementState). Goes text c.args.semicolon.end c.tokens.last.end d s) (sym goes.0) c.tokens.invariant.comes in
     let p = err_from_is_err_and c.from_residual.result c.from_residual.ensures.1 in
     rw (p.1, p.2)
     (goes_fail text c.args.semicolon.end c.tokens.last.end c.next-token.result d begun c.in_err-state.field-0.0 c.next-token.ensures.list goes.1 c.in_err-state.ensures.reads comes ts a)
@@ -39,7 +39,7 @@ tokens-preserved c =
     let begun = c.in-Some.begun in
     let goes = c.in-Some.ensures text in
     let comes : Goes c.args.text.now c.args.semicolon.end c.tokens.last.end (draft_of c.tokens.draft) c.in-Some.begun =
-    subst (λ (s : State). Goes text c.args.semicolon.end c.tokens.last.end d s) (sym goes.0) c.tokens.invariant.comes in
+    subst (λ (s : StatementState). Goes text c.args.semicolon.end c.tokens.last.end d s) (sym goes.0) c.tokens.invariant.comes in
     let more : is_last c.next-token.result.kind ≡ false = c.in_ok-state.ensures.goes_on.0 in
     let grows : depth c.in_ok-state.state ≤ depth c.in-Some.begun + 1 = c.in_ok-state.ensures.goes_on.1 in
     let same : depth c.in-Some.begun ≡ depth c.tokens.state = ap depth goes.0 in

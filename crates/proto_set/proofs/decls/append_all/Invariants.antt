@@ -3,4 +3,4 @@ use Rattle.std.proofs.Common.{◌≡◌, ◌++◌, map}
 use Rattle.proto_set.proofs.decls.append_all.Given as goal
 
 abbrev pub invariant-loop-item : goal.invariant-loop-item
-invariant-loop-item g l = l.all ≡ l.fn.all ++ map (g.T.Declared.placed l.before) l.yielded
+invariant-loop-item g l = l.all ≡ l.fn.all ++ map (g.T.Placeable.placed l.before) l.yielded

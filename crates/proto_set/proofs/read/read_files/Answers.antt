@@ -1,7 +1,7 @@
 use Rattle.std.proofs.Common.{None, sym, ◌∙◌}
 use Rattle.std.proofs.lemmas.Bool.Decides.{Decides-eqb}
 use Rattle.std.proofs.lemmas.Slice.Eq.{strip_prefix_is}
-use Rattle.proto_set.specs.Bundle.{first_line}
+use Rattle.proto_set.specs.Bundle.{bundle_first_line}
 use Rattle.std.specs.Vec.{vec_len}
 use Rattle.proto_set.proofs.Cuts.{is_nothing, is_something}
 use Rattle.proto_set.proofs.Reading.{breaks_full, breaks_here, some_packed, spelled, unended}
@@ -25,4 +25,4 @@ returns-clause-read c =
 pub returns-in_default-clause-fault : goal.returns-in_default-clause-fault
 returns-in_default-clause-fault c =
     unended c.args.input.now c.requires
-    (strip_prefix_is Decides-eqb c.args.input.now first_line None c.in_default.ensures.cases)
+    (strip_prefix_is Decides-eqb c.args.input.now bundle_first_line None c.in_default.ensures.cases)

@@ -1,6 +1,6 @@
 -- The input is the files so far followed by the remainder.
 use Rattle.std.proofs.Common.{length}
-use Rattle.proto_set.specs.Packed.{files_of}
+use Rattle.proto_set.specs.Named.{files_of}
 use Rattle.proto_set.proofs.Reading.{StandInFront}
 use Rattle.proto_set.proofs.read.read_files.Given as goal
 

@@ -1,7 +1,7 @@
 use Rattle.std.proofs.Common.{◌≡◌, List, Bool, true, false, Some, length, refl, sym, ap, ◌∙◌, subst, arith}
 use Rattle.std.specs.Prelude.{slice_get}
 use Rattle.std.proofs.lemmas.List.{nil_from_length, length-replicate}
-use Rattle.proto_set.specs.declared.seen.Seen.{Seen}
+use Rattle.proto_set.specs.declared.seen.SeenFiles.{SeenFiles}
 use Rattle.proto_set.proofs.Visited.{paths_apart}
 use Rattle.proto_set.proofs.Seeing.{links_within, sees_start, sees_more, seen_is, both_ok}
 use Rattle.proto_set.proofs.seen.seen_from.Goals as goal
@@ -23,7 +23,7 @@ see_public-requires c =
 
 pub loop-next-preserved : goal.loop-next-preserved
 loop-next-preserved c =
-    let popped : Seen = record { marks = c.loop-next.seen.marks; next = c.pop.new.self } in
+    let popped : SeenFiles = record { marks = c.loop-next.seen.marks; next = c.pop.new.self } in
     sees_more c.args.graph.now c.args.file c.in-Some.next c.links-in-Some.result.now c.loop-next.seen popped
     c.see_public.new.self (paths_apart c.requires.own) c.links-in-Some.ensures refl c.in-Some.ensures.items
     c.in_ok-see_public.ensures c.loop-next.invariant

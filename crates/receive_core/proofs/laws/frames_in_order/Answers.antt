@@ -5,14 +5,14 @@ pub returns-clause-begins : goal.returns-clause-begins
 returns-clause-begins c = begins_so
 
 pub returns-clause-goes_on : goal.returns-clause-goes_on
-returns-clause-goes_on c = goes_on_so c.one_split.ensures.stays c.one_split.ensures.one_end
+returns-clause-goes_on c = goes_on_so c.split_is_unique.ensures.stays c.split_is_unique.ensures.one_end
 
 pub returns-clause-stops : goal.returns-clause-stops
 returns-clause-stops c =
-    stops_so c.one_split.ensures.stays c.one_split.ensures.once c.one_split.ensures.one_end c.frames_join.ensures.size c.frames_join.ensures.splits
+    stops_so c.split_is_unique.ensures.stays c.split_is_unique.ensures.once c.split_is_unique.ensures.one_end c.frames_join.ensures.size c.frames_join.ensures.splits
 
 pub returns-clause-takes : goal.returns-clause-takes
-returns-clause-takes c = takes_so c.one_frame.ensures.once c.frames_join.ensures.places
+returns-clause-takes c = takes_so c.frame_is_unique.ensures.once c.frames_join.ensures.places
 
 pub returns-clause-first : goal.returns-clause-first
-returns-clause-first c = are_first c.one_frame.ensures.once c.one_split.ensures.once
+returns-clause-first c = are_first c.frame_is_unique.ensures.once c.split_is_unique.ensures.once

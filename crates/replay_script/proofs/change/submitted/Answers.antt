@@ -1,5 +1,5 @@
 use Rattle.std.proofs.Common.{◌≢◌, refl, sym, ◌∙◌}
-use Rattle.script_grammar.specs.declared.form.Form.TheVariants as form
+use Rattle.script_grammar.specs.declared.form.LineForm.TheVariants as form
 use Rattle.replay_script.specs.Stores.{submit_words}
 use Rattle.replay_script.specs.declared.change.Change.TheVariants as change
 use Rattle.replay_script.proofs.Changing.{open_change}
@@ -22,5 +22,5 @@ returns-in-Ok c line said =
     let body = c.args.body.now in
     let m = submit_words c.args.submit in
     let same = said_by c.args.loads d body c.requires.kept form.Submit line m said refl goes_on in
-    open_change c.one_laws.ensures c.args.loads d body line form.Submit m (change.Line c.in-Ok.made) said
+    open_change c.word_laws.ensures c.args.loads d body line form.Submit m (change.Line c.in-Ok.made) said
     refl c.if-body.false (goes_on, sym same ∙ sym c.submitted.ensures ∙ c.in-Ok.is)

@@ -1,7 +1,7 @@
 use Rattle.std.proofs.Common.{refl, sym, ap, subst, ◌∙◌, []}
-use Rattle.policy_declarations.specs.Declarations.{nothing as nothing_declared}
-use Rattle.replay_script.specs.Changes.{seen, IsKept, IsAdded}
-use Rattle.replay_script.specs.Texts.{Goes, starts, goes_on}
+use Rattle.policy_declarations.specs.Declarations.{no_declarations as nothing_declared}
+use Rattle.replay_script.specs.Changes.{state_of_body, IsValidBody, IsAdded}
+use Rattle.replay_script.specs.Texts.{IsStateAfterLine, starts, advances}
 use Rattle.replay_script.specs.declared.change.Change.TheVariants as change
 use Rattle.replay_script.proofs.Adding.{kept_fresh, can_make, next_of}
 use Rattle.replay_script.proofs.read.read_lines.Goals as goal
@@ -19,8 +19,8 @@ loop-alloc-preserved c =
     let made = c.in-Ok-first_change.ensures in
     let next = next_of loads d b c.loop-alloc.invariant.kept c.in-Ok-first_change.change.0 c.in-Ok-changed.declared c.changed.new.body made.can c.in-Ok-changed.ensures in
     record {
-      reaches = goes_on (seen d b) c.loop-alloc.rest.now c.loop-alloc.invariant.reaches
-          (subst (λ p. Goes loads T (seen d b) c.loop-alloc.rest.now p c.in-Ok-first_change.change.1.now) (sym next.seen_is) made.goes);
+      reaches = advances (state_of_body d b) c.loop-alloc.rest.now c.loop-alloc.invariant.reaches
+          (subst (λ p. IsStateAfterLine loads T (state_of_body d b) c.loop-alloc.rest.now p c.in-Ok-first_change.change.1.now) (sym next.seen_is) made.goes);
       kept = next.kept;
     }
 
@@ -43,32 +43,32 @@ loop-alloc-preserved-in-Some c =
     let added : IsAdded d c.in-Some.line b c.add.new.self = record { lines = e.lines; connections = e.connections; submissions = e.submissions; closed = e.closed } in
     let next = next_of loads d b c.loop-alloc.invariant.kept (change.Line c.in-Some.line) d c.add.new.self made.can (refl, added) in
     record {
-      reaches = goes_on (seen d b) c.loop-alloc.rest.now c.loop-alloc.invariant.reaches
-          (subst (λ p. Goes loads T (seen d b) c.loop-alloc.rest.now p c.in-Some.behind.now) (sym next.seen_is) made.goes);
+      reaches = advances (state_of_body d b) c.loop-alloc.rest.now c.loop-alloc.invariant.reaches
+          (subst (λ p. IsStateAfterLine loads T (state_of_body d b) c.loop-alloc.rest.now p c.in-Some.behind.now) (sym next.seen_is) made.goes);
       kept = next.kept;
     }
 
-pub add-requires-in-Some-front_line : goal.add-requires-in-Some-front_line
-add-requires-in-Some-front_line c =
-    let made = c.in-Some-front_line.ensures c.args.table.now in
-    can_make c.args.loads c.loop-alloc.declared c.loop-alloc.body c.loop-alloc.invariant.kept c.requires.some (change.Line c.in-Some-front_line.line) made.can
+pub add-requires-in-Some-prefix_line : goal.add-requires-in-Some-prefix_line
+add-requires-in-Some-prefix_line c =
+    let made = c.in-Some-prefix_line.ensures c.args.table.now in
+    can_make c.args.loads c.loop-alloc.declared c.loop-alloc.body c.loop-alloc.invariant.kept c.requires.some (change.Line c.in-Some-prefix_line.line) made.can
 
-pub loop-alloc-smaller-in-Some-front_line : goal.loop-alloc-smaller-in-Some-front_line
-loop-alloc-smaller-in-Some-front_line c = (c.in-Some-front_line.ensures c.args.table.now).shorter
+pub loop-alloc-smaller-in-Some-prefix_line : goal.loop-alloc-smaller-in-Some-prefix_line
+loop-alloc-smaller-in-Some-prefix_line c = (c.in-Some-prefix_line.ensures c.args.table.now).shorter
 
-pub loop-alloc-preserved-in-Some-front_line : goal.loop-alloc-preserved-in-Some-front_line
-loop-alloc-preserved-in-Some-front_line c =
+pub loop-alloc-preserved-in-Some-prefix_line : goal.loop-alloc-preserved-in-Some-prefix_line
+loop-alloc-preserved-in-Some-prefix_line c =
     let loads = c.args.loads in
     let T = c.args.table.now in
     let d = c.loop-alloc.declared in
     let b = c.loop-alloc.body in
-    let made = c.in-Some-front_line.ensures T in
+    let made = c.in-Some-prefix_line.ensures T in
     let e = c.in-Ok-add-2.ensures in
-    let added : IsAdded d c.in-Some-front_line.line b c.add-in-Some-front_line.new.self = record { lines = e.lines; connections = e.connections; submissions = e.submissions; closed = e.closed } in
-    let next = next_of loads d b c.loop-alloc.invariant.kept (change.Line c.in-Some-front_line.line) d c.add-in-Some-front_line.new.self made.can (refl, added) in
+    let added : IsAdded d c.in-Some-prefix_line.line b c.add-in-Some-prefix_line.new.self = record { lines = e.lines; connections = e.connections; submissions = e.submissions; closed = e.closed } in
+    let next = next_of loads d b c.loop-alloc.invariant.kept (change.Line c.in-Some-prefix_line.line) d c.add-in-Some-prefix_line.new.self made.can (refl, added) in
     record {
-      reaches = goes_on (seen d b) c.loop-alloc.rest.now c.loop-alloc.invariant.reaches
-          (subst (λ p. Goes loads T (seen d b) c.loop-alloc.rest.now p c.in-Some-front_line.behind.now) (sym next.seen_is) made.goes);
+      reaches = advances (state_of_body d b) c.loop-alloc.rest.now c.loop-alloc.invariant.reaches
+          (subst (λ p. IsStateAfterLine loads T (state_of_body d b) c.loop-alloc.rest.now p c.in-Some-prefix_line.behind.now) (sym next.seen_is) made.goes);
       kept = next.kept;
     }
 
@@ -81,5 +81,5 @@ loop-alloc-init c =
           (ap (λ d. record { declared = d; lines = b.lines; closed = b.closed }) c.new-declared.ensures
           ∙ ap (λ ls. record { declared = nothing_declared; lines = ls; closed = b.closed }) f.lines
           ∙ ap (λ x. record { declared = nothing_declared; lines = []; closed = x }) f.closed) refl;
-      kept = subst (λ d. IsKept c.args.loads d b) (sym c.new-declared.ensures) (kept_fresh c.args.loads b f);
+      kept = subst (λ d. IsValidBody c.args.loads d b) (sym c.new-declared.ensures) (kept_fresh c.args.loads b f);
     }

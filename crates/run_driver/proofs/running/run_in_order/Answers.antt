@@ -1,7 +1,7 @@
 use Rattle.std.proofs.Common.{◌∙◌, ◌≤◌, ◌++◌, ℕ, List, map, arith, subst, sym}
 use Rattle.std.specs.Prelude.{IsPermutation}
-use Rattle.run_plan.specs.Ports.{all_ends}
-use Rattle.run_driver.specs.Running.{link_of}
+use Rattle.run_plan.specs.Links.{all_ends}
+use Rattle.run_driver.specs.Running.{numbered_link}
 use Rattle.run_driver.proofs.Tellable.{all-tellable}
 use Rattle.run_driver.proofs.running.run_in_order.Goals as goal
 
@@ -27,7 +27,7 @@ returns-clause-ran g c =
         counts = run.tells.counts;
         given_back =
             subst (λ (l : List (ℕ × g.row.F-L.Denot)). IsPermutation (g.F.Fabric.back c.conclude.new.fabric)
-            (map link_of c.in_ok-served.served.conns.items ++ l)) c.in_ok-served.ensures.back c.in_ok-conclude.ensures.back;
+            (map numbered_link c.in_ok-served.served.conns.items ++ l)) c.in_ok-served.ensures.back c.in_ok-conclude.ensures.back;
         one_failed = run.one_failed;
         none_failed = run.none_failed;
       },
@@ -39,8 +39,8 @@ returns-clause-away g c = omega (arith, c.in_ok-conclude.ensures.away, c.in_ok-s
 pub returns-clause-cause : goal.returns-clause-cause
 returns-clause-cause g c =
     let cause = c.in_ok-served.ensures.cause in
-    let same = c.in_ok-conclude.ensures.faults in record {
+    let same = c.in_ok-conclude.ensures.failures in record {
       rose = λ bad. absurd (cc);
       stays = λ never. same ∙ cause.stays (λ bad. cc);
-      never_falls = subst (λ (n : ℕ). g.F.Fabric.faults c.args.fabric.now ≤ n) (sym same) cause.never_falls;
+      never_falls = subst (λ (n : ℕ). g.F.Fabric.failures c.args.fabric.now ≤ n) (sym same) cause.never_falls;
     }

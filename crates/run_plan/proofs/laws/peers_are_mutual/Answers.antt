@@ -1,7 +1,7 @@
 use Rattle.std.proofs.Common.{Contains}
 use Rattle.std.proofs.lemmas.List.Elements.{All-contains}
 use Rattle.run_plan.proofs.Peers.{talks}
-use Rattle.run_plan.specs.Ports.{all_ends, connections_of}
+use Rattle.run_plan.specs.Links.{all_ends, connections_of}
 use Rattle.run_plan.proofs.laws.peers_are_mutual.Goals as goal
 
 pub returns : goal.returns

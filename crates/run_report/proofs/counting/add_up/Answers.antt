@@ -1,11 +1,11 @@
 use Rattle.std.proofs.Common.{◌≡◌, ◌≤◌, ◌+◌, ◌++◌, List, suc, length, take, sym, ap, ◌∙◌, subst, Some, length-append, arith}
 use Rattle.std.specs.Prelude.{slice_get}
 use Rattle.std.specs.List.{flat_map}
-use Rattle.telemetry.specs.Counts.{Happened as Counted}
+use Rattle.telemetry.specs.Counts.{CountedEvent as Counted}
 use Rattle.telemetry.specs.Totals.{sums_of}
 use Rattle.run_report.specs.Counting.{counted_in}
 use Rattle.run_report.specs.Counts.{AreCountsOf, HaveCounted}
-use Rattle.run_report.specs.declared.shown.Shown.{Shown}
+use Rattle.run_report.specs.declared.reported_connection.ReportedConnection.{ReportedConnection}
 use Rattle.run_report.proofs.Counted.{counted-more, part-within, plus-small}
 use Rattle.run_report.proofs.Lines.{one-more, there}
 use Rattle.run_report.proofs.Making.{zip-at, zip-length}
@@ -20,7 +20,7 @@ merge-requires c =
     let shown = c.args.shown.now in
     let i = c.loop-place.place in
     let low : suc i ≤ length shown = omega (arith, c.loop-place-test.true) in
-    let one : (s : Shown) × (slice_get shown i ≡ Some s) = there shown i low in
+    let one : (s : ReportedConnection) × (slice_get shown i ≡ Some s) = there shown i low in
     let own = c.index-counts-place.result in
     let its : HaveCounted (counted_in one.0) own =
     zip-at AreCountsOf shown c.args.counts.now i one.0 own c.requires one.1 c.index-counts-place.is in
@@ -37,7 +37,7 @@ loop-place-preserved c =
     let shown = c.args.shown.now in
     let i = c.loop-place.place in
     let low : suc i ≤ length shown = omega (arith, c.loop-place-test.true) in
-    let one : (s : Shown) × (slice_get shown i ≡ Some s) = there shown i low in
+    let one : (s : ReportedConnection) × (slice_get shown i ≡ Some s) = there shown i low in
     let own = c.index-counts-place.result in
     let its : HaveCounted (counted_in one.0) own =
     zip-at AreCountsOf shown c.args.counts.now i one.0 own c.requires one.1 c.index-counts-place.is in

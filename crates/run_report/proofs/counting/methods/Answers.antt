@@ -1,7 +1,7 @@
 use Rattle.std.proofs.Common.{◌≡◌, ◌≤◌, ◌+◌, ◌++◌, suc, length, take, sym, ap, ◌∙◌, Some, arith}
 use Rattle.std.specs.Prelude.{slice_get}
 use Rattle.std.specs.List.{flat_map}
-use Rattle.call_history.specs.Records.{told_by}
+use Rattle.call_history.specs.Records.{event_of_record}
 use Rattle.run_report.specs.Counts.{methods_by}
 use Rattle.run_report.proofs.Calls.{methods-told}
 use Rattle.run_report.proofs.Lines.{all-of, one-more}
@@ -11,7 +11,7 @@ pub loop-place-preserved : goal.loop-place-preserved
 loop-place-preserved c =
     let hs = c.args.calls.now.happenings in
     let kept = c.history-in-loop-place.result.now in
-    let what = told_by kept.steps c.at.result.now in
+    let what = event_of_record kept.steps c.at.result.now in
     let at : slice_get hs c.loop-place.place ≡ Some what =
     ap (λ l. slice_get l c.loop-place.place) (sym c.history-in-loop-place.ensures) ∙ c.at.ensures.tells in
     let next : suc c.loop-place.place ≡ c.loop-place.place + 1 = omega arith in

@@ -3,10 +3,10 @@ use Rattle.std.specs.Prelude.{IfSome, SomeIff}
 use Rattle.std.specs.List.{flat_map}
 use Rattle.std.proofs.lemmas.List.{length-map}
 use Rattle.chain_upgrade.specs.Chains.{ChainParts}
-use Rattle.call_history.specs.Behind.{taken}
-use Rattle.call_history.specs.declared.happening.Taken.{Taken}
-use Rattle.conn_core.specs.Connections.{behind}
-use Rattle.run_report.specs.Counting.{counted, counted_on, standing_counted}
+use Rattle.call_history.specs.Trace.{taken}
+use Rattle.call_history.specs.declared.happening.AcceptedCall.{AcceptedCall}
+use Rattle.conn_core.specs.Connections.{conn_trace}
+use Rattle.run_report.specs.Counting.{counted, counted_on, pending_counted}
 use Rattle.run_report.proofs.Lines.{rows-long}
 use Rattle.run_report.proofs.Telling.{few-counted}
 use Rattle.run_report.proofs.counting.most_on.Goals as goal
@@ -18,15 +18,15 @@ at-most (Some x) P v k low is = omega (arith, low, is.1)
 pub returns : goal.returns
 returns c =
     let conn = c.args.calls.now in
-    let calls : List Taken = taken (behind conn) in
+    let calls : List AcceptedCall = taken (conn_trace conn) in
     let long : length conn.chain.row ≡ length conn.chain.calls =
-    rows-long conn.chain.row conn.chain.calls c.is_connection.ensures.standing_chain.row in
+    rows-long conn.chain.row conn.chain.calls c.is_connection.ensures.is_chain_state.row in
     let stands : c.len-standing.result ≡ length conn.chain.calls =
     c.len-standing.ensures.count ∙ ap length (c.calls.ensures ∙ ap (λ (ch : ChainParts). ch.calls) c.chain.ensures) in
     let happened : c.len.result ≡ length conn.happenings = c.len.ensures ∙ ap length c.history.ensures in
     let told = few-counted calls conn.happenings in
-    let marked : length (map (standing_counted calls) conn.chain.row) ≡ length conn.chain.row =
-    length-map conn.chain.row (standing_counted calls) in
-    let both = length-append (flat_map (counted calls) conn.happenings) (map (standing_counted calls) conn.chain.row) in
+    let marked : length (map (pending_counted calls) conn.chain.row) ≡ length conn.chain.row =
+    length-map conn.chain.row (pending_counted calls) in
+    let both = length-append (flat_map (counted calls) conn.happenings) (map (pending_counted calls) conn.chain.row) in
     let few : length (counted_on conn) ≤ c.len.result + c.len-standing.result = omega (arith, both, told, marked, long, stands, happened) in
     at-most c.checked_add.result _ (c.len.result + c.len-standing.result) (length (counted_on conn)) few c.checked_add.ensures

@@ -19,5 +19,5 @@ returns-in-Err-At c =
     let moved = subst (λ (ls : List (List ℕ)). faults.IsFaultOf T ls c.in-Err-At.field-0) c.in_ok-lines.ensures c.in-Err-At.ensures.fault in
     let first = subst (λ (f : RuleFault). faults.IsFaultOf T lines f) c.in-Err-At.field-0-is moved in (
       (c.in-Err-At.field-0-0, first),
-      λ other fails. (c.one_fault.ensures T lines fails.0 c.in-Err-At.field-0-0 other c.in-Err-At.reason fails.1 first).1,
+      λ other fails. (c.first_fault_is_unique.ensures T lines fails.0 c.in-Err-At.field-0-0 other c.in-Err-At.reason fails.1 first).1,
     )

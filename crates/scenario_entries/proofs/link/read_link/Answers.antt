@@ -1,11 +1,11 @@
 use Rattle.std.proofs.Common.{ℕ, Option, sym, ap, ◌∙◌, subst}
 use Rattle.toml.specs.View.{table_view}
-use Rattle.scenario.specs.Applications.{LinkAgainst}
+use Rattle.scenario.specs.Applications.{IsLinkFault}
 use Rattle.scenario.specs.Keys.{end_a}
 use Rattle.scenario.specs.Reasons.{IsSoFar}
 use Rattle.scenario.specs.declared.fault.ScenarioReason.{ScenarioReason}
-use Rattle.scenario_toml.specs.Values.{number_in}
-use Rattle.scenario_entries.specs.Ports.{link_first}
+use Rattle.scenario_toml.specs.Values.{number_or_default}
+use Rattle.scenario_entries.specs.AppConnections.{first_link_reason}
 use Rattle.scenario_entries.proofs.Linked.{link_is, link_keys_first, link_number_first}
 use Rattle.scenario_entries.proofs.link.read_link.Goals as goal
 
@@ -26,9 +26,9 @@ returns-in-Some c = λ all links on says.
     let ports = c.args.ports.now in
     let before = c.args.before.now in
     let told =
-    c.link_reason.ensures ∙ ap (λ (n : ℕ). link_first ports before n c.second_end-b.result) c.first_end-a.ensures
-    ∙ ap (λ (n : ℕ). link_first ports before (number_in end_a ms) n) c.second_end-b.ensures in
-    subst (λ (o : Option ScenarioReason). IsSoFar (LinkAgainst all links ms) o) (sym told ∙ c.in-Some.is) (link_is all links ms ports before on says keys within)
+    c.first_link_reason.ensures ∙ ap (λ (n : ℕ). first_link_reason ports before n c.second_end-b.result) c.first_end-a.ensures
+    ∙ ap (λ (n : ℕ). first_link_reason ports before (number_or_default end_a ms) n) c.second_end-b.ensures in
+    subst (λ (o : Option ScenarioReason). IsSoFar (IsLinkFault all links ms) o) (sym told ∙ c.in-Some.is) (link_is all links ms ports before on says keys within)
 
 pub returns-in-None : goal.returns-in-None
 returns-in-None c = λ all links on says.
@@ -38,8 +38,8 @@ returns-in-None c = λ all links on says.
     let ports = c.args.ports.now in
     let before = c.args.before.now in
     let told =
-    c.link_reason.ensures ∙ ap (λ (n : ℕ). link_first ports before n c.second_end-b.result) c.first_end-a.ensures
-    ∙ ap (λ (n : ℕ). link_first ports before (number_in end_a ms) n) c.second_end-b.ensures in (
-      subst (λ (o : Option ScenarioReason). IsSoFar (LinkAgainst all links ms) o) (sym told ∙ c.in-None.is) (link_is all links ms ports before on says keys within),
+    c.first_link_reason.ensures ∙ ap (λ (n : ℕ). first_link_reason ports before n c.second_end-b.result) c.first_end-a.ensures
+    ∙ ap (λ (n : ℕ). first_link_reason ports before (number_or_default end_a ms) n) c.second_end-b.ensures in (
+      subst (λ (o : Option ScenarioReason). IsSoFar (IsLinkFault all links ms) o) (sym told ∙ c.in-None.is) (link_is all links ms ports before on says keys within),
       record { a = c.first_end-a.ensures; b = c.second_end-b.ensures },
     )

@@ -1,8 +1,8 @@
 use Rattle.std.proofs.Common.{ℕ, List, get_or, sym, ap, ◌∙◌}
-use Rattle.policy_declarations.specs.Declarations.{tenant_place}
-use Rattle.policy_declarations.specs.declared.item.Tenant.{Tenant}
+use Rattle.policy_declarations.specs.Declarations.{tenant_index}
+use Rattle.policy_declarations.specs.declared.declaration.Tenant.{Tenant}
 use Rattle.toml.specs.View.{table_view}
-use Rattle.scenario_toml.specs.Values.{TheRange, number_in}
+use Rattle.scenario_toml.specs.Values.{TheIntegerRange, number_or_default}
 use Rattle.scenario_entries.proofs.Declaring.{quota_says}
 use Rattle.scenario_entries.proofs.policies.quota_in.Goals as goal
 
@@ -13,6 +13,6 @@ returns-in-Some c = λ T tenants is says.
     let place = c.in-Some.place in
     let default = c.index-tenants-place.result in
     quota_says T tenants ms d.tenants place (get_or c.tenants-tenants.result.now place default).per c.number.result is says
-    (ap (λ (w : List ℕ). tenant_place d w) (sym c.word_at.ensures) ∙ sym c.tenant.ensures ∙ c.in-Some.is) default
+    (ap (λ (w : List ℕ). tenant_index d w) (sym c.text_or_empty.ensures) ∙ sym c.tenant.ensures ∙ c.in-Some.is) default
     (ap (λ (xs : List Tenant). (get_or xs place default).per) c.tenants-tenants.ensures.tenants)
-    (c.number.ensures ∙ ap (λ (r : TheRange). number_in r ms) c.cap.ensures)
+    (c.number.ensures ∙ ap (λ (r : TheIntegerRange). number_or_default r ms) c.cap.ensures)

@@ -1,13 +1,13 @@
 use Rattle.std.proofs.Common.{◌≡◌, ◌+◌, ◌++◌, ◌∷◌, [], List, Result, take, drop, refl, sym, ap, ◌∙◌, subst, arith}
-use Rattle.policy_declarations.specs.Declarations.{Declared, with_item}
-use Rattle.policy_declarations.specs.declared.item.Item.TheVariants as item
-use Rattle.policy_declarations.specs.declared.item.Tenant.{Tenant}
+use Rattle.policy_declarations.specs.Declarations.{Declared, with_declaration}
+use Rattle.policy_declarations.specs.declared.declaration.Declaration.TheVariants as item
+use Rattle.policy_declarations.specs.declared.declaration.Tenant.{Tenant}
 use Rattle.toml.specs.Data.{Members}
 use Rattle.toml.specs.View.{table_view}
 use Rattle.scenario_lines.specs.Programs.{Each}
-use Rattle.scenario.specs.Policies.{TenantAgainst, TenantSays}
+use Rattle.scenario.specs.Policies.{IsTenantFault, IsTenantMeaning}
 use Rattle.scenario.specs.declared.fault.ScenarioReason.{ScenarioReason}
-use Rattle.scenario_entries.specs.Entries.{AreFree, IsEntryRead, views}
+use Rattle.scenario_entries.specs.Entries.{AreFaultFree, IsEntryRead, views}
 use Rattle.scenario_entries.proofs.PolicyLists.{each_push}
 use Rattle.scenario_entries.proofs.PolicyListing.{first_at, free_none, free_push, views_all, views_count, views_more, views_whole}
 use Rattle.scenario_entries.proofs.tenants.read_tenants.Goals as goal
@@ -15,8 +15,8 @@ use Rattle.scenario_entries.proofs.tenants.read_tenants.Goals as goal
 pub loop-entry-init : goal.loop-entry-init
 loop-entry-init c = record {
   numbered = refl;
-  free = free_none TenantAgainst;
-  says = subst (λ (d : Declared). Each TenantSays [] d.tenants) (sym c.new-declared.ensures) tt;
+  free = free_none IsTenantFault;
+  says = subst (λ (d : Declared). Each IsTenantMeaning [] d.tenants) (sym c.new-declared.ensures) tt;
   none = ap (λ (d : Declared). d.policies) c.new-declared.ensures;
 }
 
@@ -29,12 +29,12 @@ returns-in-Err c =
     let ms = table_view e.now in
     let seen = views (take i entries) in
     let count = views_count entries i e within c.entry-item.is in
-    let first = subst (λ (r : Result Declared ScenarioReason). IsEntryRead (TenantAgainst seen ms)
-    (λ d. (t : Tenant) × TenantSays ms t × (d ≡ with_item c.loop-entry.declared (item.Tenant t))) r) c.in-Err.is
+    let first = subst (λ (r : Result Declared ScenarioReason). IsEntryRead (IsTenantFault seen ms)
+    (λ d. (t : Tenant) × IsTenantMeaning ms t × (d ≡ with_declaration c.loop-entry.declared (item.Tenant t))) r) c.in-Err.is
     (c.in_ok-more.ensures seen c.loop-entry.invariant.says) in (
       c.loop-entry.number + 1,
       refl,
-      first_at TenantAgainst (views entries) (c.loop-entry.number + 1) seen ms (views (drop (i + 1) entries)) c.in-Err.reason
+      first_at IsTenantFault (views entries) (c.loop-entry.number + 1) seen ms (views (drop (i + 1) entries)) c.in-Err.reason
           (views_whole entries i e within c.entry-item.is) (omega (arith, c.loop-entry.invariant.numbered, count)) c.loop-entry.invariant.free first,
     )
 
@@ -46,25 +46,25 @@ loop-entry-preserved c =
     let within = c.loop-entry-test.true in
     let ms = table_view e.now in
     let seen = views (take i entries) in
-    let read = subst (λ (r : Result Declared ScenarioReason). IsEntryRead (TenantAgainst seen ms)
-    (λ d. (t : Tenant) × TenantSays ms t × (d ≡ with_item c.loop-entry.declared (item.Tenant t))) r) c.in-Ok.is
+    let read = subst (λ (r : Result Declared ScenarioReason). IsEntryRead (IsTenantFault seen ms)
+    (λ d. (t : Tenant) × IsTenantMeaning ms t × (d ≡ with_declaration c.loop-entry.declared (item.Tenant t))) r) c.in-Ok.is
     (c.in_ok-more.ensures seen c.loop-entry.invariant.says) in
     let t = read.1.0 in
     let more = views_more entries i e within c.entry-item.is in
     record {
       numbered = omega (arith, c.loop-entry.invariant.numbered);
-      free = subst (λ (vs : List Members). AreFree TenantAgainst vs) (sym more) (free_push TenantAgainst seen ms c.loop-entry.invariant.free read.0);
+      free = subst (λ (vs : List Members). AreFaultFree IsTenantFault vs) (sym more) (free_push IsTenantFault seen ms c.loop-entry.invariant.free read.0);
       says =
-          subst (λ (vs : List Members). Each TenantSays vs c.in-Ok.more.tenants) (sym more)
-          (subst (λ (d : Declared). Each TenantSays (seen ++ ms ∷ []) d.tenants) (sym read.1.2)
-          (each_push TenantSays seen c.loop-entry.declared.tenants ms t c.loop-entry.invariant.says read.1.1));
+          subst (λ (vs : List Members). Each IsTenantMeaning vs c.in-Ok.more.tenants) (sym more)
+          (subst (λ (d : Declared). Each IsTenantMeaning (seen ++ ms ∷ []) d.tenants) (sym read.1.2)
+          (each_push IsTenantMeaning seen c.loop-entry.declared.tenants ms t c.loop-entry.invariant.says read.1.1));
       none = ap (λ (d : Declared). d.policies) read.1.2 ∙ c.loop-entry.invariant.none;
     }
 
 pub returns : goal.returns
 returns c =
     let same = views_all c.args.entries.now c.loop-entry.entry-index c.loop-entry-test.false in (
-      subst (λ (vs : List Members). AreFree TenantAgainst vs) same c.loop-entry.invariant.free,
-      subst (λ (vs : List Members). Each TenantSays vs c.loop-entry.declared.tenants) same c.loop-entry.invariant.says,
+      subst (λ (vs : List Members). AreFaultFree IsTenantFault vs) same c.loop-entry.invariant.free,
+      subst (λ (vs : List Members). Each IsTenantMeaning vs c.loop-entry.declared.tenants) same c.loop-entry.invariant.says,
       c.loop-entry.invariant.none,
     )

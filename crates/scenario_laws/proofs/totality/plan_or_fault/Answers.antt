@@ -4,7 +4,7 @@ use Rattle.scenario_laws.proofs.totality.plan_or_fault.Goals as goal
 pub returns : goal.returns
 returns c =
     let laws : Laws = record {
-      judge = c.one_judgement.ensures.either;
+      judge = c.meanings_or_reason.ensures.either;
       access = c.text_or_fault.ensures.either;
       redact = c.text_or_fault-2.ensures.either;
     } in

@@ -2,9 +2,9 @@ use Rattle.std.proofs.Common.{◌≡◌, Bool, ◌||◌, ◌∷◌, Option, ◌�
 use Rattle.std.specs.Borrow.{Bor}
 use Rattle.mrpc_table.specs.Lines.{words_of}
 use Rattle.script_grammar.specs.declared.keyword.Keyword.TheVariants.{Access}
-use Rattle.script_grammar.specs.declared.sort.Sort.TheVariants.{Key}
-use Rattle.script_grammar.specs.Rests.{words_in}
-use Rattle.scenario_lines.specs.Judging.{is_no_name, lacks_name}
+use Rattle.script_grammar.specs.declared.word_kind.WordKind.TheVariants.{Key}
+use Rattle.script_grammar.specs.Remainders.{words_in}
+use Rattle.scenario_lines.specs.Judging.{is_required_name_invalid, lacks_name}
 use Rattle.scenario_lines.proofs.Walking.{lacks_end, lacks_more, lacks_short}
 use Rattle.scenario_lines.proofs.words.lacks_name.Goals as goal
 use Rattle.scenario_lines.proofs.words.lacks_name.Goals.{then-lacks, else-lacks}
@@ -32,11 +32,11 @@ loop-sort-preserved c =
       | then-lacks v ↦
           lacks_more c.loop-sort.lacks c.if-lacks.lacks sorts i (Key Access) (words_in c.loop-sort.rest) (words_in c.if-lacks.rest) w
           (lacks_name false sorts (words_of c.args.line.now)) c.loop-sort-test.true (words ∙ ap (λ (r : Option (Bor (List ℕ))). w ∷ words_in r) (sym v.rest-is))
-          (v.lacks-is ∙ whole_of c.loop-sort.lacks (is_no_name (get_or sorts i (Key Access)) w) v.if-lacks.true) c.loop-sort.invariant
+          (v.lacks-is ∙ whole_of c.loop-sort.lacks (is_required_name_invalid (get_or sorts i (Key Access)) w) v.if-lacks.true) c.loop-sort.invariant
       | else-lacks v ↦
           lacks_more c.loop-sort.lacks c.if-lacks.lacks sorts i (Key Access) (words_in c.loop-sort.rest) (words_in c.if-lacks.rest) w
           (lacks_name false sorts (words_of c.args.line.now)) c.loop-sort-test.true (words ∙ ap (λ (r : Option (Bor (List ℕ))). w ∷ words_in r) (sym v.rest-is))
-          (other_of c.loop-sort.lacks (is_no_name (get_or sorts i (Key Access)) w) c.if-lacks.lacks v.if-lacks.false (v.lacks-is ∙ c.is_no_name-bad.ensures)) c.loop-sort.invariant
+          (other_of c.loop-sort.lacks (is_required_name_invalid (get_or sorts i (Key Access)) w) c.if-lacks.lacks v.if-lacks.false (v.lacks-is ∙ c.is_required_name_invalid-bad.ensures)) c.loop-sort.invariant
     ]
 
 pub returns-then-lacks-2 : goal.returns-then-lacks-2

@@ -1,7 +1,7 @@
 -- A name is lacking exactly if the remaining words lack one, or one was found before.
 use Rattle.std.proofs.Common.{◌≡◌, false, drop}
 use Rattle.mrpc_table.specs.Lines.{words_of}
-use Rattle.script_grammar.specs.Rests.{words_in}
+use Rattle.script_grammar.specs.Remainders.{words_in}
 use Rattle.scenario_lines.specs.Judging.{lacks_name}
 use Rattle.scenario_lines.proofs.words.lacks_name.Given as goal
 

@@ -5,14 +5,14 @@ use Rattle.scenario_reader.proofs.application.read_app.Goals as goal
 
 pub returns-then-not-has_ranges-clause-read : goal.returns-then-not-has_ranges-clause-read
 returns-then-not-has_ranges-clause-read c = λ all T before above on total.
-    let is_role = sym c.role_of.ensures ∙ c.in-Some.is in
+    let is_role = sym c.entry_role.ensures ∙ c.in-Some.is in
     let keys = sym c.has_app_keys.ensures ∙ c.if-not-has_app_keys.false in
     app_number_first all c.args.above.declared.now.policies before (table_view c.args.entry.now) c.in-Some.role is_role keys
     (sym c.has_ranges.ensures ∙ c.if-not-has_ranges.true)
 
 pub returns-in-Err-clause-read : goal.returns-in-Err-clause-read
 returns-in-Err-clause-read c = λ all T before above on total.
-    let is_role = sym c.role_of.ensures ∙ c.in-Some.is in
+    let is_role = sym c.entry_role.ensures ∙ c.in-Some.is in
     let keys = sym c.has_app_keys.ensures ∙ c.if-not-has_app_keys.false in
     let within = sym c.has_ranges.ensures ∙ c.if-not-has_ranges.false in
     app_early_first all c.args.above.declared.now.policies before (table_view c.args.entry.now) c.in-Some.role is_role keys within c.in-Err.reason
@@ -20,7 +20,7 @@ returns-in-Err-clause-read c = λ all T before above on total.
 
 pub returns-in-Err-2-clause-read : goal.returns-in-Err-2-clause-read
 returns-in-Err-2-clause-read c = λ all T before above on total.
-    let is_role = sym c.role_of.ensures ∙ c.in-Some.is in
+    let is_role = sym c.entry_role.ensures ∙ c.in-Some.is in
     let keys = sym c.has_app_keys.ensures ∙ c.if-not-has_app_keys.false in
     let within = sym c.has_ranges.ensures ∙ c.if-not-has_ranges.false in
     let early = rw c.in-Ok.is at (c.in_ok-early.ensures.read all T before above on is_role) in
@@ -29,7 +29,7 @@ returns-in-Err-2-clause-read c = λ all T before above on total.
 
 pub returns-clause-read : goal.returns-clause-read
 returns-clause-read c = λ all T before above on total.
-    let is_role = sym c.role_of.ensures ∙ c.in-Some.is in
+    let is_role = sym c.entry_role.ensures ∙ c.in-Some.is in
     let keys = sym c.has_app_keys.ensures ∙ c.if-not-has_app_keys.false in
     let within = sym c.has_ranges.ensures ∙ c.if-not-has_ranges.false in
     let early = rw c.in-Ok.is at (c.in_ok-early.ensures.read all T before above on is_role) in

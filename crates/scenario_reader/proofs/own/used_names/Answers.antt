@@ -2,7 +2,7 @@ use Rattle.std.proofs.Common.{◌++◌, ◌∷◌, [], ◌↔◌, ℕ, List, Vec
 use Rattle.std.specs.Borrow.{Bor}
 use Rattle.toml.specs.Data.{Members}
 use Rattle.toml.specs.View.{table_view}
-use Rattle.scenario_toml.specs.Values.{TheRange, number_in}
+use Rattle.scenario_toml.specs.Values.{TheIntegerRange, number_or_default}
 use Rattle.scenario_entries.specs.Entries.{views}
 use Rattle.scenario_reader.specs.Owning.{IsUsedIn}
 use Rattle.scenario_reader.proofs.Listing.{views_all, views_more}
@@ -17,8 +17,8 @@ loop-operator-preserved c = λ name.
     let e = c.operator-item.result in
     let ms = table_view c.args.entry.now in
     let more = views_more operators i e c.loop-operator-test.true c.operator-item.is in
-    let its = c.number.ensures ∙ ap (λ (r : TheRange). number_in r (table_view e.now)) c.conn-in-loop-operator.ensures in
-    let own = c.number-number.ensures ∙ ap (λ (r : TheRange). number_in r ms) c.conn.ensures in
+    let its = c.number.ensures ∙ ap (λ (r : TheIntegerRange). number_or_default r (table_view e.now)) c.conn-in-loop-operator.ensures in
+    let own = c.number-number.ensures ∙ ap (λ (r : TheIntegerRange). number_or_default r ms) c.conn.ensures in
     subst (λ (vs : List Members). Contains (map (λ n. n.now) c.if-number.names.items) name ↔ IsUsedIn vs ms name) (sym more)
     (elim c.if-number.branch [
       | then-number+in_ok-more+in_ok-extend_from_slice w ↦

@@ -9,7 +9,7 @@ use Rattle.toml.specs.declared.value.Value.{Value}
 use Rattle.toml.specs.Data.{Members}
 use Rattle.toml.specs.View.{table_view}
 use Rattle.scenario.specs.Applications.{policy_tables, tenant_tables}
-use Rattle.scenario.specs.Policies.{PolicySays}
+use Rattle.scenario.specs.Policies.{IsPolicyMeaning}
 use Rattle.scenario_entries.specs.Entries.{views}
 use Rattle.scenario_reader.proofs.Lists.{each_length}
 use Rattle.scenario_reader.proofs.reader.read_parts.Goals as goal
@@ -27,7 +27,7 @@ read_below-requires-clause-long c =
     let says = c.in_ok-declared.ensures in
     ap (λ (xs : List (Bor (BTreeMap (String Global) Value))). length xs) c.as_slice.ensures.value ∙ sym (length-map entries (λ t. table_view t.now))
     ∙ ap (λ (es : List Members). length es) says.entries
-    ∙ each_length (PolicySays c.args.table.now (tenant_tables ms)) (policy_tables ms) declarations.policies says.policies
+    ∙ each_length (IsPolicyMeaning c.args.table.now (tenant_tables ms)) (policy_tables ms) declarations.policies says.policies
 
 pub returns-in_err-below : goal.returns-in_err-below
 returns-in_err-below c =
@@ -41,7 +41,7 @@ returns c =
     let says = c.in_ok-declared.ensures in
     let entries = ap views c.as_slice.ensures.value ∙ says.entries in
     record {
-      service = c.in_ok-service.ensures ∙ c.word_at.ensures;
+      service = c.in_ok-service.ensures ∙ c.text_or_empty.ensures;
       tenants = says.tenants;
       policies = says.policies;
       below = c.in_ok-below.ensures c.args.table.now says.free c.requires.schema says.of_policies says.policies entries;

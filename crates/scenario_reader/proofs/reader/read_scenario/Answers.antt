@@ -19,5 +19,5 @@ returns-clause-read c = text_read c.args.text.now (table_view c.in_ok-all.all) c
 
 pub returns-clause-sound : goal.returns-clause-sound
 returns-clause-sound c =
-    says_sound c.args.text.now (table_view c.in_ok-all.all) c.in_ok-all.ensures c.a_said_plan_is_sound.ensures.sound c.read_whole.result
+    says_sound c.args.text.now (table_view c.in_ok-all.all) c.in_ok-all.ensures c.parsed_plan_is_valid.ensures.sound c.read_whole.result
     c.read_whole.ensures

@@ -1,7 +1,7 @@
 use Rattle.std.proofs.Common.{ap, ◌∙◌}
 use Rattle.std.proofs.lemmas.Result.{err_from_is_err_and}
 use Rattle.toml.specs.View.{table_view}
-use Rattle.scenario_toml.specs.Values.{TheRange, number_in}
+use Rattle.scenario_toml.specs.Values.{TheIntegerRange, number_or_default}
 use Rattle.scenario_reader.proofs.Texts.{list_few}
 use Rattle.scenario_reader.proofs.reader.read_whole.Goals as goal
 
@@ -17,8 +17,8 @@ returns c =
     record {
       free = λ at q h. says.below.free at q (list_few at) h;
       service = says.service;
-      loads = c.number.ensures ∙ ap (λ (r : TheRange). number_in r ms) c.loads.ensures;
-      workers = c.number-2.ensures ∙ ap (λ (r : TheRange). number_in r ms) c.workers.ensures;
+      loads = c.number.ensures ∙ ap (λ (r : TheIntegerRange). number_or_default r ms) c.loads.ensures;
+      workers = c.number-2.ensures ∙ ap (λ (r : TheIntegerRange). number_or_default r ms) c.workers.ensures;
       weighted = c.flag_at.ensures;
       table = c.requires.schema;
       tenants = says.tenants;

@@ -23,7 +23,7 @@ returns-then-not-is_full_name-clause-read c =
     subst (λ (r : Result Table ScenarioFault). IsTopRead all r) (sym c.top_fault-then-not-is_full_name.ensures) (
       refl,
       top_name_first all keys within (λ f.
-          both_ways c.is_full_name.result c.if-not-is_full_name.true (c.is_full_name.ensures.1 (subst IsFullName (sym c.word_at.ensures) f))),
+          both_ways c.is_full_name.result c.if-not-is_full_name.true (c.is_full_name.ensures.1 (subst IsFullName (sym c.text_or_empty.ensures) f))),
     )
 
 pub returns-in-None-clause-read : goal.returns-in-None-clause-read
@@ -33,6 +33,6 @@ returns-in-None-clause-read c =
     let within = sym c.has_top_ranges.ensures ∙ c.if-not-has_top_ranges.false in
     subst (λ (r : Result Table ScenarioFault). IsTopRead all r) (sym c.top_fault-in-None.ensures) (
       refl,
-      top_schema_first all keys within (subst IsFullName c.word_at.ensures (c.is_full_name.ensures.0 c.if-not-is_full_name.false))
-          (λ T has. (rw c.in-None.is at c.in_ok-table.ensures.table) T (subst (λ (x : List ℕ). HasTable x T) (sym c.word_at-2.ensures) has)),
+      top_schema_first all keys within (subst IsFullName c.text_or_empty.ensures (c.is_full_name.ensures.0 c.if-not-is_full_name.false))
+          (λ T has. (rw c.in-None.is at c.in_ok-table.ensures.table) T (subst (λ (x : List ℕ). HasTable x T) (sym c.text_or_empty-2.ensures) has)),
     )

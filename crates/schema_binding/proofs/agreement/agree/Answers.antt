@@ -1,6 +1,6 @@
 use Rattle.std.proofs.Common.{◌<◌, ltb, inl, inr, arith}
 use Rattle.std.proofs.lemmas.Result.{err_from_is_err_and}
-use Rattle.schema_binding.specs.Agreement.{Agree, by_text, by_fields}
+use Rattle.schema_binding.specs.Agreement.{AreInAgreement, by_text, by_fields}
 use Rattle.schema_binding.specs.declared.fault.AgreeFault.TheVariants.{NoService}
 use Rattle.schema_binding.proofs.Agreeing.{offers_of, service_refusal, MayRefuse, text_refusal, methods_refusal, fields_refusal, no_other_refusal, memory_alone, second}
 use Rattle.schema_binding.proofs.Answering.{never_both, refuse_once}
@@ -155,7 +155,7 @@ returns-clause-agreed c =
     let v = c.args.version in
     let o = offers_of T s c.count_methods-methods.result c.count_methods-methods.ensures c.if-methods-eq0.false in
     let p = offers_of U s c.count_methods-others.result c.count_methods-others.ensures c.if-others-eq0.false in
-    let agree : Agree T U s v = elim c.if-version-eq-VERSION.branch [
+    let agree : AreInAgreement T U s v = elim c.if-version-eq-VERSION.branch [
       | then-version-eq-VERSION+in_ok-same_text w ↦ by_text w.if-version-eq-VERSION.true o p w.in_ok-same_text.ensures.same
       | else-version-eq-VERSION+in_ok-same_methods+in_ok-same_fields w ↦
           by_fields (second v c.requires.version w.if-version-eq-VERSION.false) o p w.in_ok-same_methods.ensures.same w.in_ok-same_fields.ensures.same
@@ -170,7 +170,7 @@ returns-clause-refused_only c = λ why refuses.
     let v = c.args.version in
     let o = offers_of T s c.count_methods-methods.result c.count_methods-methods.ensures c.if-methods-eq0.false in
     let p = offers_of U s c.count_methods-others.result c.count_methods-others.ensures c.if-others-eq0.false in
-    let agree : Agree T U s v = elim c.if-version-eq-VERSION.branch [
+    let agree : AreInAgreement T U s v = elim c.if-version-eq-VERSION.branch [
       | then-version-eq-VERSION+in_ok-same_text w ↦ by_text w.if-version-eq-VERSION.true o p w.in_ok-same_text.ensures.same
       | else-version-eq-VERSION+in_ok-same_methods+in_ok-same_fields w ↦
           by_fields (second v c.requires.version w.if-version-eq-VERSION.false) o p w.in_ok-same_methods.ensures.same w.in_ok-same_fields.ensures.same

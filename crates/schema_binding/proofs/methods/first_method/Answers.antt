@@ -3,7 +3,7 @@ use Rattle.std.specs.Prelude.{is_some}
 use Rattle.std.proofs.lemmas.Bool.{false≢true}
 use Rattle.schema_binding.specs.Agreement.{methods_of}
 use Rattle.schema_binding.specs.Places.{signature_at}
-use Rattle.schema_binding.specs.Refusals.{DifferFrom}
+use Rattle.schema_binding.specs.Disagreement.{AreFirstDifferentFrom}
 use Rattle.schema_binding.proofs.Signatures.{methods_differ, methods_equal, few_given, some_more, none_more}
 use Rattle.schema_binding.proofs.methods.first_method.Goals as goal
 use Rattle.schema_binding.proofs.methods.first_method.Goals.{then-is_some, else-is_some}
@@ -13,7 +13,7 @@ returns-then-not-is_same_at c =
     let T = c.args.ours.now in
     let U = c.args.theirs.now in
     let s = c.args.service.now in
-    subst (DifferFrom (methods_of T s) (methods_of U s)) (sym c.loop-index.invariant.count)
+    subst (AreFirstDifferentFrom (methods_of T s) (methods_of U s)) (sym c.loop-index.invariant.count)
     (methods_differ T U s c.loop-index.index c.max-index-end.result c.loop-index-test.true (omega arith) (omega arith) c.loop-index.invariant.same
     (λ e. false≢true (c.if-not-is_same_at.ensures.1 e)))
 

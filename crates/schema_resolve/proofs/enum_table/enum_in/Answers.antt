@@ -3,7 +3,7 @@ use Rattle.std.specs.Prelude.{FitsSigned}
 use Rattle.std.specs.Int.{w32}
 use Rattle.proto_ast.specs.declared.file.ValueDecl.{ValueDecl}
 use Rattle.mrpc_table.specs.Valid.{AreDistinct}
-use Rattle.schema_validation.specs.Types.{value_of}
+use Rattle.schema_validation.specs.Types.{signed_value}
 use Rattle.std.specs.Prelude.{ℤ}
 use Rattle.std.specs.Borrow.{Bor}
 use Rattle.std.proofs.lemmas.List.{get_or_default}
@@ -16,7 +16,7 @@ pub sorted-requires-clause-fits : goal.sorted-requires-clause-fits
 sorted-requires-clause-fits c =
     let F = c.args.files.now in
     let at = item_at c.enums.result.now F.enums c.args.place c.index-enums-place.result c.enums.ensures c.requires.within c.index-enums-place.is in
-    let P : List ValueDecl → Type 0 = λ vs. All (λ (v : ValueDecl). FitsSigned w32 (value_of v.number)) vs in
+    let P : List ValueDecl → Type 0 = λ vs. All (λ (v : ValueDecl). FitsSigned w32 (signed_value v.number)) vs in
     subst P (sym c.as_slice.ensures) (values_fit F c.args.place c.index-enums-place.result c.requires.clean at)
 
 pub sorted-requires-clause-distinct : goal.sorted-requires-clause-distinct

@@ -9,10 +9,10 @@ loop-i-preserved c =
     let l : c.loop-i.i < length fs = omega (arith, ap length c.as_slice-decls.ensures) in
     let at = item_at c.as_slice-decls.result.now fs c.loop-i.i c.index-decls-i.result c.as_slice-decls.ensures l c.index-decls-i.is in
     judged_more c.args.scopes.now c.args.message.now.file c.args.place c.loop-i.i fs c.index-decls-i.result c.loop-i.fields.items _
-    c.judge_field.result at c.judge_field.ensures c.in_ok-push.ensures.items c.loop-i.invariant
+    c.shape_field.result at c.shape_field.ensures c.in_ok-push.ensures.items c.loop-i.invariant
 
-pub judge_field-requires-clause-stands : goal.judge_field-requires-clause-stands
-judge_field-requires-clause-stands c =
+pub shape_field-requires-clause-stands : goal.shape_field-requires-clause-stands
+shape_field-requires-clause-stands c =
     let fs = c.args.message.now.fields in
     let l : c.loop-i.i < length fs = omega (arith, ap length c.as_slice-decls.ensures) in
     let at = item_at c.as_slice-decls.result.now fs c.loop-i.i c.index-decls-i.result c.as_slice-decls.ensures l c.index-decls-i.is in

@@ -2,20 +2,20 @@ use Rattle.std.proofs.Common.{◌≡◌, ◌∙◌, ◌<◌, ◌≤◌, refl, sy
 use Rattle.std.specs.Prelude.{slice_get, Some, Contains}
 use Rattle.std.proofs.lemmas.Option.{slice_get_read}
 use Rattle.std.proofs.lemmas.List.{get_or_default, take_all}
-use Rattle.proto_ast.specs.Order.{IsPlaceBelow}
+use Rattle.proto_ast.specs.Order.{IsIndexBelow}
 use Rattle.proto_ast.specs.declared.file.Word.{Word}
 use Rattle.proto_ast.specs.declared.file.MessageDecl.{MessageDecl}
-use Rattle.schema_resolve.specs.Judged.{IsJudged, AreJudged}
-use Rattle.schema_resolve.specs.Joining.{AreMade}
-use Rattle.schema_resolve.specs.declared.field_table.Judged.{Judged}
+use Rattle.schema_resolve.specs.ShapedFields.{IsShapedField, AreShapedFields}
+use Rattle.schema_resolve.specs.Joining.{AreFieldsMade}
+use Rattle.schema_resolve.specs.declared.field_table.ShapedField.{ShapedField}
 use Rattle.proto_ast.specs.Joined.{Joined}
-use Rattle.schema_resolve.specs.Resolving.{IsClean}
+use Rattle.schema_resolve.specs.Resolving.{HasNoViolation}
 use Rattle.schema_resolve.proofs.CleanFiles.{item_at, in_list}
 use Rattle.schema_resolve.proofs.MessageTables.{made_none, made_more, judged_plain, judged_known, judged_oneof, few_fields, message_at}
 use Rattle.schema_resolve.proofs.message_table.message_in.Goals as goal
 
 pub by_number-requires-clause-clean : goal.by_number-requires-clause-clean
-by_number-requires-clause-clean c = subst IsClean (sym c.requires.scopes) c.requires.clean
+by_number-requires-clause-clean c = subst HasNoViolation (sym c.requires.scopes) c.requires.clean
 
 pub by_number-requires-clause-here : goal.by_number-requires-clause-here
 by_number-requires-clause-here c =
@@ -29,12 +29,12 @@ pub loop-i-init : goal.loop-i-init
 loop-i-init c = made_none _ _ _ _ c.in_ok-oneofs.ensures.keeps c.in_ok-oneofs.ensures.none c.in_ok-fields.ensures
 
 -- the field that the loop reads
-pub record Read (F : Joined) (place : ℕ) (m : MessageDecl) (js : List Judged) (i : ℕ) (j : Judged) : Type 0 where
+pub record Read (F : Joined) (place : ℕ) (m : MessageDecl) (js : List ShapedField) (i : ℕ) (j : ShapedField) : Type 0 where
   pub at : slice_get js i ≡ Some j
-  pub is : IsJudged F m.file place j.decl.now j
+  pub is : IsShapedField F m.file place j.decl.now j
   pub inside : Contains m.fields j.decl.now
 
-read : (F : Joined) (place : ℕ) (m : MessageDecl) (js : List Judged) (i : ℕ) (j : Judged) → AreJudged F place m js
+read : (F : Joined) (place : ℕ) (m : MessageDecl) (js : List ShapedField) (i : ℕ) (j : ShapedField) → AreShapedFields F place m js
     → i < length js → j ≡ get_or js i j → Read F place m js i j
 read F place m js i j all l e =
     let at : slice_get js i ≡ Some j = slice_get_read js (length js) i j refl l e in
@@ -48,13 +48,13 @@ field_in-requires-clause-oneof c =
     let m = c.index-messages-place.result in
     let js = c.in_ok-sorted.sorted.items in
     let at = item_at c.messages.result.now F.messages place m c.messages.ensures c.requires.within c.index-messages-place.is in
-    let P : Joined → Type 0 = λ G. AreJudged G place m js in
-    let all : AreJudged F place m js = subst P c.requires.scopes c.in_ok-sorted.ensures in
+    let P : Joined → Type 0 = λ G. AreShapedFields G place m js in
+    let all : AreShapedFields F place m js = subst P c.requires.scopes c.in_ok-sorted.ensures in
     let j = c.index.result.now in
     let same : vec_len c.in_ok-sorted.sorted ≡ length js = search rules in
     let l : c.loop-i.i < length js = omega (arith, c.len-i-end.ensures) in
     let r = read F place m js c.loop-i.i j all l c.index.ensures in
-    let Q : List Word → Type 0 = λ ws. IsPlaceBelow (length ws) j.decl.now.oneof in
+    let Q : List Word → Type 0 = λ ws. IsIndexBelow (length ws) j.decl.now.oneof in
     subst Q (sym c.as_slice-words.ensures) (judged_oneof F place m j.decl.now c.requires.formed at r.inside)
 
 pub field_in-requires-clause-few : goal.field_in-requires-clause-few
@@ -64,8 +64,8 @@ field_in-requires-clause-few c =
     let m = c.index-messages-place.result in
     let js = c.in_ok-sorted.sorted.items in
     let at = item_at c.messages.result.now F.messages place m c.messages.ensures c.requires.within c.index-messages-place.is in
-    let P : Joined → Type 0 = λ G. AreJudged G place m js in
-    let all : AreJudged F place m js = subst P c.requires.scopes c.in_ok-sorted.ensures in
+    let P : Joined → Type 0 = λ G. AreShapedFields G place m js in
+    let all : AreShapedFields F place m js = subst P c.requires.scopes c.in_ok-sorted.ensures in
     let j = c.index.result.now in
     let same : vec_len c.in_ok-sorted.sorted ≡ length js = search rules in
     let l : c.loop-i.i < length js = omega (arith, c.len-i-end.ensures) in
@@ -79,8 +79,8 @@ field_in-requires-clause-known c =
     let m = c.index-messages-place.result in
     let js = c.in_ok-sorted.sorted.items in
     let at = item_at c.messages.result.now F.messages place m c.messages.ensures c.requires.within c.index-messages-place.is in
-    let P : Joined → Type 0 = λ G. AreJudged G place m js in
-    let all : AreJudged F place m js = subst P c.requires.scopes c.in_ok-sorted.ensures in
+    let P : Joined → Type 0 = λ G. AreShapedFields G place m js in
+    let all : AreShapedFields F place m js = subst P c.requires.scopes c.in_ok-sorted.ensures in
     let j = c.index.result.now in
     let same : vec_len c.in_ok-sorted.sorted ≡ length js = search rules in
     let l : c.loop-i.i < length js = omega (arith, c.len-i-end.ensures) in
@@ -94,8 +94,8 @@ loop-i-preserved c =
     let m = c.index-messages-place.result in
     let js = c.in_ok-sorted.sorted.items in
     let at = item_at c.messages.result.now F.messages place m c.messages.ensures c.requires.within c.index-messages-place.is in
-    let P : Joined → Type 0 = λ G. AreJudged G place m js in
-    let all : AreJudged F place m js = subst P c.requires.scopes c.in_ok-sorted.ensures in
+    let P : Joined → Type 0 = λ G. AreShapedFields G place m js in
+    let all : AreShapedFields F place m js = subst P c.requires.scopes c.in_ok-sorted.ensures in
     let j = c.index.result.now in
     let same : vec_len c.in_ok-sorted.sorted ≡ length js = search rules in
     let l : c.loop-i.i < length js = omega (arith, c.len-i-end.ensures) in
@@ -112,12 +112,12 @@ returns c =
     let m = c.index-messages-place.result in
     let js = c.in_ok-sorted.sorted.items in
     let at = item_at c.messages.result.now F.messages place m c.messages.ensures c.requires.within c.index-messages-place.is in
-    let P : Joined → Type 0 = λ G. AreJudged G place m js in
-    let all : AreJudged F place m js = subst P c.requires.scopes c.in_ok-sorted.ensures in
+    let P : Joined → Type 0 = λ G. AreShapedFields G place m js in
+    let all : AreShapedFields F place m js = subst P c.requires.scopes c.in_ok-sorted.ensures in
     let same : vec_len c.in_ok-sorted.sorted ≡ length js = search rules in
     let end : length js ≤ c.loop-i.i = omega (arith, c.len-i-end.ensures) in
-    let Q : List Word → Type 0 = λ ws. AreMade c.args.plan.now ws (take c.loop-i.i js) c.loop-i.oneofs c.loop-i.fields in
-    let R : List Judged → Type 0 = λ xs. AreMade c.args.plan.now m.oneofs xs c.loop-i.oneofs c.loop-i.fields in
+    let Q : List Word → Type 0 = λ ws. AreFieldsMade c.args.plan.now ws (take c.loop-i.i js) c.loop-i.oneofs c.loop-i.fields in
+    let R : List ShapedField → Type 0 = λ xs. AreFieldsMade c.args.plan.now m.oneofs xs c.loop-i.oneofs c.loop-i.fields in
     let names = c.args.plan.now.messages.names.items in
     let l : place < length names = omega (arith, c.requires.plan.all_messages, c.requires.within) in
     message_at F c.args.plan.now place m js c.loop-i.oneofs c.loop-i.fields c.in_ok-copied.field-0 c.requires.formed

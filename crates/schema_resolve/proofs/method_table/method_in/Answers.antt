@@ -34,6 +34,6 @@ returns c = λ T has.
     let l = service_file F s c.requires.formed c.requires.service in
     let within : s.file < length fronts = omega (arith, l, c.requires.fronts.count) in
     method_of F c.args.plan.now T s c.args.rpc.now _ c.requires.formed c.requires.clean c.requires.service c.requires.rpc
-    (c.in_ok-behind.ensures ∙ service_text F s c.index.result.now c.requires.formed
+    (c.in_ok-qualified_name.ensures ∙ service_text F s c.index.result.now c.requires.formed
     (c.index.ensures ∙ get_or_default fronts s.file c.index.result.now [] within ∙ c.requires.fronts.each s.file l))
     c.in_ok-name.ensures (c.message_place-input.ensures T has) (c.message_place-output.ensures T has)

@@ -2,7 +2,7 @@ use Rattle.std.proofs.Common.{◌<◌, sym, ap, subst, length, arith, ◌++◌}
 use Rattle.proto_ast.specs.Together.{IsOrdered}
 use Rattle.proto_ast.specs.Joined.{Joined}
 use Rattle.schema_validation.specs.Methods.{service_rpcs}
-use Rattle.schema_resolve.specs.Resolving.{IsClean}
+use Rattle.schema_resolve.specs.Resolving.{HasNoViolation}
 use Rattle.schema_resolve.specs.InOrder.{AreMethods}
 use Rattle.schema_resolve.proofs.CleanFiles.{item_at}
 use Rattle.schema_resolve.proofs.MethodTables.{no_methods, next_service}
@@ -12,7 +12,7 @@ pub loop-i-init : goal.loop-i-init
 loop-i-init c = no_methods _ _ _ c.new-methods.ensures
 
 pub add_methods-requires-clause-clean : goal.add_methods-requires-clause-clean
-add_methods-requires-clause-clean c = subst IsClean (sym c.requires.scopes) c.requires.clean
+add_methods-requires-clause-clean c = subst HasNoViolation (sym c.requires.scopes) c.requires.clean
 
 pub add_methods-requires-clause-ordered : goal.add_methods-requires-clause-ordered
 add_methods-requires-clause-ordered c = subst IsOrdered (sym c.requires.scopes) c.requires.ordered

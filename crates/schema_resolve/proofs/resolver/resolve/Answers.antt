@@ -1,9 +1,9 @@
 use Rattle.std.proofs.Common.{◌≡◌, ◌∙◌, sym, subst}
 use Rattle.proto_ast.specs.Joined.{Joined, alone}
 use Rattle.proto_ast.specs.Together.{IsFormed, IsOrdered}
-use Rattle.schema_validation.specs.Offences.{offends}
+use Rattle.schema_validation.specs.Violations.{offends}
 use Rattle.schema_resolve.specs.Tables.{IsTableOf}
-use Rattle.schema_resolve.specs.Resolving.{IsClean}
+use Rattle.schema_resolve.specs.Resolving.{HasNoViolation}
 use Rattle.schema_resolve.proofs.Answering.{stands_behind, is_alone}
 use Rattle.schema_resolve.proofs.resolver.resolve.Goals as goal
 
@@ -16,16 +16,16 @@ new-requires c =
     stands_behind c.new-files.result
     (subst IsFormed (sym same) c.requires.formed)
 
-pub first_offence-requires-clause-formed : goal.first_offence-requires-clause-formed
-first_offence-requires-clause-formed c =
+pub first_violation-requires-clause-formed : goal.first_violation-requires-clause-formed
+first_violation-requires-clause-formed c =
     let F = c.args.file.now in
     let same : c.new-files.result ≡ alone F =
     is_alone F c.new-files.result _ _ _ _ c.new-files.ensures (c.as_slice.ensures ∙ c.in_ok-heads.ensures)
     c.as_slice-2.ensures c.as_slice-3.ensures c.as_slice-4.ensures in
     subst IsFormed (sym same) c.requires.formed
 
-pub first_offence-requires-clause-ordered : goal.first_offence-requires-clause-ordered
-first_offence-requires-clause-ordered c =
+pub first_violation-requires-clause-ordered : goal.first_violation-requires-clause-ordered
+first_violation-requires-clause-ordered c =
     let F = c.args.file.now in
     let same : c.new-files.result ≡ alone F =
     is_alone F c.new-files.result _ _ _ _ c.new-files.ensures (c.as_slice.ensures ∙ c.in_ok-heads.ensures)
@@ -54,7 +54,7 @@ table_of-requires-clause-clean c =
     let same : c.new-files.result ≡ alone F =
     is_alone F c.new-files.result _ _ _ _ c.new-files.ensures (c.as_slice.ensures ∙ c.in_ok-heads.ensures)
     c.as_slice-2.ensures c.as_slice-3.ensures c.as_slice-4.ensures in
-    subst IsClean (sym same) (λ q s o. c.in-None.ensures q s (offends o))
+    subst HasNoViolation (sym same) (λ q s o. c.in-None.ensures q s (offends o))
 
 pub returns-in-Some-clause-only : goal.returns-in-Some-clause-only
 returns-in-Some-clause-only c = λ t r.
@@ -68,5 +68,5 @@ returns-clause-only c = λ t r.
     c.as_slice-2.ensures c.as_slice-3.ensures c.as_slice-4.ensures in
     let u = c.in_ok-table_of-in-None.field-0 in
     let P : Joined → Type 0 = λ J. IsTableOf J u in
-    c.one_table.ensures (alone F) u t c.requires.ordered
+    c.resolved_table_is_unique.ensures (alone F) u t c.requires.ordered
     (subst P same c.in_ok-table_of-in-None.ensures) r.table

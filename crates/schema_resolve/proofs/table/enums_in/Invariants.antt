@@ -1,7 +1,7 @@
 use Rattle.std.proofs.Common.{take}
-use Rattle.schema_validation.specs.Those.{AreThoseInOrder}
+use Rattle.schema_validation.specs.Correspondence.{AreCorrespondingInOrder}
 use Rattle.schema_resolve.specs.InOrder.{IsEnumAt}
 use Rattle.schema_resolve.proofs.table.enums_in.Given as goal
 
 abbrev pub invariant-loop-i : goal.invariant-loop-i
-invariant-loop-i l = AreThoseInOrder (IsEnumAt l.files l.plan) (take l.i l.order) l.enums
+invariant-loop-i l = AreCorrespondingInOrder (IsEnumAt l.files l.plan) (take l.i l.order) l.enums

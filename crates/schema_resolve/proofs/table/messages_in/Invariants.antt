@@ -1,7 +1,7 @@
 use Rattle.std.proofs.Common.{take}
-use Rattle.schema_validation.specs.Those.{AreThoseInOrder}
+use Rattle.schema_validation.specs.Correspondence.{AreCorrespondingInOrder}
 use Rattle.schema_resolve.specs.Joining.{IsMessageAt}
 use Rattle.schema_resolve.proofs.table.messages_in.Given as goal
 
 abbrev pub invariant-loop-i : goal.invariant-loop-i
-invariant-loop-i l = AreThoseInOrder (IsMessageAt l.files l.plan) (take l.i l.order) l.messages
+invariant-loop-i l = AreCorrespondingInOrder (IsMessageAt l.files l.plan) (take l.i l.order) l.messages

@@ -1,7 +1,7 @@
 use Rattle.std.proofs.Common.{◌≡◌, ◌≢◌, true, false, rules, subst, sym, ◌∙◌}
 use Rattle.std.specs.Prelude.{ℤ, pos, IfSome, FitsSigned}
 use Rattle.std.specs.Int.{w32}
-use Rattle.schema_validation.specs.Types.{value_of}
+use Rattle.schema_validation.specs.Types.{signed_value}
 use Rattle.schema_validation.specs.Members.{Is}
 use Rattle.schema_validation.specs.declared.reason.ResolveReason.TheVariants.{NumberRange, Reserved, FirstEnum}
 use Rattle.schema_validation.proofs.Meetings.{meets_then, meets_where, meets_when, meets_as}
@@ -13,18 +13,18 @@ use Rattle.schema_validation.proofs.enums.note_number.Goals.{then-is_first, else
 pub returns : goal.returns
 returns c =
     let number = c.args.number.now in
-    let v = value_of number in
+    let v = signed_value number in
     let holds = c.if-is_first.note_if in
     let fits : IfSome c.enum_number.result (λ n. FitsSigned w32 n) = search rules in
     let to : holds ≡ true → (c.args.is_first ≡ true) × (v ≢ pos 0) = λ t. elim c.if-is_first.branch [
-      | then-is_first w ↦ (w.if-is_first.true, zero_to w.place_of.result v w.place_of.ensures.is (sym w.note_if-is ∙ t))
+      | then-is_first w ↦ (w.if-is_first.true, zero_to w.number_position.result v w.number_position.ensures.is (sym w.note_if-is ∙ t))
       | else-is_first w ↦
           let f : c.args.is_first ≡ false = w.if-is_first.false in
           let e = w.note_if-is in
           absurd cc
     ] in
     let from : (c.args.is_first ≡ true) × (v ≢ pos 0) → holds ≡ true = λ p. elim c.if-is_first.branch [
-      | then-is_first w ↦ w.note_if-is ∙ zero_from w.place_of.result v w.place_of.ensures.is p.1
+      | then-is_first w ↦ w.note_if-is ∙ zero_from w.number_position.result v w.number_position.ensures.is p.1
       | else-is_first w ↦
           let f : c.args.is_first ≡ false = w.if-is_first.false in
           let t : c.args.is_first ≡ true = p.0 in

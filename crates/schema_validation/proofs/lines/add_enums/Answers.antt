@@ -1,9 +1,9 @@
 use Rattle.std.proofs.Common.{◌≡◌, ◌∙◌, ◌+◌, ◌<◌, ◌≤◌, ℕ, length, get_or, refl, sym, ap, subst, arith}
 use Rattle.std.specs.Prelude.{Some, slice_get}
 use Rattle.proto_ast.specs.Together.{enum_decl}
-use Rattle.proto_ast.specs.Joined.{enum_home_of}
+use Rattle.proto_ast.specs.Joined.{enclosing_of_enum}
 use Rattle.mrpc_table.specs.Capped.{capped}
-use Rattle.schema_validation.specs.Lengths.{Covers}
+use Rattle.schema_validation.specs.Lengths.{HasLinesBefore}
 use Rattle.schema_validation.proofs.Meetings.{item_at}
 use Rattle.std.proofs.lemmas.Grind.{get_or_default_zero}
 use Rattle.schema_validation.proofs.Formed.{stand_behind, enum_place}
@@ -21,7 +21,7 @@ add_values-requires-clause-choices c =
     let at : slice_get F.enums i ≡ Some e =
     item_at c.enums-all.result.now F.enums i e c.enums-all.ensures l c.index-all-i.is in
     let behind = stand_behind F c.requires.formed in
-    let outer = c.one_scope.ensures.exists F (enum_home_of e) behind (enum_place F behind i e at) in
+    let outer = c.scope_is_determined.ensures.exists F (enclosing_of_enum e) behind (enum_place F behind i e at) in
     let read : c.index.result.now ≡ get_or kept.enums.items i 0 =
     c.index.ensures
     ∙ get_or_default_zero kept.enums.items i c.index.result.now (omega (arith, c.requires.lengths.all_enums)) in
@@ -29,7 +29,7 @@ add_values-requires-clause-choices c =
     (c.saturating_add-length.ensures ∙ ap (λ (n : ℕ). capped (n + 6)) read) in
     let more = covers_add F 1 i 0 c.loop-i.lines.items c.requires.ordered (enum_decl i) e.name.span
     (Some c.saturating_add-length.result) (own_enum i) refl refl refl line c.loop-i.invariant in
-    subst (Covers F 1 i 1) (sym c.in_ok-add.ensures) more
+    subst (HasLinesBefore F 1 i 1) (sym c.in_ok-add.ensures) more
 
 pub returns : goal.returns
 returns c =

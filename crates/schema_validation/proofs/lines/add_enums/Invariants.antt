@@ -1,5 +1,5 @@
-use Rattle.schema_validation.specs.Lengths.{Covers}
+use Rattle.schema_validation.specs.Lengths.{HasLinesBefore}
 use Rattle.schema_validation.proofs.lines.add_enums.Given as goal
 
 abbrev pub invariant-loop-i : goal.invariant-loop-i
-invariant-loop-i l = Covers l.fn.files 1 l.i 0 l.lines.items
+invariant-loop-i l = HasLinesBefore l.fn.files 1 l.i 0 l.lines.items

@@ -2,7 +2,7 @@ use Rattle.std.proofs.Common.{◌≡◌, ◌+◌, ◌<◌, ◌≤◌, length, re
 use Rattle.std.specs.Prelude.{Some, slice_get}
 use Rattle.proto_ast.specs.Together.{field_decl}
 use Rattle.proto_ast.specs.Joined.{Joined}
-use Rattle.schema_validation.specs.Lengths.{Covers, IsLengthAt}
+use Rattle.schema_validation.specs.Lengths.{HasLinesBefore, IsLengthAt}
 use Rattle.schema_validation.proofs.Formed.{message_file}
 use Rattle.schema_validation.proofs.Meetings.{item_at}
 use Rattle.schema_validation.proofs.LinesAdded.{own_field, covers_add, covers_row, no_field}
@@ -22,7 +22,7 @@ loop-j-preserved c =
     c.requires.scopes (c.field_length-length.ensures j fat) in
     let more = covers_add F 0 c.args.i (j + 1) c.loop-j.lines.items c.requires.ordered (field_decl c.args.i j)
     f.name.span c.field_length-length.result (own_field c.args.i j) refl refl (omega arith) is c.loop-j.invariant in
-    subst (Covers F 0 c.args.i (j + 1 + 1)) (sym c.in_ok-add.ensures) more
+    subst (HasLinesBefore F 0 c.args.i (j + 1 + 1)) (sym c.in_ok-add.ensures) more
 
 pub returns : goal.returns
 returns c =

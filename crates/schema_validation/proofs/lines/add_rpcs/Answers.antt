@@ -2,7 +2,7 @@ use Rattle.std.proofs.Common.{◌≡◌, ◌∙◌, ◌+◌, ◌<◌, ◌≤◌,
 use Rattle.std.specs.Prelude.{Some, slice_get}
 use Rattle.proto_ast.specs.Together.{rpc_decl}
 use Rattle.proto_ast.specs.Joined.{Joined}
-use Rattle.schema_validation.specs.Lengths.{Covers, IsLengthAt, rpcs_before}
+use Rattle.schema_validation.specs.Lengths.{HasLinesBefore, IsLengthAt, rpcs_before}
 use Rattle.schema_validation.proofs.Formed.{service_file}
 use Rattle.schema_validation.proofs.Meetings.{item_at}
 use Rattle.schema_validation.proofs.LinesAdded.{own_rpc, covers_add, covers_row, no_rpc}
@@ -28,7 +28,7 @@ loop-j-preserved c =
     (c.requires.before ∙ ap (λ (G : Joined). rpcs_before G c.args.i) (sym c.requires.scopes)))) in
     let more = covers_add F 2 c.args.i j c.loop-j.lines.items c.requires.ordered (rpc_decl c.args.i j) r.name.span
     c.method_length-length.result (own_rpc c.args.i j) refl refl refl is c.loop-j.invariant in
-    subst (Covers F 2 c.args.i (j + 1)) (sym c.in_ok-add.ensures) more
+    subst (HasLinesBefore F 2 c.args.i (j + 1)) (sym c.in_ok-add.ensures) more
 
 pub returns : goal.returns
 returns c =

@@ -1,7 +1,7 @@
 use Rattle.std.proofs.Common.{◌≡◌, ◌+◌, ◌<◌, ◌≤◌, length, refl, sym, ap, subst, arith}
 use Rattle.std.specs.Prelude.{Some, slice_get}
 use Rattle.proto_ast.specs.Together.{value_decl}
-use Rattle.schema_validation.specs.Lengths.{Covers}
+use Rattle.schema_validation.specs.Lengths.{HasLinesBefore}
 use Rattle.schema_validation.proofs.Meetings.{item_at}
 use Rattle.schema_validation.proofs.LineLengths.{value_at}
 use Rattle.schema_validation.proofs.LinesAdded.{own_value, covers_add, covers_row, no_value}
@@ -22,7 +22,7 @@ loop-j-preserved c =
     c.index-values-j.result.name.span c.value_length-length.result (own_value c.args.i j) refl refl (omega arith)
     (value_at F c.args.i j e c.index-values-j.result c.value_length-length.result at vat c.value_length-length.ensures)
     c.loop-j.invariant in
-    subst (Covers F 1 c.args.i (j + 1 + 1)) (sym c.in_ok-add.ensures) more
+    subst (HasLinesBefore F 1 c.args.i (j + 1 + 1)) (sym c.in_ok-add.ensures) more
 
 pub returns : goal.returns
 returns c =

@@ -1,7 +1,7 @@
 use Rattle.std.proofs.Common.{ℕ, rules, subst, List}
 use Rattle.std.proofs.lemmas.List.Sorted.{IsNonDecreasingBy-from_sort_by_key}
 use Rattle.proto_ast.specs.declared.file.Span.{Span}
-use Rattle.schema_validation.specs.Meeting.{Meets, AtSome, OfElement, PassesIn}
+use Rattle.schema_validation.specs.Recording.{HasRecorded, IsOfAny, IsOfElement, IsLongTextViolation}
 use Rattle.schema_validation.specs.Lengths.{IsPast}
 use Rattle.schema_validation.proofs.Meetings.{meets_as}
 use Rattle.schema_validation.proofs.Formed.{start_apart}
@@ -16,10 +16,10 @@ returns c =
     let ys = c.sort_by_key.new.self.items in
     let up = IsNonDecreasingBy-from_sort_by_key (λ x. x.0.start) _ c.in_ok-sort_by_key.ensures.sorted
     (λ a r q k. search rules) in
-    let one = line_one F (start_apart F c.requires.ordered) c.one_scope.ensures.one c.one_name.ensures in
-    let met : Meets (AtSome (OfElement ys (IsPast ys))) c.args.first.now c.note_lines.new.first =
-    subst (λ (zs : List (Span × ℕ)). Meets (AtSome (OfElement zs (IsPast zs))) c.args.first.now c.note_lines.new.first)
+    let one = line_one F (start_apart F c.requires.ordered) c.scope_is_determined.ensures.one c.reference_is_unique.ensures in
+    let met : HasRecorded (IsOfAny (IsOfElement ys (IsPast ys))) c.args.first.now c.note_lines.new.first =
+    subst (λ (zs : List (Span × ℕ)). HasRecorded (IsOfAny (IsOfElement zs (IsPast zs))) c.args.first.now c.note_lines.new.first)
     c.deref.ensures.value c.note_lines.ensures in
-    meets_as (AtSome (OfElement ys (IsPast ys))) (PassesIn F) c.args.first.now c.note_lines.new.first met
+    meets_as (IsOfAny (IsOfElement ys (IsPast ys))) (IsLongTextViolation F) c.args.first.now c.note_lines.new.first met
     (text_to F xs ys c.in_ok-add_methods.ensures c.in_ok-sort_by_key.ensures.permutation up one)
     (text_from F xs ys c.in_ok-add_methods.ensures c.in_ok-sort_by_key.ensures.permutation up one)

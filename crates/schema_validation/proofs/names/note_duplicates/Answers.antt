@@ -1,7 +1,7 @@
 use Rattle.std.proofs.Common.{◌⊎◌, ap, subst}
-use Rattle.proto_ast.specs.Joined.{home_of, enum_home_of}
-use Rattle.schema_validation.specs.Entries.{entries_of, IsLater, IsPackageNamed}
-use Rattle.schema_validation.specs.Meeting.{Meets, AtSome, OfElement}
+use Rattle.proto_ast.specs.Joined.{enclosing_of, enclosing_of_enum}
+use Rattle.schema_validation.specs.Entries.{entries_of, IsRedeclared, IsPackageNamed}
+use Rattle.schema_validation.specs.Recording.{HasRecorded, IsOfAny, IsOfElement}
 use Rattle.schema_validation.proofs.Formed.{stand_behind}
 use Rattle.schema_validation.proofs.Meetings.{meets_then}
 use Rattle.schema_validation.proofs.Duplicates.{Laws, Numbered, keeps, meets_twice}
@@ -17,10 +17,10 @@ pub returns : goal.returns
 returns c =
     let F = c.args.files.now in
     let laws : Laws F = record {
-      scope = c.one_number.ensures.scope F;
-      number = c.one_number.ensures.number F;
-      small = c.one_number.ensures.small F;
-      place = c.one_scope.ensures.one F;
+      scope = c.scope_number_is_unique.ensures.scope F;
+      number = c.scope_number_is_unique.ensures.number F;
+      small = c.scope_number_is_unique.ensures.small F;
+      place = c.scope_is_determined.ensures.one F;
     } in
     let numbered : Numbered F = record {
       of_messages = c.in_ok-add_messages.ensures.outer;
@@ -32,11 +32,11 @@ returns c =
     let kept =
     keeps F _ _ _ all (ap entries_of c.new-names.ensures.items)
     c.in_ok-add_messages.ensures.names c.in_ok-add_enums.ensures.names c.in_ok-add_services.ensures.names in
-    let later = AtSome (OfElement all (IsLater all)) in
-    let ms = AtSome (OfElement F.messages (λ i m. IsPackageNamed F (home_of m) m.name)) in
-    let es = AtSome (OfElement F.enums (λ i e. IsPackageNamed F (enum_home_of e) e.name)) in
-    let met : Meets later c.args.first.now c.note_later.new.first =
-    subst (λ ds. Meets (AtSome (OfElement (entries_of ds) (IsLater (entries_of ds))))
+    let later = IsOfAny (IsOfElement all (IsRedeclared all)) in
+    let ms = IsOfAny (IsOfElement F.messages (λ i m. IsPackageNamed F (enclosing_of m) m.name)) in
+    let es = IsOfAny (IsOfElement F.enums (λ i e. IsPackageNamed F (enclosing_of_enum e) e.name)) in
+    let met : HasRecorded later c.args.first.now c.note_later.new.first =
+    subst (λ ds. HasRecorded (IsOfAny (IsOfElement (entries_of ds) (IsRedeclared (entries_of ds))))
     c.args.first.now c.note_later.new.first)
     c.deref-2.ensures.value c.note_later.ensures in
     let one = meets_then later ms c.args.first.now c.note_later.new.first c.note_message_packages.new.first met

@@ -6,8 +6,8 @@ use Rattle.proto_ast.specs.Together.{IsOrdered}
 use Rattle.proto_ast.specs.declared.file.ServiceDecl.{ServiceDecl}
 use Rattle.proto_ast.specs.Joined.{Joined, package_at}
 use Rattle.schema_validation.specs.Methods.{service_rpcs, rpcs_of}
-use Rattle.schema_validation.specs.Members.{MethodOffends}
-use Rattle.schema_validation.specs.Meeting.{Meets, OfFirst, OfElement, MethodIn}
+use Rattle.schema_validation.specs.Members.{IsMethodViolation}
+use Rattle.schema_validation.specs.Recording.{HasRecorded, IsOfFirst, IsOfElement, IsMethodViolationAt}
 use Rattle.schema_validation.proofs.Formed.{service_file}
 use Rattle.schema_validation.proofs.Meetings.{meets_start, meets_next, meets_elements, item_at}
 use Rattle.schema_validation.proofs.Serving.{methods_of, methods_more, rpc_at, meets_counted}
@@ -30,7 +30,7 @@ loop-service-preserved c =
     let more : methods_of services (i + 1) ≡ n + length x.rpcs = methods_more services i x at in
     let same : n + c.loop-rpc.rpc-index ≡ methods_of services (i + 1) = omega arith in
     record {
-      meets = subst (λ (k : ℕ). Meets (OfFirst k (OfElement (rpcs_of c.args.files.now) (MethodIn c.args.files.now)))
+      meets = subst (λ (k : ℕ). HasRecorded (IsOfFirst k (IsOfElement (rpcs_of c.args.files.now) (IsMethodViolationAt c.args.files.now)))
           c.args.first.now
           c.loop-rpc.first) same c.loop-rpc.invariant.meets;
       count = c.loop-rpc.invariant.count ∙ ap (λ (k : ℕ). min k (2 ^ 64 - 1)) same;
@@ -41,7 +41,7 @@ loop-rpc-init c =
     let n : ℕ = methods_of c.args.files.now.services c.loop-service.service-index in
     let same : n ≡ n + 0 = omega arith in
     record {
-      meets = subst (λ (k : ℕ). Meets (OfFirst k (OfElement (rpcs_of c.args.files.now) (MethodIn c.args.files.now)))
+      meets = subst (λ (k : ℕ). HasRecorded (IsOfFirst k (IsOfElement (rpcs_of c.args.files.now) (IsMethodViolationAt c.args.files.now)))
           c.args.first.now
           c.loop-service.first) same c.loop-service.invariant.meets;
       count = c.loop-service.invariant.count ∙ ap (λ (k : ℕ). min k (2 ^ 64 - 1)) same;
@@ -63,13 +63,13 @@ loop-rpc-preserved c =
     item_at c.as_slice-rpc-items.result.now x.rpcs j r c.as_slice-rpc-items.ensures k c.rpc-item.is in
     let n : ℕ = methods_of services i + j in
     let next : methods_of services i + (j + 1) ≡ n + 1 = omega arith in
-    let step : Meets (MethodOffends F x.file (package_at F x.file) c.loop-rpc.methods r) c.loop-rpc.first
+    let step : HasRecorded (IsMethodViolation F x.file (package_at F x.file) c.loop-rpc.methods r) c.loop-rpc.first
     c.note_method.new.first =
-    subst (λ (G : Joined). Meets (MethodOffends G x.file (package_at G x.file) c.loop-rpc.methods r) c.loop-rpc.first
+    subst (λ (G : Joined). HasRecorded (IsMethodViolation G x.file (package_at G x.file) c.loop-rpc.methods r) c.loop-rpc.first
     c.note_method.new.first)
     c.requires.scopes c.note_method.ensures in
-    let more : Meets (OfFirst (n + 1) (OfElement (rpcs_of F) (MethodIn F))) c.args.first.now c.note_method.new.first =
-    meets_next (rpcs_of F) (MethodIn F) n (x, r) c.args.first.now c.loop-rpc.first c.note_method.new.first
+    let more : HasRecorded (IsOfFirst (n + 1) (IsOfElement (rpcs_of F) (IsMethodViolationAt F))) c.args.first.now c.note_method.new.first =
+    meets_next (rpcs_of F) (IsMethodViolationAt F) n (x, r) c.args.first.now c.loop-rpc.first c.note_method.new.first
     (rpc_at services i j x r at rat) c.loop-rpc.invariant.meets
     (meets_counted F x.file (package_at F x.file) c.loop-rpc.methods n r c.loop-rpc.first c.note_method.new.first
     c.loop-rpc.invariant.count step) in
@@ -78,7 +78,7 @@ loop-rpc-preserved c =
     c.saturating_add-methods.ensures in
     let counted : c.saturating_add-methods.result ≡ min (n + 1) (2 ^ 64 - 1) = omega arith in
     record {
-      meets = subst (λ (k : ℕ). Meets (OfFirst k (OfElement (rpcs_of F) (MethodIn F))) c.args.first.now
+      meets = subst (λ (k : ℕ). HasRecorded (IsOfFirst k (IsOfElement (rpcs_of F) (IsMethodViolationAt F))) c.args.first.now
           c.note_method.new.first)
           (sym next) more;
       count = counted ∙ ap (λ (k : ℕ). min k (2 ^ 64 - 1)) (sym next);
@@ -107,5 +107,5 @@ returns c =
     omega (arith, ap length c.services-service-items.ensures, c.loop-service-test.false) in
     let all : methods_of F.services i ≡ length (rpcs_of F) =
     ap (λ (xs : List ServiceDecl). length (flat_map service_rpcs xs)) (take_all i F.services l) in
-    meets_elements (rpcs_of F) (MethodIn F) (methods_of F.services i) c.args.first.now c.loop-service.first all
+    meets_elements (rpcs_of F) (IsMethodViolationAt F) (methods_of F.services i) c.args.first.now c.loop-service.first all
     c.loop-service.invariant.meets

@@ -1,6 +1,6 @@
 use Rattle.std.proofs.Common.{◌≡◌, ◌<◌, length, get_or, ap, arith}
 use Rattle.std.specs.Prelude.{Some, slice_get}
-use Rattle.schema_validation.specs.Meeting.{IsLongService}
+use Rattle.schema_validation.specs.Recording.{IsLongService}
 use Rattle.schema_validation.proofs.Meetings.{meets_start, meets_next, meets_elements, got_at}
 use Rattle.schema_validation.proofs.services.note_services.Goals as goal
 

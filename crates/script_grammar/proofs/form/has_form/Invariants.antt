@@ -2,7 +2,7 @@
 use Rattle.std.proofs.Common.{◌≡◌, drop}
 use Rattle.mrpc_table.specs.Lines.{words_of}
 use Rattle.script_grammar.specs.Lines.{has_form}
-use Rattle.script_grammar.specs.Rests.{words_in}
+use Rattle.script_grammar.specs.Remainders.{words_in}
 use Rattle.script_grammar.proofs.form.has_form.Given as goal
 
 abbrev pub invariant-loop-sort : goal.invariant-loop-sort

@@ -1,6 +1,6 @@
 use Rattle.std.proofs.Common.{◌≡◌, ◌<◌, ◌∙◌, ℕ, All, List, [], Some, ap, length, map, subst, sym}
 use Rattle.std.specs.List.{AllZip}
-use Rattle.tenant_quota.specs.Drawing.{AreLater, Drawing, drawn_by, quotas_of, shares_of}
+use Rattle.tenant_quota.specs.Drawing.{AreLater, Drawing, tickets_of_tenant, quotas_of, shares_of}
 use Rattle.service.specs.Concluding.{WasServedAt}
 use Rattle.service.specs.Served.{all_tickets}
 use Rattle.service.proofs.Told.{drawn-none, each-told, have-seats, later-quotas, later-seats, once-told, seats-of-all, split-quotas, tickets-of-all, tickets_met, were-served}
@@ -9,7 +9,7 @@ use Rattle.service.proofs.concluding.conclude.Goals as goal
 pub join_all-requires : goal.join_all-requires
 join_all-requires g c =
     let run = c.requires.run.1 in
-    let law = c.seats_come_together.ensures in
+    let law = c.join_undoes_split.ensures in
     let owns : List (List Drawing) = map (λ o. o.begun.seats) run.openings in
     let split = split-quotas law.kept_quotas law.new_quotas run.whole owns c.args.seats run.split in
     let others = seats-of-all g.C.Clock g.L.Link c.args.common.now.plan.now c.args.common.now.clock.now
@@ -43,15 +43,15 @@ returns-clause-tickets g c = λ tenant window less within few.
     let zip = later-seats g.C.Clock g.L.Link plan clock run.openings met run.served in
     let joined = c.join_all.ensures.joined in
     once-told c.join_all.new.seats tenant window told _ c.tickets_are_distinct.ensures
-    (c.seats_come_together.ensures.all_shares run.whole c.join_all.new.seats
+    (c.join_undoes_split.ensures.all_shares run.whole c.join_all.new.seats
     (ap shares_of joined
     ∙ c.seats_join_again.ensures.shares run.whole c.args.seats _ c.outcomes.new.others.items run.split
     (subst (λ xs. AllZip AreLater (map (λ o. o.begun.seats) run.openings) xs) (sym others) zip))
     run.shares)
-    (ap (λ seats. drawn_by seats tenant window) joined
+    (ap (λ seats. tickets_of_tenant seats tenant window) joined
     ∙ c.seats_join_again.ensures.drawn tenant window c.args.seats [] c.outcomes.new.others.items told
     (drawn-none c.args.seats tenant window here run.not_drawn)
-    (subst (λ xs. AllZip (λ own tickets. drawn_by own tenant window ≡ Some tickets) xs told) (sym others) each))
+    (subst (λ xs. AllZip (λ own tickets. tickets_of_tenant own tenant window ≡ Some tickets) xs told) (sym others) each))
     (ap (λ conns. all_tickets tenant window conns) c.in_ok-conns.ensures.conns
     ∙ tickets-of-all g.C.Clock g.L.Link plan clock tenant window c.requires.run.0 c.args.standings.items met
     run.openings run.standing run.served)

@@ -1,8 +1,8 @@
 use Rattle.std.proofs.Common.{◌≡◌, List, [], ◌∷◌, ◌++◌, ◌+◌, ◌∙◌, ap, append_assoc, append-nil, arith, length, map, sym}
 use Rattle.std.specs.Vec.Iter.{into_iter_items, into_iter_len}
 use Rattle.tenant_quota.specs.Drawing.{Drawing}
-use Rattle.service_threads.specs.declared.meeting.Met.{Met}
-use Rattle.service.specs.Concluding.{left_of, outcomes_of}
+use Rattle.service_threads.specs.declared.reconciling.ReconciledConnection.{ReconciledConnection}
+use Rattle.service.specs.Concluding.{unmatched_of, outcomes_of}
 use Rattle.service.proofs.Ending.{at-end, empty-list}
 use Rattle.service.proofs.concluding.outcomes.Goals as goal
 
@@ -12,11 +12,11 @@ loop-one-init g c = (
       c.in_ok-conns.ensures.items
       ∙ ap (λ xs. outcomes_of xs (into_iter_items c.into_iter-met.result)) c.into_iter-rest.ensures.rest
       ∙ ap (λ xs. outcomes_of c.args.standings.items xs) c.into_iter-met.ensures.rest),
-  sym (ap (λ xs. left_of xs (into_iter_items c.into_iter-met.result)) c.into_iter-rest.ensures.rest
-      ∙ ap (λ xs. left_of c.args.standings.items xs) c.into_iter-met.ensures.rest),
-  ap (λ (xs : List (List Drawing)). xs ++ map (λ (m : Met g.row.L.Denot). m.seats)
+  sym (ap (λ xs. unmatched_of xs (into_iter_items c.into_iter-met.result)) c.into_iter-rest.ensures.rest
+      ∙ ap (λ xs. unmatched_of c.args.standings.items xs) c.into_iter-met.ensures.rest),
+  ap (λ (xs : List (List Drawing)). xs ++ map (λ (m : ReconciledConnection g.row.L.Denot). m.seats)
       (into_iter_items c.into_iter-met.result)) c.requires
-      ∙ ap (λ xs. map (λ (m : Met g.row.L.Denot). m.seats) xs) c.into_iter-met.ensures.rest,
+      ∙ ap (λ xs. map (λ (m : ReconciledConnection g.row.L.Denot). m.seats) xs) c.into_iter-met.ensures.rest,
 )
 
 pub loop-one-smaller : goal.loop-one-smaller
@@ -35,7 +35,7 @@ loop-one-preserved g c =
           ∙ sym (append_assoc c.loop-one.conns.items (c.in_ok-conn.conn ∷ []) (outcomes_of rest met))
           ∙ ap (λ xs. xs ++ outcomes_of rest met) (sym c.in_ok-push.ensures.items),
       c.loop-one.invariant.1
-          ∙ ap (λ xs. left_of xs (into_iter_items c.loop-one.met)) c.in-Some.ensures.items
+          ∙ ap (λ xs. unmatched_of xs (into_iter_items c.loop-one.met)) c.in-Some.ensures.items
           ∙ c.in_ok-conn.ensures.left rest,
       c.in_ok-conn.ensures.seats ∙ c.loop-one.invariant.2,
     )
@@ -52,7 +52,7 @@ returns g c =
     let met = into_iter_items c.loop-one.met in record {
       conns = sym (c.loop-one.invariant.0 ∙ ap (λ xs. c.loop-one.conns.items ++ outcomes_of xs met) none
           ∙ append-nil c.loop-one.conns.items);
-      seats = ap (λ xs. c.loop-one.others.items ++ map (λ (m : Met g.row.L.Denot). m.seats) xs)
-          (c.loop-one.invariant.1 ∙ ap (λ xs. left_of xs met) none)
+      seats = ap (λ xs. c.loop-one.others.items ++ map (λ (m : ReconciledConnection g.row.L.Denot). m.seats) xs)
+          (c.loop-one.invariant.1 ∙ ap (λ xs. unmatched_of xs met) none)
           ∙ c.loop-one.invariant.2;
     }

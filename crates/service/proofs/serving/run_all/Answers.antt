@@ -1,5 +1,5 @@
 use Rattle.std.proofs.Common.{arith}
-use Rattle.service.specs.Greeted.{WasGreeted}
+use Rattle.service.specs.Handshakes.{IsHandshakeEnd}
 use Rattle.service.proofs.Zips.{zip-length}
 use Rattle.service.proofs.serving.run_all.Goals as goal
 
@@ -13,7 +13,7 @@ pub run_wired-requires-clause-few_items : goal.run_wired-requires-clause-few_ite
 run_wired-requires-clause-few_items g c κs within =
     let w = c.requires.greeted in
     let all = c.in_ok-standings.ensures w.0 w.1 w.2 in
-    let long = zip-length (WasGreeted g.L.Link c.args.common.now.plan.now) w.0 c.args.greeted.items w.1 in
+    let long = zip-length (IsHandshakeEnd g.L.Link c.args.common.now.plan.now) w.0 c.args.greeted.items w.1 in
     omega (arith, all.begun.few, long, c.requires.few)
 
 pub conclude-requires-clause-run : goal.conclude-requires-clause-run

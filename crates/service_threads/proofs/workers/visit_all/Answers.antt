@@ -1,4 +1,4 @@
-use Rattle.service_wiring.specs.Turning.{HasTurned}
+use Rattle.service_wiring.specs.Pooling.{IsLaterEndpoint}
 use Rattle.worker_pool.specs.Later.{IsLater}
 use Rattle.service_threads.proofs.Zips.{zip-map}
 use mir.Syntax.{named}
@@ -14,9 +14,9 @@ run-requires-send-T g c κs within = param_send 1 _ (arg_send _ no _
     c.type_bounds.sync-O))
 
 pub returns-clause-turned : goal.returns-clause-turned
-returns-clause-turned g c = zip-map (IsLater (HasTurned g.C.Clock g.Q.Tickets g.L.Link))
-    (HasTurned g.C.Clock g.Q.Tickets g.L.Link) c.args.items.items c.in_ok-ran.ran.items.items
-    (λ item last later. later item (c.connections_go_on.ensures.itself item)) c.in_ok-ran.ensures.each
+returns-clause-turned g c = zip-map (IsLater (IsLaterEndpoint g.C.Clock g.Q.Tickets g.L.Link))
+    (IsLaterEndpoint g.C.Clock g.Q.Tickets g.L.Link) c.args.items.items c.in_ok-ran.ran.items.items
+    (λ item last later. later item (c.since_is_transitive.ensures.itself item)) c.in_ok-ran.ensures.each
 
 pub returns-clause-done : goal.returns-clause-done
 returns-clause-done g c = c.in_ok-ran.ensures.over c.if-ran.false

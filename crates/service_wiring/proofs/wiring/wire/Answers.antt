@@ -8,19 +8,19 @@ use Rattle.shared_heap.specs.Fresh.{HeapId, Reading}
 use Rattle.descriptor_ring.specs.Rings.{NumberReceiving, Receiving, RingId}
 use Rattle.descriptor_ring.specs.declared.limits.TheConstants.{MAX_CAPACITY}
 use Rattle.tenant_quota.specs.Drawing.{Drawing}
-use Rattle.link_queue.specs.Queueing.{Queueing}
+use Rattle.link_queue.specs.Queueing.{QueueLinkState}
 use Rattle.conn_core.specs.Connections.{Connection}
-use Rattle.message_delivery.specs.Arriving.{AreSame}
-use Rattle.message_delivery.specs.Telling.{number_ring_of, ring_of}
+use Rattle.message_delivery.specs.Arriving.{HaveSameIdentity}
+use Rattle.message_delivery.specs.Noticing.{number_ring_of, ring_of}
 use Rattle.message_delivery.specs.declared.arrivals.Arrivals.{Arrivals}
 use Rattle.run_plan.specs.Plans.{HasProgram}
 use Rattle.service_loop.specs.Delivering.{HaveDelivered}
-use Rattle.service_loop.specs.Rounds.{IsNewShare}
-use Rattle.service_loop.specs.Steps.{KnowTenants}
+use Rattle.service_loop.specs.Rounds.{IsNewVisitAccount}
+use Rattle.service_loop.specs.ScheduledOps.{KnowTenants}
 use Rattle.service_loop.specs.declared.delivering.Deliveries.{Deliveries}
-use Rattle.service_loop.specs.declared.due_step.DueStep.{DueStep}
+use Rattle.service_loop.specs.declared.scheduled_op.ScheduledOp.{ScheduledOp}
 use Rattle.service_loop.specs.declared.endpoint.Endpoint.{Endpoint}
-use Rattle.service_loop.specs.declared.share.Share.{Share}
+use Rattle.service_loop.specs.declared.visit_account.VisitAccount.{VisitAccount}
 use Rattle.service_loop.specs.declared.submissions.Submissions.{Submissions}
 use Rattle.service_wiring.proofs.Parts.{is_application, valid_table}
 use Rattle.service_wiring.proofs.Weighing.{grants-first, new-share}
@@ -65,9 +65,9 @@ pub new-deliveries-requires : goal.new-deliveries-requires
 new-deliveries-requires g c =
     let lived = c.requires.lived in
     let ends = c.in_ok-ported.ensures.ends in record {
-      lived = (lived.0, c.opened_again.ensures.lived lived.0 lived.1, lived.2);
-      none_held = c.opened_again.ensures.held ∙ c.requires.none_held;
-      one_heap = ends.notices_heap ∙ c.requires.one_heap ∙ sym c.opened_again.ensures.same.heap;
+      lived = (lived.0, c.reopened.ensures.lived lived.0 lived.1, lived.2);
+      none_held = c.reopened.ensures.held ∙ c.requires.none_held;
+      one_heap = ends.notices_heap ∙ c.requires.one_heap ∙ sym c.reopened.ensures.same.heap;
       new_rings = (ends.none_told, ends.none_numbered, ends.none_back, ends.reclaims_open);
       few = c.programmed.ensures.few;
     }
@@ -85,7 +85,7 @@ new-endpoint-requires-clause-not_ended g c κs within =
 
 pub new-endpoint-requires-clause-known : goal.new-endpoint-requires-clause-known
 new-endpoint-requires-clause-known g c κs within =
-    subst (λ (steps : List DueStep). KnowTenants (λ tenant. tenant < length c.args.seats) steps)
+    subst (λ (steps : List ScheduledOp). KnowTenants (λ tenant. tenant < length c.args.seats) steps)
     (sym c.new-submissions.ensures.steps) c.requires.known
 
 pub new-endpoint-requires-clause-delivering : goal.new-endpoint-requires-clause-delivering
@@ -94,12 +94,12 @@ new-endpoint-requires-clause-delivering g c κs within =
       lived.0,
       [],
       [],
-      c.new-deliveries.ensures.delivered lived.0 (c.opened_again.ensures.lived lived.0 lived.1) lived.2,
+      c.new-deliveries.ensures.delivered lived.0 (c.reopened.ensures.lived lived.0 lived.1) lived.2,
     )
 
 pub new-endpoint-requires-clause-share : goal.new-endpoint-requires-clause-share
 new-endpoint-requires-clause-share g c κs within =
-    subst (λ (share : Option Share). IfSome share IsNewShare) (sym c.share_of-share.ensures)
+    subst (λ (share : Option VisitAccount). IfSome share IsNewVisitAccount) (sym c.visit_account_of-share.ensures)
     (new-share c.args.common.now.plan.now c.args.app.now
     (is_application c.args.common.now.plan.now c.args.app.now c.requires.plan c.requires.app).port.weight)
 
@@ -110,7 +110,7 @@ new-requires-clause-endpoint g c κs within = λ memory.
 pub new-requires-clause-order : goal.new-requires-clause-order
 new-requires-clause-order g c κs within =
     grants-first c.args.common.now.plan.now c.args.app.now (g.O.ReadyOrder.grant_of c.args.common.now.order.now)
-    c.new-endpoint.result (c.new-endpoint.ensures.share ∙ c.share_of-share.ensures)
+    c.new-endpoint.result (c.new-endpoint.ensures.share ∙ c.visit_account_of-share.ensures)
     (ap (λ (s : Submissions). s.conn.conn) (c.new-endpoint.ensures.submissions)
     ∙ ap (λ (x : Connection). x.conn) (c.new-submissions.ensures.conn ∙ c.in_ok-conn.ensures))
     c.requires.app c.requires.order
@@ -120,16 +120,16 @@ returns g c = λ life lived fates.
     let app = is_application c.args.common.now.plan.now c.args.app.now c.requires.plan c.requires.app in
     let item : c.new.result ≡ c.new-endpoint.result = c.new.ensures in
     let subs : c.new.result.submissions ≡ c.new-submissions.result =
-    ap (λ (e : Endpoint g.row.C.Denot (List Drawing) Queueing). e.submissions) item
+    ap (λ (e : Endpoint g.row.C.Denot (List Drawing) QueueLinkState). e.submissions) item
     ∙ c.new-endpoint.ensures.submissions in
     let dels : c.new.result.deliveries ≡ c.new-deliveries.result =
-    ap (λ (e : Endpoint g.row.C.Denot (List Drawing) Queueing). e.deliveries) item
+    ap (λ (e : Endpoint g.row.C.Denot (List Drawing) QueueLinkState). e.deliveries) item
     ∙ c.new-endpoint.ensures.deliveries in
-    let arrived : c.new.result.deliveries.arrivals ≡ c.opened_again.result =
+    let arrived : c.new.result.deliveries.arrivals ≡ c.reopened.result =
     ap (λ (d : Deliveries). d.arrivals) dels ∙ c.new-deliveries.ensures.arrivals in
     let opened = ap (λ (s : Submissions). s.conn) subs ∙ c.new-submissions.ensures.conn ∙ c.in_ok-conn.ensures in
     let link : c.new.result.link ≡ c.in_ok-queue.queue =
-    ap (λ (e : Endpoint g.row.C.Denot (List Drawing) Queueing). e.link) item ∙ c.new-endpoint.ensures.link in
+    ap (λ (e : Endpoint g.row.C.Denot (List Drawing) QueueLinkState). e.link) item ∙ c.new-endpoint.ensures.link in
     let ported = c.in_ok-ported.ensures in
     let ends = ported.ends in
     let reader : c.in_ok-ported.ported.port.reader ≡ c.args.reader = ported.its_reader in
@@ -141,34 +141,34 @@ returns g c = λ life lived fates.
         limit = ap (λ (x : Connection). x.limit) opened;
         nothing = ap (λ (x : Connection). x.happenings) opened;
         working = ap (λ (x : Connection). x.ended) opened;
-        memory = ap (λ (e : Endpoint g.row.C.Denot (List Drawing) Queueing). e.memory) item
+        memory = ap (λ (e : Endpoint g.row.C.Denot (List Drawing) QueueLinkState). e.memory) item
             ∙ c.new-endpoint.ensures.memory;
-        none_kept = ap (λ (e : Endpoint g.row.C.Denot (List Drawing) Queueing). e.kept) item
+        none_kept = ap (λ (e : Endpoint g.row.C.Denot (List Drawing) QueueLinkState). e.kept) item
             ∙ c.new-endpoint.ensures.kept;
-        share = ap (λ (e : Endpoint g.row.C.Denot (List Drawing) Queueing). e.share) item
-            ∙ c.new-endpoint.ensures.share ∙ c.share_of-share.ensures;
-        its_clock = ap (λ (e : Endpoint g.row.C.Denot (List Drawing) Queueing). e.clock.now) item
+        share = ap (λ (e : Endpoint g.row.C.Denot (List Drawing) QueueLinkState). e.share) item
+            ∙ c.new-endpoint.ensures.share ∙ c.visit_account_of-share.ensures;
+        its_clock = ap (λ (e : Endpoint g.row.C.Denot (List Drawing) QueueLinkState). e.clock.now) item
             ∙ c.new-endpoint.ensures.clock;
-        its_steps = ap (λ (s : Submissions). s.steps.now) subs ∙ c.new-submissions.ensures.steps;
-        its_seats = ap (λ (e : Endpoint g.row.C.Denot (List Drawing) Queueing). e.tickets) item
+        its_scheduled = ap (λ (s : Submissions). s.steps.now) subs ∙ c.new-submissions.ensures.steps;
+        its_seats = ap (λ (e : Endpoint g.row.C.Denot (List Drawing) QueueLinkState). e.tickets) item
             ∙ c.new-endpoint.ensures.tickets;
         programmed = ap (λ (d : Deliveries). d.reclaims.programmed) dels ∙ c.new-deliveries.ensures.programmed
             ∙ c.programmed.ensures.count;
-        same = subst (λ (a : Arrivals). AreSame c.args.arrivals a) (sym arrived) c.opened_again.ensures.same;
+        same = subst (λ (a : Arrivals). HaveSameIdentity c.args.arrivals a) (sym arrived) c.reopened.ensures.same;
         delivered = subst (λ (d : Deliveries). HaveDelivered life [] [] d) (sym dels)
-            (c.new-deliveries.ensures.delivered life (c.opened_again.ensures.lived life lived) fates);
+            (c.new-deliveries.ensures.delivered life (c.reopened.ensures.lived life lived) fates);
       };
       link = record {
-        handed = ap (λ (q : Queueing). q.handed) link ∙ c.in_ok-queue.ensures.handed;
-        given = ap (λ (q : Queueing). q.given) link ∙ c.in_ok-queue.ensures.given;
-        ended = ap (λ (q : Queueing). q.ended) link ∙ c.in_ok-queue.ensures.ended;
-        faults = ap (λ (q : Queueing). q.faults) link ∙ c.in_ok-queue.ensures.faults;
+        handed = ap (λ (q : QueueLinkState). q.handed) link ∙ c.in_ok-queue.ensures.handed;
+        given = ap (λ (q : QueueLinkState). q.given) link ∙ c.in_ok-queue.ensures.given;
+        ended = ap (λ (q : QueueLinkState). q.ended) link ∙ c.in_ok-queue.ensures.ended;
+        failures = ap (λ (q : QueueLinkState). q.failures) link ∙ c.in_ok-queue.ensures.failures;
         start = c.in_ok-queue.ensures.start;
-        forward = ap (λ (q : Queueing). q.forward) link ∙ c.in_ok-queue.ensures.forward;
-        backward = ap (λ (q : Queueing). q.backward) link ∙ c.in_ok-queue.ensures.backward;
+        forward = ap (λ (q : QueueLinkState). q.forward) link ∙ c.in_ok-queue.ensures.forward;
+        backward = ap (λ (q : QueueLinkState). q.backward) link ∙ c.in_ok-queue.ensures.backward;
       };
       app_job = record {
-        is_job = record {
+        is_task = record {
           port = ported.new c.requires.new_heap;
           program = subst (λ (n : ℕ). HasProgram n c.args.app.now.role) (sym ported.words) app.program;
           table = subst (λ (T : Table). IsValid T) (sym c.table_of-table.ensures)
@@ -187,7 +187,7 @@ returns g c = λ life lived fates.
         calls_ring = ap (λ (s : Submissions). s.calls.ring) subs
             ∙ ap (λ (r : Receiving). r.ring) c.new-submissions.ensures.calls ∙ ends.calls_ring;
         reader = reader;
-        receive_heap = ap (λ (a : Arrivals). a.writer.heap) arrived ∙ c.opened_again.ensures.same.heap
+        receive_heap = ap (λ (a : Arrivals). a.writer.heap) arrived ∙ c.reopened.ensures.same.heap
             ∙ sym c.requires.one_heap ∙ sym (ap (λ (r : Reading). r.heap) reader);
         notices_ring = ap (λ (d : Deliveries). ring_of d.notices.notices d.notices.noticed) dels
             ∙ c.new-deliveries.ensures.notices

@@ -1,5 +1,5 @@
 use Rattle.std.proofs.Common.{◌∙◌, ap, sym, List, ℕ}
-use Rattle.table_text.specs.Judged.{is_below}
+use Rattle.table_text.specs.LineTests.{is_below}
 use Rattle.table_text.proofs.LastLemmas.{falls_last}
 use Rattle.table_text.proofs.draft.is_below_last_enum.Goals as goal
 

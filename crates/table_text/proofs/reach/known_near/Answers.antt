@@ -10,5 +10,5 @@ returns c = λ text long.
       types = types_near (whole_lines c.args.near.now) (whole_lines c.args.far.now);
       held_enums = c.in_ok-enums.ensures wanted c.in_ok-used.ensures;
       held_messages = c.in_ok-messages.ensures wanted c.in_ok-used.ensures;
-      serves = near_serves text c.args.near.now c.args.far.now long;
+      is_sufficient = near_serves text c.args.near.now c.args.far.now long;
     }

@@ -5,7 +5,7 @@ use Rattle.table_text.proofs.read.read_lines.Goals as goal
 pub loop-line-init : goal.loop-line-init
 loop-line-init c =
     let known = c.in_ok-known_enums.ensures in
-    lines_none c.args.text.now known.types c.new-reader.result known.serves
+    lines_none c.args.text.now known.types c.new-reader.result known.is_sufficient
     (c.new-reader.ensures.kept known.types known.held_enums known.held_messages)
     c.new-reader.ensures.nothing
 

@@ -1,7 +1,7 @@
 use Rattle.std.proofs.Common.{◌≡◌, suc, ◌<◌, ◌≤◌, ◌-◌, ◌/◌, ◌++◌, [], ◌∷◌, length, ap, ◌∙◌, length-append, arith}
 use Rattle.std.specs.Prelude.{slice_index_or}
 use Rattle.tenant_quota.specs.Drawing.{kept_half, new_half}
-use Rattle.tenant_quota.specs.Splitting.{split_front}
+use Rattle.tenant_quota.specs.Splitting.{split_prefix}
 use Rattle.tenant_quota.proofs.Splitting.{length_front, next_is, one_split, one_half, at_next}
 use Rattle.tenant_quota.proofs.seats.split_each.Goals as goal
 
@@ -12,7 +12,7 @@ split-requires c =
     let d = c.index_mut.result.now in
     let split = c.loop-seats.invariant.split in
     let at_n : c.len-in-loop-seats-2.result ≡ n = omega (arith, c.len-in-loop-seats-2.ensures, c.loop-seats.halves.ok.0) in
-    let is : d ≡ slice_index_or (split_front n old) n d = rw (at_n, split.kept) at c.index_mut.ensures.value in
+    let is : d ≡ slice_index_or (split_prefix n old) n d = rw (at_n, split.kept) at c.index_mut.ensures.value in
     let all = ap length split.kept ∙ length_front n old in
     let inside : n < length old = omega (arith, c.loop-seats-test.true, c.len.ensures, c.len-in-loop-seats.ensures, c.loop-seats.halves.ok.0, c.loop-seats.seats.ok.0, all) in
     at_next (λ seat. 2 ≤ seat.share) n old d inside (next_is n old d is) c.requires.shares
@@ -42,7 +42,7 @@ loop-seats-preserved c =
     let told = c.in_ok-half.ensures in
     let split = c.loop-seats.invariant.split in
     let at_n : c.len-in-loop-seats-2.result ≡ n = omega (arith, c.len-in-loop-seats-2.ensures, c.loop-seats.halves.ok.0) in
-    let is : d ≡ slice_index_or (split_front n old) n d = rw (at_n, split.kept) at c.index_mut.ensures.value in
+    let is : d ≡ slice_index_or (split_prefix n old) n d = rw (at_n, split.kept) at c.index_mut.ensures.value in
     let all = ap length split.kept ∙ length_front n old in
     let inside : n < length old = omega (arith, c.loop-seats-test.true, c.len.ensures, c.len-in-loop-seats.ensures, c.loop-seats.halves.ok.0, c.loop-seats.seats.ok.0, all) in
     let share : new.share ≡ d.share - d.share / 2 = omega (arith, told.half, told.shares) in

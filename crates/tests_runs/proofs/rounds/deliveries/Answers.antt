@@ -1,7 +1,7 @@
 use Rattle.std.proofs.Common.{[], refl}
-use Rattle.receive_core.specs.Life.{no_life}
+use Rattle.receive_core.specs.ReceiverTraces.{empty_trace}
 use Rattle.tests_runs.proofs.rounds.deliveries.Goals as goal
 
 pub returns-clause-delivering : goal.returns-clause-delivering
 returns-clause-delivering g c =
-    (no_life, [], [], c.new.ensures.delivered no_life c.no_arrivals-arrivals.ensures.lived refl)
+    (empty_trace, [], [], c.new.ensures.delivered empty_trace c.new_arrivals-arrivals.ensures.lived refl)

@@ -4,13 +4,13 @@ use Rattle.text_commands.proofs.Audited.{front_fault}
 use Rattle.text_commands.proofs.audit.audited_text.Goals as goal
 
 pub returns-in-Ok-clause-answer : goal.returns-in-Ok-clause-answer
-returns-in-Ok-clause-answer c = c.judged-answer.ensures.answer c.args.input.now c.in-Ok.ensures.read
+returns-in-Ok-clause-answer c = c.audit_answer-answer.ensures.answer c.args.input.now c.in-Ok.ensures.read
 
 pub returns-in-Ok-clause-failure : goal.returns-in-Ok-clause-failure
-returns-in-Ok-clause-failure c = c.judged-answer.ensures.failure c.args.input.now c.in-Ok.ensures.read
+returns-in-Ok-clause-failure c = c.audit_answer-answer.ensures.failure c.args.input.now c.in-Ok.ensures.read
 
-pub judged-answer-requires-clause-short : goal.judged-answer-requires-clause-short
-judged-answer-requires-clause-short c = (c.args.input.now, c.in-Ok.ensures.read, c.requires.short)
+pub audit_answer-answer-requires-clause-short : goal.audit_answer-answer-requires-clause-short
+audit_answer-answer-requires-clause-short c = (c.args.input.now, c.in-Ok.ensures.read, c.requires.short)
 
 pub returns-in-Err-At-clause-failure : goal.returns-in-Err-At-clause-failure
 returns-in-Err-At-clause-failure c =

@@ -1,9 +1,9 @@
 use Rattle.std.proofs.Common.{◌≡◌, ◌∙◌, ℕ, List, false, refl, subst, rules}
 use Rattle.std.specs.Prelude.{IsTrue}
 use Rattle.std.specs.Io.KnownBytes.{Appends}
-use Rattle.text_commands.specs.Checking.{spot_line}
-use Rattle.text_commands.specs.FaultLines.{WritesFront}
-use Rattle.text_commands.specs.Stopping.EndsEarly.{in_refusal, in_work}
+use Rattle.text_commands.specs.Checking.{location_line}
+use Rattle.text_commands.specs.FaultLines.{HasWrittenPrefix}
+use Rattle.text_commands.specs.Stopping.HasEndedEarly.{in_rejection, in_work}
 use Rattle.text_commands.proofs.Fronts.{not_faulty}
 use Rattle.text_commands.proofs.check.check_to.Goals as goal
 
@@ -14,8 +14,8 @@ returns-in-Err-At-clause-faulty g c = λ faulty.
       spot = c.in-Err-At.spot;
       word = c.in-Err-At.word.now;
       fault = rw (c.in-Err-At.spot-is, c.in-Err-At.word-is) first;
-      written = subst (λ bytes. Appends (g.K.Sink.written c.args.out.now) (g.K.Sink.written c.refuse_at.new.out) (spot_line c.in-Err-At.spot bytes))
-          c.as_bytes.ensures.value (c.refuse_at.ensures.written faulty);
+      written = subst (λ bytes. Appends (g.K.Sink.written c.args.out.now) (g.K.Sink.written c.write_fault_at.new.out) (location_line c.in-Err-At.spot bytes))
+          c.as_bytes.ensures.value (c.write_fault_at.ensures.written faulty);
     }
 
 pub returns-then-write_all-clause-done : goal.returns-then-write_all-clause-done
@@ -33,10 +33,10 @@ returns-in-Err-At-clause-early g c e =
     let first = rw c.in-Err-At.field-0-is at c.in-Err-At.ensures.fault in
     let spot = c.in-Err-At.spot in
     let word = c.in-Err-At.word.now in
-    in_refusal (spot_line spot word)
+    in_rejection (location_line spot word)
     (record { spot = spot; word = word; fault = rw (c.in-Err-At.spot-is, c.in-Err-At.word-is) first; written = refl })
-    (subst (λ (bytes : List ℕ). WritesFront (g.K.Sink.written c.args.out.now) (g.K.Sink.written c.refuse_at.new.out) (spot_line spot bytes))
-    c.as_bytes.ensures.value (c.refuse_at.ensures.front (not_faulty c.refuse_at.result e)))
+    (subst (λ (bytes : List ℕ). HasWrittenPrefix (g.K.Sink.written c.args.out.now) (g.K.Sink.written c.write_fault_at.new.out) (location_line spot bytes))
+    c.as_bytes.ensures.value (c.write_fault_at.ensures.front (not_faulty c.write_fault_at.result e)))
 
 pub returns-in-Ok-clause-early : goal.returns-in-Ok-clause-early
 returns-in-Ok-clause-early g c e =

@@ -1,7 +1,7 @@
 use Rattle.std.proofs.Common.{◌∙◌, ap}
 use Rattle.proto_grammar.specs.Reason.{proto_word}
 use Rattle.schema_validation.specs.Reason.{resolve_word}
-use Rattle.text_commands.specs.Checking.ChecksAs.{a_file}
+use Rattle.text_commands.specs.Checking.HasDeclaredTable.{a_file}
 use Rattle.text_commands.proofs.CheckFaults.{text_fault, file_fault}
 use Rattle.text_commands.proofs.check.table_of_file.Goals as goal
 

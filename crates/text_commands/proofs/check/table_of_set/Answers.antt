@@ -1,17 +1,17 @@
 use Rattle.std.proofs.Common.{◌∙◌, ℕ, ◌+◌, ◌<◌, ◌^◌, List, length, ap, sym, subst, arith}
 use Rattle.std.specs.Prelude.{sum_by}
-use Rattle.proto_set.specs.Packed.{files_of}
-use Rattle.proto_set.specs.declared.packed.Packed.{Packed}
+use Rattle.proto_set.specs.Named.{files_of}
+use Rattle.proto_set.specs.declared.named.Named.{Named}
 use Rattle.schema_files.specs.Reason.{files_word}
-use Rattle.schema_files.specs.Resolving.{FilesResolve}
-use Rattle.text_commands.specs.Checking.ChecksAs.{a_set}
+use Rattle.schema_files.specs.Resolving.{AreResolvedTo}
+use Rattle.text_commands.specs.Checking.HasDeclaredTable.{a_set}
 use Rattle.text_commands.proofs.CheckFaults.{fault_in_file, missing_file, refused_path}
 use Rattle.text_commands.proofs.SetSizes.{set_short}
 use Rattle.text_commands.proofs.check.table_of_set.Goals as goal
 
 pub resolve_files-requires-clause-small : goal.resolve_files-requires-clause-small
 resolve_files-requires-clause-small c =
-    subst (λ (ps : List Packed). sum_by (λ (p : Packed). length p.text.now) ps < 2 ^ 63) (sym c.as_slice.ensures.value)
+    subst (λ (ps : List Named). sum_by (λ (p : Named). length p.text.now) ps < 2 ^ 63) (sym c.as_slice.ensures.value)
     (omega (arith, set_short c.in-Ok.files.items 16777216 c.in-Ok.ensures.read c.requires.short))
 
 pub returns-in-Err-Bundle-clause-fault : goal.returns-in-Err-Bundle-clause-fault
@@ -30,7 +30,7 @@ returns-in-Err-Path-clause-fault c =
 pub returns-in-Ok-resolve_files-clause-checked : goal.returns-in-Ok-resolve_files-clause-checked
 returns-in-Ok-resolve_files-clause-checked c = (
   a_set (files_of c.in-Ok.files.items) c.requires.set c.in-Ok.ensures.read
-      (subst (λ (ps : List Packed). FilesResolve (files_of ps) c.in-Ok-resolve_files.table) c.as_slice.ensures.value
+      (subst (λ (ps : List Named). AreResolvedTo (files_of ps) c.in-Ok-resolve_files.table) c.as_slice.ensures.value
       c.in-Ok-resolve_files.ensures.resolves),
   c.in-Ok-resolve_files.ensures.valid,
 )

@@ -5,8 +5,8 @@ use Rattle.std.proofs.lemmas.Bool.{true≢false}
 use Rattle.std.proofs.lemmas.List.Elements.{All-from_get_or}
 use Rattle.std.proofs.lemmas.Result.{err_from_is_err_and}
 use Rattle.text_commands.specs.Decoding.{IsCutAt}
-use Rattle.text_commands.specs.FaultLines.{WritesFront}
-use Rattle.text_commands.specs.declared.decoding.Cut.TheVariants.{Memory as NoMemory}
+use Rattle.text_commands.specs.FaultLines.{HasWrittenPrefix}
+use Rattle.text_commands.specs.declared.decoding.DecodeError.TheVariants.{Memory as NoMemory}
 use Rattle.text_commands.proofs.DecodeFronts.{ok_not_err, piece_early, same_err, told_early}
 use Rattle.text_commands.proofs.Fronts.{front-whole}
 use Rattle.text_commands.proofs.KnownBytes.{appends-nothing, appends-more}
@@ -29,7 +29,7 @@ returns-in_err-place-clause-cut g c =
     let T = c.args.table.now in
     let stream = c.args.stream.now in
     let before = c.loop-place.invariant.0 in
-    let lines = c.tell_piece-told.new.lines in
+    let lines = c.append_lines-told.new.lines in
     let cut : (place : ℕ) (word : List ℕ) → (text : List ℕ) × (lines ≡ c.new-lines.result ++ text) × IsCutAt T c.loop-place.place (drop c.loop-place.place stream) text place word
     → (text : List ℕ) × IsCutAt T 0 stream text place word × Appends (g.K.Sink.written c.args.out.now) (g.K.Sink.written c.write_all.new.out) text =
     λ place word h.
@@ -46,7 +46,7 @@ loop-place-preserved g c =
     let before = c.loop-place.invariant in
     let told = c.in_ok-place.ensures.told in
     let written : c.as_slice.result.now ≡ told.0 = c.as_slice.ensures ∙ told.1 ∙ ap (λ (bs : List ℕ). bs ++ told.0) c.new-lines.ensures in
-    let same : g.K.Sink.faults c.write_all.new.out ≡ g.K.Sink.faults c.loop-place.out = c.if-not-write_all.ensures.cause.stays true≢false in (
+    let same : g.K.Sink.failures c.write_all.new.out ≡ g.K.Sink.failures c.loop-place.out = c.if-not-write_all.ensures.cause.stays true≢false in (
       record {
         text = before.0.text ++ told.0;
         tells = tells_more c.meaning_law.ensures.frames _ _ _ _ _ _ _ before.0.tells told.2;
@@ -83,34 +83,34 @@ returns-then-not-write_all-clause-early g c e =
     let bytes : All (λ byte. byte < 256) stream = All-from_get_or (λ byte. byte < 256) stream 0 (λ i within. omega (arith, c.type_inv.stream i)) in
     let before = c.loop-place.invariant.0 in
     let front = c.if-not-write_all.ensures.front refl in
-    let no_memory : c.tell_piece-told.result ≢ Err NoMemory = λ p. elim c.match-matches.branch [
+    let no_memory : c.append_lines-told.result ≢ Err NoMemory = λ p. elim c.match-matches.branch [
       | in-Err-Memory w ↦ true≢false (sym w.matches-is ∙ c.if-matches.false)
       | in_default w ↦
           let other : w.in_default.field-0 ≢ NoMemory = search rules in
-          other (same_err c.tell_piece-told.result w.in_default.field-0 NoMemory w.in_default.is p)
-      | in_default-2 w ↦ ok_not_err c.tell_piece-told.result w.in_default.field-0 NoMemory w.in_default.is p
+          other (same_err c.append_lines-told.result w.in_default.field-0 NoMemory w.in_default.is p)
+      | in_default-2 w ↦ ok_not_err c.append_lines-told.result w.in_default.field-0 NoMemory w.in_default.is p
     ] in
     piece_early c.meaning_law.ensures c.args.table.now stream c.loop-place.place before.text c.new-lines.result
-    c.tell_piece-told.new.lines c.tell_piece-told.result (g.K.Sink.written c.args.out.now)
+    c.append_lines-told.new.lines c.append_lines-told.result (g.K.Sink.written c.args.out.now)
     (g.K.Sink.written c.loop-place.out) (g.K.Sink.written c.write_all.new.out) bytes before.tells c.new-lines.ensures
-    c.tell_piece-told.ensures.told c.tell_piece-told.ensures.cut no_memory c.tell_piece-told.ensures.not_out before.appends
-    (subst (WritesFront (g.K.Sink.written c.loop-place.out) (g.K.Sink.written c.write_all.new.out)) c.as_slice.ensures (front.0, front.2))
+    c.append_lines-told.ensures.told c.append_lines-told.ensures.cut no_memory c.append_lines-told.ensures.not_out before.appends
+    (subst (HasWrittenPrefix (g.K.Sink.written c.loop-place.out) (g.K.Sink.written c.write_all.new.out)) c.as_slice.ensures (front.0, front.2))
 
 pub returns-in_err-place-clause-early : goal.returns-in_err-place-clause-early
 returns-in_err-place-clause-early g c e =
     let stream = c.args.stream.now in
     let bytes : All (λ byte. byte < 256) stream = All-from_get_or (λ byte. byte < 256) stream 0 (λ i within. omega (arith, c.type_inv.stream i)) in
     let before = c.loop-place.invariant.0 in
-    let no_memory : c.tell_piece-told.result ≢ Err NoMemory = λ p. elim c.match-matches.branch [
+    let no_memory : c.append_lines-told.result ≢ Err NoMemory = λ p. elim c.match-matches.branch [
       | in-Err-Memory w ↦ true≢false (sym w.matches-is ∙ c.if-matches.false)
       | in_default w ↦
           let other : w.in_default.field-0 ≢ NoMemory = search rules in
-          other (same_err c.tell_piece-told.result w.in_default.field-0 NoMemory w.in_default.is p)
-      | in_default-2 w ↦ ok_not_err c.tell_piece-told.result w.in_default.field-0 NoMemory w.in_default.is p
+          other (same_err c.append_lines-told.result w.in_default.field-0 NoMemory w.in_default.is p)
+      | in_default-2 w ↦ ok_not_err c.append_lines-told.result w.in_default.field-0 NoMemory w.in_default.is p
     ] in
     piece_early c.meaning_law.ensures c.args.table.now stream c.loop-place.place before.text c.new-lines.result
-    c.tell_piece-told.new.lines c.tell_piece-told.result (g.K.Sink.written c.args.out.now)
+    c.append_lines-told.new.lines c.append_lines-told.result (g.K.Sink.written c.args.out.now)
     (g.K.Sink.written c.loop-place.out) (g.K.Sink.written c.write_all.new.out) bytes before.tells c.new-lines.ensures
-    c.tell_piece-told.ensures.told c.tell_piece-told.ensures.cut no_memory c.tell_piece-told.ensures.not_out before.appends
+    c.append_lines-told.ensures.told c.append_lines-told.ensures.cut no_memory c.append_lines-told.ensures.not_out before.appends
     (front-whole _ _ _ (subst (λ (bs : List ℕ). Appends (g.K.Sink.written c.loop-place.out) (g.K.Sink.written c.write_all.new.out) bs)
     c.as_slice.ensures (c.if-not-write_all.ensures.done refl)))

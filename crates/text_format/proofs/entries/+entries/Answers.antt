@@ -4,8 +4,8 @@ use Rattle.std.proofs.lemmas.Result.{on_ok_weaker}
 use Rattle.mrpc_table.specs.View.{item_of, items_of, pairs_of, node_of}
 use Rattle.mrpc_table.specs.Weight.{weight, item_weight, items_weight, pairs_weight}
 use Rattle.mrpc_table.specs.Words.{key_kind}
-use Rattle.text_format.specs.Entries.{ShowsFields, ShowsItems, ShowsPairs}
-use Rattle.text_format.specs.Escapes.{quoted}
+use Rattle.text_format.specs.Entries.{IsTextOfFields, IsTextOfItems, IsTextOfPairs}
+use Rattle.text_format.specs.Escapes.{quoted_string}
 use Rattle.text_format.specs.Lines.{scalar_line, opening, closing, enclosed}
 use Rattle.text_format.proofs.Appending.{two, three}
 use Rattle.text_format.proofs.Showing.{fields_step, items_step, pairs_step}
@@ -26,7 +26,7 @@ put_fields-put_content-requires t c =
 pub put_fields-loop-part-preserved : goal.put_fields-loop-part-preserved
 put_fields-loop-part-preserved t c =
     let before = c.loop-part.invariant in
-    let told = rw (c.said_near-place.ensures.name, c.said_near-place.ensures.label, c.said_near-place.ensures.kind) at c.in_ok-put_content.ensures in
+    let told = rw (c.field_info_near-place.ensures.name, c.field_info_near-place.ensures.label, c.field_info_near-place.ensures.kind) at c.in_ok-put_content.ensures in
     record {
       text = before.text ++ told.0;
       holds = fields_step c.args.table.now c.args.fields.now c.args.deep c.deref-part-items.result.now c.loop-part.part-index c.part-item.result before.text told.0
@@ -39,7 +39,7 @@ put_fields-returns t c =
     let before = c.loop-part.invariant in
     let all : node_of (take c.loop-part.part-index c.deref-part-items.result.now) ≡ c.args.tree.now =
     ap node_of (take_all c.loop-part.part-index c.deref-part-items.result.now c.loop-part-test.false ∙ c.deref-part-items.ensures.value) ∙ c.tree.view_is in
-    (before.text, subst (λ t. ShowsFields c.args.table.now c.args.fields.now c.args.deep t before.text) all before.holds, before.behind)
+    (before.text, subst (λ t. IsTextOfFields c.args.table.now c.args.fields.now c.args.deep t before.text) all before.holds, before.behind)
 
 -- ---- the content of a field
 
@@ -79,7 +79,7 @@ put_items-returns t c =
     let before = c.loop-value.invariant in
     let all : take c.loop-value.value-index c.deref-value-items.result.now ≡ c.args.values.now.items =
     take_all c.loop-value.value-index c.deref-value-items.result.now c.loop-value-test.false ∙ c.deref-value-items.ensures.value in
-    (before.text, subst (λ xs. ShowsItems c.args.table.now c.args.name.now c.args.kind c.args.deep (items_of xs) before.text) all before.holds, before.behind)
+    (before.text, subst (λ xs. IsTextOfItems c.args.table.now c.args.name.now c.args.kind c.args.deep (items_of xs) before.text) all before.holds, before.behind)
 
 -- ---- the entries of a map
 
@@ -111,7 +111,7 @@ put_pairs-returns t c =
     let all : take c.loop-entry.entry-index c.deref-entry-items.result.now ≡ c.args.entries.now.items =
     take_all c.loop-entry.entry-index c.deref-entry-items.result.now c.loop-entry-test.false ∙ c.deref-entry-items.ensures.value in (
       before.text,
-      subst (λ xs. ShowsPairs c.args.table.now c.args.said.name.now (key_kind c.args.said.label) c.args.said.kind c.args.deep (pairs_of xs) before.text) all before.holds,
+      subst (λ xs. IsTextOfPairs c.args.table.now c.args.said.name.now (key_kind c.args.said.label) c.args.said.kind c.args.deep (pairs_of xs) before.text) all before.holds,
       before.behind,
     )
 
@@ -154,8 +154,8 @@ pub put_item-returns-in-Run : goal.put_item-returns-in-Run
 put_item-returns-in-Run t c =
     rw c.in-Run.is (on_ok_weaker c.put_run_line.result
     (λ h. (
-      scalar_line c.args.deep c.args.name.now (quoted c.in-Run.bytes),
+      scalar_line c.args.deep c.args.name.now (quoted_string c.in-Run.bytes),
       refl,
-      h ∙ ap (λ bs. c.args.out.now ++ scalar_line c.args.deep c.args.name.now (quoted bs)) c.as_slice.ensures,
+      h ∙ ap (λ bs. c.args.out.now ++ scalar_line c.args.deep c.args.name.now (quoted_string bs)) c.as_slice.ensures,
     ))
     c.put_run_line.ensures)

@@ -2,19 +2,19 @@ use Rattle.std.proofs.Common.{◌+◌, ◌*◌, take}
 use Rattle.mrpc_table.specs.View.{item_of, items_of, pairs_of, content_of, node_of}
 use Rattle.mrpc_table.specs.Weight.{weight, content_weight, item_weight, items_weight, pairs_weight}
 use Rattle.mrpc_table.specs.Words.{key_kind}
-use Rattle.text_format.specs.Entries.{ShowsFields, ShowsItems, ShowsPairs}
+use Rattle.text_format.specs.Entries.{IsTextOfFields, IsTextOfItems, IsTextOfPairs}
 use Rattle.text_format.proofs.Appending.{Appended}
 use Rattle.text_format.proofs.entries.+entries.Given as goal
 
 abbrev pub invariant-put_fields-loop-part : goal.invariant-put_fields-loop-part
-invariant-put_fields-loop-part l = Appended (ShowsFields l.table l.fields l.deep (node_of (take l.part-index l.part-items))) l.fn.out l.out
+invariant-put_fields-loop-part l = Appended (IsTextOfFields l.table l.fields l.deep (node_of (take l.part-index l.part-items))) l.fn.out l.out
 
 abbrev pub invariant-put_items-loop-value : goal.invariant-put_items-loop-value
-invariant-put_items-loop-value l = Appended (ShowsItems l.table l.name l.kind l.deep (items_of (take l.value-index l.value-items))) l.fn.out l.out
+invariant-put_items-loop-value l = Appended (IsTextOfItems l.table l.name l.kind l.deep (items_of (take l.value-index l.value-items))) l.fn.out l.out
 
 abbrev pub invariant-put_pairs-loop-entry : goal.invariant-put_pairs-loop-entry
 invariant-put_pairs-loop-entry l =
-    Appended (ShowsPairs l.table l.said.name.now (key_kind l.said.label) l.said.kind l.deep (pairs_of (take l.entry-index l.entry-items))) l.fn.out l.out
+    Appended (IsTextOfPairs l.table l.said.name.now (key_kind l.said.label) l.said.kind l.deep (pairs_of (take l.entry-index l.entry-items))) l.fn.out l.out
 
 abbrev pub decreases-put_fields : goal.decreases-put_fields
 decreases-put_fields l = 4 * weight l.tree.now

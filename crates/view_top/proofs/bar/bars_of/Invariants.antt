@@ -1,5 +1,5 @@
 use Rattle.std.proofs.Common.{◌+◌, ◌≤◌, length, map, reverse, vec_len}
-use Rattle.view_top.specs.TimelineViews.{bar}
+use Rattle.view_top.specs.DrawingData.{bar}
 use Rattle.view_top.proofs.Walking.{Behind}
 use Rattle.view_top.proofs.bar.bars_of.Given as goal
 

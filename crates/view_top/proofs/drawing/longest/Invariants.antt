@@ -1,6 +1,6 @@
 use Rattle.std.proofs.Common.{◌≡◌, ◌≤◌, max, drop, map}
 use Rattle.view_top.specs.Drawing.{longest}
-use Rattle.view_top.specs.TimelineViews.{row}
+use Rattle.view_top.specs.DrawingData.{row}
 use Rattle.view_top.specs.declared.limits.TheConstants.{MAX_TEXT}
 use Rattle.view_top.proofs.drawing.longest.Given as goal
 

@@ -1,6 +1,6 @@
 use Rattle.std.proofs.Common.{◌≡◌, ◌++◌, drop, map}
 use Rattle.view_top.specs.Drawing.{bars_text}
-use Rattle.view_top.specs.TimelineViews.{bar}
+use Rattle.view_top.specs.DrawingData.{bar}
 use Rattle.view_top.proofs.drawing.put_bars.Given as goal
 
 abbrev pub invariant-loop-bar : goal.invariant-loop-bar

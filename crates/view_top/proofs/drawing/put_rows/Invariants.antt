@@ -1,6 +1,6 @@
 use Rattle.std.proofs.Common.{◌≡◌, ◌*◌, ◌^◌, ◌≤◌, ◌++◌, drop, map}
 use Rattle.view_top.specs.Drawing.{rows_text}
-use Rattle.view_top.specs.TimelineViews.{row}
+use Rattle.view_top.specs.DrawingData.{row}
 use Rattle.view_top.proofs.drawing.put_rows.Given as goal
 
 abbrev pub invariant-loop-row : goal.invariant-loop-row

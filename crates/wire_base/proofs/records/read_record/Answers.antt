@@ -1,6 +1,6 @@
 use Rattle.std.proofs.Common.{◌/◌, ◌%◌, arith, Ok, Err, refl}
 use Rattle.std.proofs.lemmas.Result.{err_from_is_err_and}
-use Rattle.wire_base.specs.Records.{FaultAt, no_payload}
+use Rattle.wire_base.specs.Records.{IsWireFaultAt, no_payload}
 use Rattle.wire_base.specs.declared.records.Record.{Record}
 use Rattle.wire_base.proofs.OneReading.{VarintAt-moves, PayloadAt-ahead, PayloadAt-within, PayloadAt-span, record-each, record-each_fault}
 use Rattle.wire_base.proofs.records.read_record.Goals as goal
@@ -23,7 +23,7 @@ returns-in_err-payload-clause-fault c =
 pub returns-in_err-payload-clause-each : goal.returns-in_err-payload-clause-each
 returns-in_err-payload-clause-each c =
     let p = err_from_is_err_and c.from_residual-in_err-payload.result c.from_residual-in_err-payload.ensures.1 in
-    let here : FaultAt c.args.bytes.now c.args.at c.in_err-payload.field-0.0 =
+    let here : IsWireFaultAt c.args.bytes.now c.args.at c.in_err-payload.field-0.0 =
     no_payload c.in_ok-tag.tag c.in_ok-tag.start c.in_err-payload.ensures.fault.0 c.in_ok-tag.ensures.found
     c.in_err-payload.ensures.fault.1 in
     rw (p.1, p.2) (record-each c.args.bytes.now c.args.at (Err c.in_err-payload.field-0.0) tt here)
@@ -31,7 +31,7 @@ returns-in_err-payload-clause-each c =
 pub returns-in_err-payload-clause-each_fault : goal.returns-in_err-payload-clause-each_fault
 returns-in_err-payload-clause-each_fault c =
     let p = err_from_is_err_and c.from_residual-in_err-payload.result c.from_residual-in_err-payload.ensures.1 in
-    let here : FaultAt c.args.bytes.now c.args.at c.in_err-payload.field-0.0 =
+    let here : IsWireFaultAt c.args.bytes.now c.args.at c.in_err-payload.field-0.0 =
     no_payload c.in_ok-tag.tag c.in_ok-tag.start c.in_err-payload.ensures.fault.0 c.in_ok-tag.ensures.found
     c.in_err-payload.ensures.fault.1 in
     rw (p.1, p.2) (record-each_fault c.args.bytes.now c.args.at (Err c.in_err-payload.field-0.0) tt here)

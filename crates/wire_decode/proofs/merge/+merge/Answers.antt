@@ -7,16 +7,16 @@ use Rattle.mrpc_table.specs.Node.{no_fields, Item}
 use Rattle.mrpc_table.specs.View.{item_of, content_of, node_of}
 use Rattle.wire_decode.proofs.Views.{node_of-last}
 use Rattle.mrpc_table.specs.declared.tree.FieldValue.{FieldValue}
-use Rattle.wire_decode.specs.Merged.{merged, part, singles_in, contents_of, join_fields}
+use Rattle.wire_decode.specs.Merged.{merged, part_of_entry, singles_in, contents_of, join_fields}
 use Rattle.wire_decode.specs.Contents.{with_content}
 use Rattle.wire_decode.specs.Finished.{finished_of}
-use Rattle.wire_decode.specs.EntryParts.{MeansAll}
+use Rattle.wire_decode.specs.EntryParts.{IsMeaningOfAll}
 use Rattle.wire_decode.proofs.Merging.{elements-same, finished-merged, finished-pushed, part-all, singles-more, merged-zero}
 use Rattle.wire_decode.proofs.merge.+merge.Goals as goal
 
-pub elements-returns-then-not-is_message : goal.elements-returns-then-not-is_message
-elements-returns-then-not-is_message t c =
-    elements-same (merged c.args.table.now c.args.depth) c.args.kind (map item_of c.args.values.items) (sym c.is_message.ensures ∙ c.if-not-is_message.true)
+pub elements-returns-then-not-is_message_kind : goal.elements-returns-then-not-is_message_kind
+elements-returns-then-not-is_message_kind t c =
+    elements-same (merged c.args.table.now c.args.depth) c.args.kind (map item_of c.args.values.items) (sym c.is_message_kind.ensures ∙ c.if-not-is_message_kind.true)
 
 pub merged-returns : goal.merged-returns
 merged-returns t c =
@@ -24,9 +24,9 @@ merged-returns t c =
     let raw = node_of c.args.raw.items in
     let d = c.args.depth - 1 in
     let more : c.args.depth ≡ suc d = omega (arith, c.if-depth-eq0.false) in
-    finished-merged T d c.args.place c.fields-fields.result.now raw (node_of c.in_ok-counted.field-0.items)
+    finished-merged T d c.args.place c.fields-fields.result.now raw (node_of c.in_ok-counted_records.field-0.items)
     (node_of c.in_ok-raw.raw.items) (node_of c.in_ok-held.held.items) (node_of c.in_ok-fields.fields.items)
-    c.fields-fields.ensures.value (c.fields-fields.ensures.ascend c.requires) c.in_ok-counted.ensures c.in_ok-raw.ensures.same c.in_ok-held.ensures c.in_ok-fields.ensures
+    c.fields-fields.ensures.value (c.fields-fields.ensures.ascend c.requires) c.in_ok-counted_records.ensures c.in_ok-raw.ensures.same c.in_ok-held.ensures c.in_ok-fields.ensures
     ∙ sym (ap (λ x. merged T x c.args.place raw) more)
 
 pub merged-returns-then-depth-eq0 : goal.merged-returns-then-depth-eq0
@@ -55,8 +55,8 @@ entry-loop-number-preserved t c =
     let x : ℕ × FieldValue = (n, c.in-Some.content) in
     let ys = c.loop-number.yielded in
     let now = node_of ys in
-    let K : List Item → Type 0 = λ is. MeansAll c.args.key is (option_map item_of c.in_ok-some_key.some_key) in
-    let V : List Item → Type 0 = λ is. MeansAll c.args.kind is (option_map item_of c.in_ok-some_key.some_value) in
+    let K : List Item → Type 0 = λ is. IsMeaningOfAll c.args.key is (option_map item_of c.in_ok-some_key.some_key) in
+    let V : List Item → Type 0 = λ is. IsMeaningOfAll c.args.kind is (option_map item_of c.in_ok-some_key.some_value) in
     let seen = node_of-last ys x in (
       subst K (sym (ap (λ u. singles_in (contents_of 1 u)) seen
           ∙ singles-more 1 n (content_of c.in-Some.content) now))
@@ -75,8 +75,8 @@ entry-returns t c =
     let all = sym (map-id ys) ∙ fin.0 in
     let first = c.in_ok-key.ensures ∙ part-all inner c.args.key (singles_in (contents_of 1 (node_of ys)))
     (option_map item_of c.loop-number.keys) c.loop-number.invariant.0
-    ∙ ap (λ zs. part inner 1 c.args.key (node_of zs)) all in
+    ∙ ap (λ zs. part_of_entry inner 1 c.args.key (node_of zs)) all in
     let second = c.in_ok-value.ensures ∙ part-all inner c.args.kind (singles_in (contents_of 2 (node_of ys)))
     (option_map item_of c.loop-number.values) c.loop-number.invariant.1
-    ∙ ap (λ zs. part inner 2 c.args.kind (node_of zs)) all in
+    ∙ ap (λ zs. part_of_entry inner 2 c.args.kind (node_of zs)) all in
     λ i. (first i, second i)

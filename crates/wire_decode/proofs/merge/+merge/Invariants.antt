@@ -1,9 +1,9 @@
 use Rattle.std.proofs.Common.{◌≡◌, ◌+◌, ◌*◌, map}
 use Rattle.std.specs.Option.{option_map}
 use Rattle.mrpc_table.specs.View.{item_of, node_of}
-use Rattle.wire_decode.specs.Merged.{merged, element, entry, singles_in, contents_of}
+use Rattle.wire_decode.specs.Merged.{merged, merged_element, merged_entry, singles_in, contents_of}
 use Rattle.mrpc_table.specs.SortedEntries.{items_of_entry}
-use Rattle.wire_decode.specs.EntryParts.{MeansAll}
+use Rattle.wire_decode.specs.EntryParts.{IsMeaningOfAll}
 use Rattle.wire_decode.specs.Finished.{finished_of}
 use Rattle.wire_decode.proofs.merge.+merge.Given as goal
 
@@ -35,15 +35,15 @@ abbrev pub decreases-element : goal.decreases-element
 decreases-element l = 16 * l.depth + 1
 
 abbrev pub invariant-elements-loop-value : goal.invariant-elements-loop-value
-invariant-elements-loop-value l = map item_of l.elements.items ≡ map (element (merged l.table l.depth) l.kind) (map item_of l.yielded)
+invariant-elements-loop-value l = map item_of l.elements.items ≡ map (merged_element (merged l.table l.depth) l.kind) (map item_of l.yielded)
 
 abbrev pub invariant-entries-loop-value : goal.invariant-entries-loop-value
-invariant-entries-loop-value l = map items_of_entry l.entries.items ≡ map (entry (merged l.table l.depth) l.key l.kind) (map item_of l.yielded)
+invariant-entries-loop-value l = map items_of_entry l.entries.items ≡ map (merged_entry (merged l.table l.depth) l.key l.kind) (map item_of l.yielded)
 
 abbrev pub invariant-entry-loop-number : goal.invariant-entry-loop-number
 invariant-entry-loop-number l =
-    MeansAll l.key (singles_in (contents_of 1 (node_of l.yielded))) (option_map item_of l.keys)
-    × MeansAll l.kind (singles_in (contents_of 2 (node_of l.yielded))) (option_map item_of l.values)
+    IsMeaningOfAll l.key (singles_in (contents_of 1 (node_of l.yielded))) (option_map item_of l.keys)
+    × IsMeaningOfAll l.kind (singles_in (contents_of 2 (node_of l.yielded))) (option_map item_of l.values)
 
 abbrev pub invariant-finished-loop-number : goal.invariant-finished-loop-number
 invariant-finished-loop-number l = node_of l.whole.items ≡ finished_of (merged l.table l.depth) l.fields (node_of l.yielded)

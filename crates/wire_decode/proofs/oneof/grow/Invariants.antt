@@ -1,5 +1,5 @@
 use Rattle.std.proofs.Common.{◌≡◌, ℕ, ◌+◌, ◌-◌, vec_len, get_or}
-use Rattle.wire_decode.specs.declared.oneof.Behind.TheVariants.{Nothing}
+use Rattle.wire_decode.specs.declared.oneof.LaterMembers.TheVariants.{Nothing}
 use Rattle.wire_decode.proofs.oneof.grow.Given as goal
 
 abbrev pub invariant-loop-behind : goal.invariant-loop-behind

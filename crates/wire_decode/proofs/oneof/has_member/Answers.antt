@@ -2,7 +2,7 @@ use Rattle.std.proofs.Common.{◌∙◌, sym, subst}
 use Rattle.mrpc_table.specs.Node.{Node}
 use Rattle.mrpc_table.specs.View.{content_of, node_of}
 use Rattle.std.proofs.Common.{take}
-use Rattle.wire_decode.specs.Behind.{HasNoMember}
+use Rattle.wire_decode.specs.LaterMembers.{HasNoMember}
 use Rattle.wire_decode.proofs.Sorting.{taken-more}
 use Rattle.wire_decode.proofs.Oneofs.{member-pushed, none-of}
 use Rattle.wire_decode.proofs.oneof.has_member.Goals as goal

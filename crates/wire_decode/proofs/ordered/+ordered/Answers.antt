@@ -9,7 +9,7 @@ use Rattle.mrpc_table.specs.MapEntries.{last_of_each}
 use Rattle.mrpc_table.specs.SortedEntries.{items_of_entry}
 use Rattle.wire_decode.specs.Merged.{join_fields}
 use Rattle.wire_decode.specs.Contents.{with_content, some_pairs}
-use Rattle.wire_decode.specs.Ordered.{IsWhole, AreValues, AreEntriesRead}
+use Rattle.wire_decode.specs.Ordered.{HasEachField, AreValues, AreEntriesRead}
 use Rattle.wire_decode.proofs.Merging.{map-pushed}
 use Rattle.wire_decode.proofs.Payloads.{VarintAt-moves}
 use Rattle.wire_decode.proofs.Orderly.{SoFar, sofar-first, sofar-more, sofar-last}
@@ -141,7 +141,7 @@ ordered_node-returns-clause-found t c =
     let T = c.args.table.now in
     let bytes = c.args.bytes.now in
     let tree = node_of c.in_ok-fields.fields.items in
-    let P : List Field → Type 0 = λ fs. IsWhole T (c.args.room - 1) fs (take c.in_ok-first.end bytes) c.in_ok-first.first tree in
+    let P : List Field → Type 0 = λ fs. HasEachField T (c.args.room - 1) fs (take c.in_ok-first.end bytes) c.in_ok-first.first tree in
     node-value T c.args.room c.args.place bytes c.args.start (c.args.tag % 8) c.in_ok-first.first c.in_ok-first.end
     tree (omega (arith, c.if-room-eq0.false)) c.if-tag-ne2.false c.in_ok-first.ensures.found
     (subst P c.fields.ensures.value c.in_ok-fields.ensures)

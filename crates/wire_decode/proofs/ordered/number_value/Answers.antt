@@ -8,6 +8,6 @@ pub returns-clause-found : goal.returns-clause-found
 returns-clause-found c =
     let found = c.in_ok-v.ensures.found in
     let P : ℕ → Type 0 = λ x. IsValue c.args.table.now c.args.room c.args.kind c.args.bytes.now c.args.start (c.args.tag % 8) (number x) c.in_ok-v.next in
-    subst P (sym c.word_of.ensures)
+    subst P (sym c.word_form_of.ensures)
     (number-value c.args.table.now c.args.room c.args.kind c.args.bytes.now c.args.start
     (c.args.tag % 8) c.in_ok-v.v c.in_ok-v.next found.0 c.requires.numeric c.in_ok-v.ensures.fits found.1 found.2)

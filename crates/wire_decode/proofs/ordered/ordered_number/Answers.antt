@@ -15,10 +15,10 @@ returns-clause-found c =
     let old = node_of c.args.whole.now.items in
     let found = c.in_ok-v.ensures.found in
     let P : ℕ → Type 0 = λ x. IsValue T c.args.room c.args.kind bytes c.args.start (c.args.tag % 8) (number x) c.in_ok-v.next in
-    let value = subst P (sym c.word_of.ensures) (number-value T c.args.room c.args.kind bytes c.args.start
+    let value = subst P (sym c.word_form_of.ensures) (number-value T c.args.room c.args.kind bytes c.args.start
     (c.args.tag % 8) c.in_ok-v.v c.in_ok-v.next found.0 c.requires.numeric c.in_ok-v.ensures.fits found.1 found.2)
     in
     let pushed = on-ok-has c.push_content.result _ _ c.in_ok-ok.ensures.value c.push_content.ensures in
     single-field T c.args.room c.args.label c.args.kind bytes c.args.tag c.args.start c.in_ok-v.next
-    (number c.word_of.result) old (node_of c.push_content.new.whole.items) c.requires.single value
+    (number c.word_form_of.result) old (node_of c.push_content.new.whole.items) c.requires.single value
     (pushed ∙ ap (λ o. join_fields old (with_content n o no_fields)) c.single_content.ensures)

@@ -1,6 +1,6 @@
 use Rattle.std.proofs.Common.{◌≡◌, ℕ, ◌-◌, ◌≤◌, List, length}
 use Rattle.mrpc_table.specs.View.{items_of}
-use Rattle.wire_decode.specs.Reads.{numbers}
+use Rattle.wire_decode.specs.RawMessages.{numbers}
 use Rattle.wire_decode.proofs.Elements.{SoFar}
 use Rattle.wire_decode.proofs.read.elements.Given as goal
 

@@ -23,7 +23,7 @@ loop-alloc-preserved g c =
       search rules,
       search rules,
       search rules,
-      all_push (IsFresh g.T.Visited.since g.T.Visited.over c.args.line.now) c.loop-alloc.jobs.items
+      all_push (IsFresh g.T.PoolItem.since g.T.PoolItem.over c.args.line.now) c.loop-alloc.jobs.items
           c.push_reserved.new.self.items c.share.result c.push_reserved.ensures.items i.7 c.share.ensures.fresh,
       all_push (Knows (view c.args.pass.now).firsts) c.loop-alloc.jobs.items c.push_reserved.new.self.items c.share.result c.push_reserved.ensures.items i.8 knows,
     )

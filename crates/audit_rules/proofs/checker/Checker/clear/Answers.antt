@@ -4,13 +4,13 @@ use Rattle.engine_core.specs.Answers.{redact}
 use Rattle.engine_core.specs.Chains.{Entry}
 use Rattle.engine_core.specs.declared.outcome.Outcome.{Outcome}
 use Rattle.engine_core.specs.declared.outcome.Outcome.TheVariants.{Redacted}
-use Rattle.call_history.specs.Rules.{Gives}
+use Rattle.call_history.specs.Rules.{IsAnswerInTrace}
 use Rattle.audit_rules.specs.Asking.{answer_of}
-use Rattle.audit_rules.specs.Knowing.{LeavesOpen, under}
+use Rattle.audit_rules.specs.CheckerState.{IsObligationAfter, checker_context}
 use Rattle.call_history.specs.declared.happening.Happening.{Happening}
 use Rattle.call_history.specs.declared.happening.Happening.TheVariants as happenings
-use Rattle.audit_rules.specs.declared.left.Left.{Left}
-use Rattle.audit_rules.specs.declared.left.Left.TheVariants.{Nothing}
+use Rattle.audit_rules.specs.declared.obligation.Obligation.{Obligation}
+use Rattle.audit_rules.specs.declared.obligation.Obligation.TheVariants.{Nothing}
 use Rattle.audit_rules.proofs.Due.{answer-redacted, met}
 use Rattle.audit_rules.proofs.Known.{asked-engine, asked-reached}
 use Rattle.audit_rules.proofs.Noting.{knows-cleared}
@@ -23,9 +23,9 @@ returns-in_default-clause-not_due c = λ past knows due. c.in_default.ensures.no
 pub returns-then-ne-clause-not_due : goal.returns-then-ne-clause-not_due
 returns-then-ne-clause-not_due c = λ past knows due.
     (let is = answer-redacted c.in-Some.asked.outcome
-    (met (under c.args.table.now c.args.self.now) past c.args.self.now.attached c.args.seq c.args.name.now
+    (met (checker_context c.args.table.now c.args.self.now) past c.args.self.now.attached c.args.seq c.args.name.now
     c.in-Some.asked c.args.self.now.calls c.ask.new.self.engines.items c.ask.new.self.calls
-    c.ask.new.self.reached.items (c.in-Some.ensures.asked past knows) c.one_answer.ensures.at_most redact refl
+    c.ask.new.self.reached.items (c.in-Some.ensures.asked past knows) c.answer_is_unique.ensures.at_most redact refl
     (record { entry = due.entry; at = due.at; gives = due.gives })) in
     grind (arith, common_steps, is, c.ne.ensures, c.if-ne.true))
 
@@ -55,7 +55,7 @@ returns-clause-due c = λ past knows.
     record {
       entry = asked.entry;
       at = asked.is_at;
-      gives = subst (λ (o : Outcome). Gives (under c.args.table.now c.args.self.now) past asked.entry c.args.seq (answer_of o)) is asked.gives;
+      gives = subst (λ (o : Outcome). IsAnswerInTrace (checker_context c.args.table.now c.args.self.now) past asked.entry c.args.seq (answer_of o)) is asked.gives;
       present = ap (λ (e : Entry). e.version) (sym there) ∙ (sym c.version.ensures ∙ c.if-version.false);
     })
 
@@ -72,7 +72,7 @@ returns-clause-knows c =
     knows-cleared c.args.table.now past c.args.self.now c.ask.new.self c.args.seq c.args.name.now c.in-Some.asked
     knows c.requires.free (c.in-Some.ensures.asked past knows) c.ask.ensures.rest c.ask.ensures.room
     c.ask.ensures.numbers c.ask.ensures.entries c.ask.ensures.of_table
-    (c.chain_goes_on.ensures.is_chain (under c.args.table.now c.args.self.now) past knows.row.prefix).names _ what
-    may c.args.version c.forms_go_on.ensures.cleared_another refl refl refl refl is
+    (c.chain_after_event.ensures.is_chain (checker_context c.args.table.now c.args.self.now) past knows.row.prefix).names _ what
+    may c.args.version c.forms_after_event.ensures.cleared_another refl refl refl refl is
     (ap (λ (e : Entry). e.version) (sym there) ∙ (sym c.version.ensures ∙ c.if-version.false))
-    (subst (λ (l : Left). LeavesOpen (what ∷ past) l) (sym (c.ask.ensures.left ∙ nothing)) (λ none. none, λ none. none)))
+    (subst (λ (l : Obligation). IsObligationAfter (what ∷ past) l) (sym (c.ask.ensures.left ∙ nothing)) (λ none. none, λ none. none)))

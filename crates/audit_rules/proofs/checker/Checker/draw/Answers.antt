@@ -6,13 +6,13 @@ use Rattle.engine_core.specs.Chains.{Chain, Entry}
 use Rattle.engine_core.specs.Engines.{EngineParts}
 use Rattle.engine_core.specs.Turns.{noted_in}
 use Rattle.engine_core.specs.declared.outcome.Noted.TheVariants as notes
-use Rattle.call_history.specs.Behind.{chain, policy_of}
+use Rattle.call_history.specs.Trace.{chain, policy_in_trace}
 use Rattle.call_history.specs.Rules.{cap_of}
 use Rattle.call_history.specs.declared.happening.Happening.{Happening}
 use Rattle.call_history.specs.declared.happening.Happening.TheVariants.{Drawn}
-use Rattle.audit_rules.specs.Knowing.{IsFree, LeavesOpen, under}
+use Rattle.audit_rules.specs.CheckerState.{HasNoMalformed, IsObligationAfter, checker_context}
 use Rattle.audit_rules.specs.declared.checker.Checker.{Checker}
-use Rattle.audit_rules.specs.declared.left.Left.TheVariants.{Nothing}
+use Rattle.audit_rules.specs.declared.obligation.Obligation.TheVariants.{Nothing}
 use Rattle.audit_rules.proofs.Draws.{due-drawn, policy-at}
 use Rattle.audit_rules.proofs.Due.{called-for, not-called, noted-answer}
 use Rattle.audit_rules.proofs.Known.{asked-latest, asked-reached, asked-some, latest-at, unmap-at}
@@ -25,9 +25,9 @@ returns-in_default-clause-not_due c = λ past knows due. c.in_default.ensures.no
 
 pub returns-then-ne-clause-not_due : goal.returns-then-ne-clause-not_due
 returns-then-ne-clause-not_due c = λ past knows due.
-    (let d = due-drawn (under c.args.table.now c.args.self.now) past c.args.self.now.attached c.args.seq c.args.name.now
+    (let d = due-drawn (checker_context c.args.table.now c.args.self.now) past c.args.self.now.attached c.args.seq c.args.name.now
     c.in-Some.asked c.args.self.now.calls c.ask_named.new.self.engines.items c.ask_named.new.self.calls
-    c.ask_named.new.self.reached.items (c.in-Some.ensures.asked past knows) c.one_answer.ensures.at_most c.args.window
+    c.ask_named.new.self.reached.items (c.in-Some.ensures.asked past knows) c.answer_is_unique.ensures.at_most c.args.window
     c.args.ticket due.meets in
     let given : d.0 ≡ c.args.ticket = c.in-Some.ensures.drawn c.args.window d.0 d.1 in
     let is : noted_in c.in-Some.asked.outcome ≡ notes.Drawn c.args.window c.args.ticket = d.1 ∙ ap (λ (t : ℕ). notes.Drawn c.args.window t) given in
@@ -42,16 +42,16 @@ is_next-requires c =
     (c.in-Some.ensures.asked past knows) knows in
     omega (arith, at, ap (λ v. length v.items) c.ask_named.ensures.latest)
 
-pub settle-requires-clause-engine : goal.settle-requires-clause-engine
-settle-requires-clause-engine c =
+pub record_ticket-requires-clause-engine : goal.record_ticket-requires-clause-engine
+record_ticket-requires-clause-engine c =
     let asked = c.in-Some.ensures.asked c.requires.knowing.0 c.requires.knowing.1 in
     omega (arith, asked.within, ap (λ (d : Checker). length d.engines.items) c.is_next.ensures.rest)
 
-pub settle-requires-clause-few : goal.settle-requires-clause-few
-settle-requires-clause-few c = omega (arith, c.ask_named.ensures.room.few_engines, ap (λ (d : Checker). length d.engines.items) c.is_next.ensures.rest)
+pub record_ticket-requires-clause-few : goal.record_ticket-requires-clause-few
+record_ticket-requires-clause-few c = omega (arith, c.ask_named.ensures.room.few_engines, ap (λ (d : Checker). length d.engines.items) c.is_next.ensures.rest)
 
-pub settle-requires-clause-place : goal.settle-requires-clause-place
-settle-requires-clause-place c = omega (
+pub record_ticket-requires-clause-place : goal.record_ticket-requires-clause-place
+record_ticket-requires-clause-place c = omega (
   arith,
   asked-reached c.args.table.now c.requires.knowing.0 c.args.self.now c.args.seq c.args.name.now c.in-Some.asked c.ask_named.new.self.engines.items c.ask_named.new.self.calls
       c.ask_named.new.self.reached.items (c.in-Some.ensures.asked c.requires.knowing.0 c.requires.knowing.1),
@@ -61,7 +61,7 @@ settle-requires-clause-place c = omega (
 pub returns-then-not-is_next-clause-not_due : goal.returns-then-not-is_next-clause-not_due
 returns-then-not-is_next-clause-not_due c = λ past knows due.
     (let more : c.args.seq ≤ get_or c.ask_named.new.self.latest.items c.in-Some.asked.at 0 = c.if-not-is_next.ensures.not_next in
-    not-called (under c.args.table.now c.args.self.now) past c.args.self.now.attached c.args.seq c.args.name.now
+    not-called (checker_context c.args.table.now c.args.self.now) past c.args.self.now.attached c.args.seq c.args.name.now
     c.in-Some.asked c.args.self.now.calls c.ask_named.new.self.engines.items c.ask_named.new.self.calls
     c.ask_named.new.self.reached.items (c.in-Some.ensures.asked past knows) (notes.Drawn c.args.window c.args.ticket)
     (get_or c.ask_named.new.self.latest.items c.in-Some.asked.at 0)
@@ -78,7 +78,7 @@ returns-clause-due c =
     let noted : noted_in c.in-Some.asked.outcome ≡ notes.Drawn c.args.window c.args.ticket = grind (arith, common_steps, c.noted_in.ensures, c.ne.ensures, c.if-ne.false) in
     λ past knows.
     (let less : get_or c.ask_named.new.self.latest.items c.in-Some.asked.at 0 < c.args.seq = c.if-not-is_next.ensures.next in
-    called-for (under c.args.table.now c.args.self.now) past c.args.self.now.attached c.args.seq c.args.name.now
+    called-for (checker_context c.args.table.now c.args.self.now) past c.args.self.now.attached c.args.seq c.args.name.now
     c.in-Some.asked c.args.self.now.calls c.ask_named.new.self.engines.items c.ask_named.new.self.calls
     c.ask_named.new.self.reached.items (c.in-Some.ensures.asked past knows) (notes.Drawn c.args.window c.args.ticket)
     (get_or c.ask_named.new.self.latest.items c.in-Some.asked.at 0)
@@ -105,11 +105,11 @@ returns-clause-knows c =
     λ past knows may.
     (let what : Happening = Drawn c.args.seq c.args.name.now c.args.window c.args.ticket in
     let asked = c.in-Some.ensures.asked past knows in
-    let distinct = (c.chain_goes_on.ensures.is_chain (under c.args.table.now c.args.self.now) past knows.row.prefix).names in
+    let distinct = (c.chain_after_event.ensures.is_chain (checker_context c.args.table.now c.args.self.now) past knows.row.prefix).names in
     let less : get_or c.ask_named.new.self.latest.items c.in-Some.asked.at 0 < c.args.seq = c.if-not-is_next.ensures.next in
     let nothing : c.args.self.now.left ≡ Nothing = not-left past what c.args.self.now.left knows.left may.malformed may.drawn_refused (λ s why refused. cc) in
     let kept : c.is_next.new.self.left ≡ Nothing = ap (λ (d : Checker). d.left) c.is_next.ensures.rest ∙ (c.ask_named.ensures.left ∙ nothing) in
-    let latest : c.settle.new.self.latest ≡ c.is_next.new.self.latest = ap (λ (d : Checker). d.latest) c.settle.ensures.rest in
+    let latest : c.record_ticket.new.self.latest ≡ c.is_next.new.self.latest = ap (λ (d : Checker). d.latest) c.record_ticket.ensures.rest in
     let places : c.is_next.new.self.reached ≡ c.ask_named.new.self.reached = ap (λ (d : Checker). d.reached) c.is_next.ensures.rest in
     let engines : c.is_next.new.self.engines ≡ c.ask_named.new.self.engines = ap (λ (d : Checker). d.engines) c.is_next.ensures.rest in
     let entries : map (λ (e : EngineParts). e.entry) c.is_next.new.self.engines.items ≡ (chain past).entries =
@@ -117,28 +117,28 @@ returns-clause-knows c =
     let engine = unmap-at (λ (e : EngineParts). e.entry) c.is_next.new.self.engines.items c.in-Some.asked.at asked.entry
     (subst (λ (xs : List Entry). slice_get xs c.in-Some.asked.at ≡ Some asked.entry) (sym entries) asked.is_entry) in
     let named : engine.0.entry.name ≡ c.args.name.now = ap (λ (e : Entry). e.name) engine.2 ∙ asked.is_at.named in
-    let policy : policy_of engine.0.entry.name past ≡ Some engine.0.entry.policy = policy-at past c.in-Some.asked.at asked.entry engine.0.entry.name distinct asked.is_entry
+    let policy : policy_in_trace engine.0.entry.name past ≡ Some engine.0.entry.policy = policy-at past c.in-Some.asked.at asked.entry engine.0.entry.name distinct asked.is_entry
     (sym (ap (λ (e : Entry). e.name) engine.2)) ∙ ap (λ (e : Entry). Some e.policy) (sym engine.2) in
     let there : slice_get (chain past).entries c.in-Some.asked.at ≡ Some engine.0.entry = asked.is_entry ∙ ap (λ (e : Entry). Some e) (sym engine.2) in
-    let opened : LeavesOpen (what ∷ past) c.settle.new.self.left =
-    subst (λ (name : List ℕ). LeavesOpen (Drawn c.args.seq name c.args.window c.args.ticket ∷ past) c.settle.new.self.left) named
-    (if-some (λ (e : EngineParts). policy_of e.entry.name past ≡ Some e.entry.policy → slice_get (chain past).entries c.in-Some.asked.at ≡ Some e.entry
-    → LeavesOpen (Drawn c.args.seq e.entry.name c.args.window c.args.ticket ∷ past) c.settle.new.self.left)
+    let opened : IsObligationAfter (what ∷ past) c.record_ticket.new.self.left =
+    subst (λ (name : List ℕ). IsObligationAfter (Drawn c.args.seq name c.args.window c.args.ticket ∷ past) c.record_ticket.new.self.left) named
+    (if-some (λ (e : EngineParts). policy_in_trace e.entry.name past ≡ Some e.entry.policy → slice_get (chain past).entries c.in-Some.asked.at ≡ Some e.entry
+    → IsObligationAfter (Drawn c.args.seq e.entry.name c.args.window c.args.ticket ∷ past) c.record_ticket.new.self.left)
     (slice_get c.is_next.new.self.engines.items c.in-Some.asked.at)
-    engine.0 engine.1 (c.settle.ensures.left past c.args.window kept) policy there) in
-    let further : (c.settle.new.self.reached.items ≡ c.ask_named.new.self.reached.items)
-    ⊎ ((c.settle.new.self.reached.items ≡ set c.ask_named.new.self.reached.items c.in-Some.asked.place (c.in-Some.asked.at + 1))
+    engine.0 engine.1 (c.record_ticket.ensures.left past c.args.window kept) policy there) in
+    let further : (c.record_ticket.new.self.reached.items ≡ c.ask_named.new.self.reached.items)
+    ⊎ ((c.record_ticket.new.self.reached.items ≡ set c.ask_named.new.self.reached.items c.in-Some.asked.place (c.in-Some.asked.at + 1))
     × ((cap : ℕ) → cap_of engine.0.entry.policy ≡ Some cap → c.args.ticket < cap)) =
-    further-at c.is_next.new.self.engines.items c.in-Some.asked.at engine.0 c.args.ticket engine.1 c.settle.new.self.reached.items
-    c.is_next.new.self.reached.items c.ask_named.new.self.reached.items c.in-Some.asked.place (ap (λ v. v.items) places) c.settle.ensures.reached in
+    further-at c.is_next.new.self.engines.items c.in-Some.asked.at engine.0 c.args.ticket engine.1 c.record_ticket.new.self.reached.items
+    c.is_next.new.self.reached.items c.ask_named.new.self.reached.items c.in-Some.asked.place (ap (λ v. v.items) places) c.record_ticket.ensures.reached in
     knows-noted c.args.table.now past c.args.self.now c.ask_named.new.self c.args.seq c.args.name.now c.in-Some.asked knows
     c.requires.free asked c.ask_named.ensures.rest c.ask_named.ensures.room c.ask_named.ensures.numbers c.ask_named.ensures.entries c.ask_named.ensures.of_table
-    distinct c.settle.new.self what may (notes.Drawn c.args.window c.args.ticket)
-    (settled-on c.ask_named.new.self c.is_next.new.self c.settle.new.self c.is_next.ensures.rest c.settle.ensures.rest)
+    distinct c.record_ticket.new.self what may (notes.Drawn c.args.window c.args.ticket)
+    (settled-on c.ask_named.new.self c.is_next.new.self c.record_ticket.new.self c.is_next.ensures.rest c.record_ticket.ensures.rest)
     (ap (λ v. v.items) latest ∙ c.if-not-is_next.ensures.latest) (ap (λ v. vec_capacity v) latest ∙ c.is_next.ensures.capacity) less
     (reaches-settled c.args.table.now past c.args.self.now c.ask_named.new.self c.args.seq c.args.name.now c.in-Some.asked knows
     c.requires.free asked c.ask_named.ensures.rest c.ask_named.ensures.room c.ask_named.ensures.numbers c.ask_named.ensures.entries c.ask_named.ensures.of_table
-    distinct c.settle.new.self what may c.args.window c.args.ticket engine.0 c.settle.new.self.reached.items engine.2 noted refl further)
-    (c.settle.ensures.capacity ∙ ap (λ v. deque_capacity v) places) noted (λ is. cc) refl
+    distinct c.record_ticket.new.self what may c.args.window c.args.ticket engine.0 c.record_ticket.new.self.reached.items engine.2 noted refl further)
+    (c.record_ticket.ensures.capacity ∙ ap (λ v. deque_capacity v) places) noted (λ is. cc) refl
     opened
-    (c.settle.ensures.free (subst IsFree (sym kept) tt)))
+    (c.record_ticket.ensures.free (subst HasNoMalformed (sym kept) tt)))

@@ -4,11 +4,11 @@ use Rattle.std.specs.VecDeque.{deque_capacity}
 use Rattle.std.proofs.lemmas.Grind.{common_steps}
 use Rattle.engine_core.specs.Turns.{noted_in}
 use Rattle.engine_core.specs.Marks.{seqs_of}
-use Rattle.audit_rules.specs.Asking.{LetsAll}
-use Rattle.audit_rules.specs.Knowing.{IsFree, LeavesOpen, under}
+use Rattle.audit_rules.specs.Asking.{HasPassedFirst}
+use Rattle.audit_rules.specs.CheckerState.{HasNoMalformed, IsObligationAfter, checker_context}
 use Rattle.audit_rules.specs.declared.checker.Checker.{Checker}
-use Rattle.audit_rules.specs.declared.left.Left.{Left}
-use Rattle.audit_rules.specs.declared.left.Left.TheVariants.{Nothing}
+use Rattle.audit_rules.specs.declared.obligation.Obligation.{Obligation}
+use Rattle.audit_rules.specs.declared.obligation.Obligation.TheVariants.{Nothing}
 use Rattle.audit_rules.proofs.Due.{answer-noted, called-for, met, not-called, noted-answer}
 use Rattle.audit_rules.proofs.Known.{asked-latest, asked-reached, asked-some, latest-at}
 use Rattle.audit_rules.proofs.Noting.{knows-noted, note-other, note-settles, noted-on, reaches-passed}
@@ -22,9 +22,9 @@ returns-in_default-clause-not_due c = λ past knows due. c.in_default.ensures.no
 pub returns-then-ne-clause-not_due : goal.returns-then-ne-clause-not_due
 returns-then-ne-clause-not_due c = λ past knows due.
     (let is = answer-noted c.in-Some.asked.outcome c.args.noted
-    (met (under c.args.table.now c.args.self.now) past c.args.self.now.attached c.args.seq c.args.name.now
+    (met (checker_context c.args.table.now c.args.self.now) past c.args.self.now.attached c.args.seq c.args.name.now
     c.in-Some.asked c.args.self.now.calls c.ask_named.new.self.engines.items c.ask_named.new.self.calls
-    c.ask_named.new.self.reached.items (c.in-Some.ensures.asked past knows) c.one_answer.ensures.at_most _
+    c.ask_named.new.self.reached.items (c.in-Some.ensures.asked past knows) c.answer_is_unique.ensures.at_most _
     c.requires.no_ticket due.meets) in
     grind (arith, common_steps, is, c.noted_in.ensures, c.ne.ensures, c.if-ne.true))
 
@@ -40,7 +40,7 @@ is_next-requires c =
 pub returns-then-not-is_next-clause-not_due : goal.returns-then-not-is_next-clause-not_due
 returns-then-not-is_next-clause-not_due c = λ past knows due.
     (let more : c.args.seq ≤ get_or c.ask_named.new.self.latest.items c.in-Some.asked.at 0 = c.if-not-is_next.ensures.not_next in
-    not-called (under c.args.table.now c.args.self.now) past c.args.self.now.attached c.args.seq c.args.name.now
+    not-called (checker_context c.args.table.now c.args.self.now) past c.args.self.now.attached c.args.seq c.args.name.now
     c.in-Some.asked c.args.self.now.calls c.ask_named.new.self.engines.items c.ask_named.new.self.calls
     c.ask_named.new.self.reached.items (c.in-Some.ensures.asked past knows) c.args.noted
     (get_or c.ask_named.new.self.latest.items c.in-Some.asked.at 0)
@@ -64,7 +64,7 @@ pub returns-clause-due : goal.returns-clause-due
 returns-clause-due c = λ past knows.
     (let less : get_or c.ask_named.new.self.latest.items c.in-Some.asked.at 0 < c.args.seq = c.if-not-is_next.ensures.next in
     let noted : noted_in c.in-Some.asked.outcome ≡ c.args.noted = grind (arith, common_steps, c.noted_in.ensures, c.ne.ensures, c.if-ne.false) in
-    called-for (under c.args.table.now c.args.self.now) past c.args.self.now.attached c.args.seq c.args.name.now
+    called-for (checker_context c.args.table.now c.args.self.now) past c.args.self.now.attached c.args.seq c.args.name.now
     c.in-Some.asked c.args.self.now.calls c.ask_named.new.self.engines.items c.ask_named.new.self.calls
     c.ask_named.new.self.reached.items (c.in-Some.ensures.asked past knows) c.args.noted
     (get_or c.ask_named.new.self.latest.items c.in-Some.asked.at 0)
@@ -80,7 +80,7 @@ returns-clause-knows c =
     λ past what knows is may.
     (let less : get_or c.ask_named.new.self.latest.items c.in-Some.asked.at 0 < c.args.seq = c.if-not-is_next.ensures.next in
     let asked = c.in-Some.ensures.asked past knows in
-    let distinct = (c.chain_goes_on.ensures.is_chain (under c.args.table.now c.args.self.now) past knows.row.prefix).names in
+    let distinct = (c.chain_after_event.ensures.is_chain (checker_context c.args.table.now c.args.self.now) past knows.row.prefix).names in
     let nothing : c.args.self.now.left ≡ Nothing =
     not-left past what c.args.self.now.left knows.left may.malformed may.drawn_refused
     (note-other past c.args.name.now c.args.seq c.args.noted what c.requires.noted is) in
@@ -90,11 +90,11 @@ returns-clause-knows c =
     c.requires.free asked c.ask_named.ensures.rest c.ask_named.ensures.room c.ask_named.ensures.numbers c.ask_named.ensures.entries c.ask_named.ensures.of_table
     distinct _ what may c.args.noted (noted-on c.ask_named.new.self c.is_next.new.self _ c.is_next.ensures.rest refl)
     c.if-not-is_next.ensures.latest c.is_next.ensures.capacity less
-    (subst (λ (rs : List ℕ). AllZip (LetsAll (under c.args.table.now c.args.self.now) (what ∷ past)) (seqs_of c.ask_named.new.self.calls)
+    (subst (λ (rs : List ℕ). AllZip (HasPassedFirst (checker_context c.args.table.now c.args.self.now) (what ∷ past)) (seqs_of c.ask_named.new.self.calls)
     (set rs c.in-Some.asked.place (c.in-Some.asked.at + 1))) (sym (ap (λ v. v.items) places))
     (reaches-passed c.args.table.now past c.args.self.now c.ask_named.new.self c.args.seq c.args.name.now c.in-Some.asked knows
     c.requires.free asked c.ask_named.ensures.rest c.ask_named.ensures.room c.ask_named.ensures.numbers c.ask_named.ensures.entries c.ask_named.ensures.of_table
     distinct c.ask_named.new.self what may c.args.noted noted c.requires.noted is (no-ticket asked.entry.policy c.args.noted c.requires.no_ticket)))
     (ap (λ v. deque_capacity v) places) noted c.requires.noted is
-    (subst (λ (l : Left). LeavesOpen (what ∷ past) l) (sym (kept ∙ nothing)) (note-settles past c.args.name.now c.args.seq c.args.noted what c.requires.noted c.requires.no_ticket is))
-    (subst IsFree (sym (kept ∙ nothing)) tt))
+    (subst (λ (l : Obligation). IsObligationAfter (what ∷ past) l) (sym (kept ∙ nothing)) (note-settles past c.args.name.now c.args.seq c.args.noted what c.requires.noted c.requires.no_ticket is))
+    (subst HasNoMalformed (sym (kept ∙ nothing)) tt))

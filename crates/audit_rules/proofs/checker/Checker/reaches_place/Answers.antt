@@ -5,8 +5,8 @@ use Rattle.engine_core.specs.Engines.{EngineParts}
 use Rattle.engine_core.specs.declared.TheConstants.{MAX_ENGINES}
 use Rattle.call_history.specs.Ties.{AreTied}
 use Rattle.engine_core.specs.Marks.{seqs_of}
-use Rattle.audit_rules.specs.Asking.{LetsAll}
-use Rattle.audit_rules.specs.Knowing.{under}
+use Rattle.audit_rules.specs.Asking.{HasPassedFirst}
+use Rattle.audit_rules.specs.CheckerState.{checker_context}
 use Rattle.audit_rules.proofs.Clocks.{written-back}
 use Rattle.audit_rules.proofs.Entries.{apart-rising, zip-at}
 use Rattle.audit_rules.proofs.Going.{latest-same}
@@ -28,23 +28,23 @@ reaches-requires-clause-of_table c = c.requires.known.2.knows.of_table
 
 pub returns-clause-passes : goal.returns-clause-passes
 returns-clause-passes c = λ past positions seq known there.
-    (let u = under c.args.table.now c.args.self.now in
+    (let u = checker_context c.args.table.now c.args.self.now in
     let apart = apart-rising 0 c.args.self.now.taken c.args.self.now.calls
     (known-rising c.args.table.now past (record c.args.self.now { told = 0; position = MAX_ENGINES }) known.knows
     known.settled) in
     c.reaches.ensures.passes u past c.args.self.now.attached seq known.knows.row.prefix (rw c.deref_mut.ensures.value known.knows.row.ties) apart known.knows.row.shows there
-    (subst (λ (r : ℕ). LetsAll u past seq r) (sym c.index-from.ensures)
-    (zip-at (LetsAll u past) (seqs_of c.args.self.now.calls) c.args.self.now.reached.items c.args.self.now.told seq c.index-from.result.now known.knows.row.reaches there)))
+    (subst (λ (r : ℕ). HasPassedFirst u past seq r) (sym c.index-from.ensures)
+    (zip-at (HasPassedFirst u past) (seqs_of c.args.self.now.calls) c.args.self.now.reached.items c.args.self.now.told seq c.index-from.result.now known.knows.row.reaches there)))
 
 pub returns-clause-stops : goal.returns-clause-stops
 returns-clause-stops c = λ past positions seq known there.
-    (let u = under c.args.table.now c.args.self.now in
+    (let u = checker_context c.args.table.now c.args.self.now in
     let apart = apart-rising 0 c.args.self.now.taken c.args.self.now.calls
     (known-rising c.args.table.now past (record c.args.self.now { told = 0; position = MAX_ENGINES }) known.knows
     known.settled) in
     c.reaches.ensures.stops u past c.args.self.now.attached seq known.knows.row.prefix (rw c.deref_mut.ensures.value known.knows.row.ties) apart known.knows.row.shows there
-    (subst (λ (r : ℕ). LetsAll u past seq r) (sym c.index-from.ensures)
-    (zip-at (LetsAll u past) (seqs_of c.args.self.now.calls) c.args.self.now.reached.items c.args.self.now.told seq c.index-from.result.now known.knows.row.reaches there)))
+    (subst (λ (r : ℕ). HasPassedFirst u past seq r) (sym c.index-from.ensures)
+    (zip-at (HasPassedFirst u past) (seqs_of c.args.self.now.calls) c.args.self.now.reached.items c.args.self.now.told seq c.index-from.result.now known.knows.row.reaches there)))
 
 pub returns-clause-entries : goal.returns-clause-entries
 returns-clause-entries c =
@@ -57,7 +57,7 @@ returns-clause-entries c =
 
 pub returns-clause-told : goal.returns-clause-told
 returns-clause-told c = λ past positions known. OnTrue_from c.reaches.result _ (λ on.
-    (let u = under c.args.table.now c.args.self.now in
+    (let u = checker_context c.args.table.now c.args.self.now in
     let apart = apart-rising 0 c.args.self.now.taken c.args.self.now.calls
     (known-rising c.args.table.now past (record c.args.self.now { told = 0; position = MAX_ENGINES }) known.knows
     known.settled) in
@@ -72,7 +72,7 @@ returns-clause-told c = λ past positions known. OnTrue_from c.reaches.result _ 
     record {
       knows = knows-worked c.args.table.now past past (record c.args.self.now { told = 0; position = MAX_ENGINES }) _ known.knows known.settled known.settled refl known.knows.row.prefix
           (subst (λ (es : List EngineParts). AreTied u.conn past es c.args.self.now.attached c.reaches.new.calls) (sym back) ties)
-          (subst (λ (ns : List ℕ). AllZip (LetsAll u past) ns c.args.self.now.reached.items)
+          (subst (λ (ns : List ℕ). AllZip (HasPassedFirst u past) ns c.args.self.now.reached.items)
           (sym c.reaches.ensures.numbers) known.knows.row.reaches) refl c.reaches.ensures.numbers refl refl
           (latest-same past c.args.self.now.engines.items _ c.args.self.now.latest.items entries known.knows.latest) refl known.knows.left c.reaches.ensures.of_table (omega arith) entries
           (record {

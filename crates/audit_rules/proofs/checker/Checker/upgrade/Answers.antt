@@ -4,7 +4,7 @@ use Rattle.engine_core.specs.Chains.{names_of}
 use Rattle.engine_core.specs.Engines.{EngineParts}
 use Rattle.engine_core.specs.Policies.{is_same_kind}
 use Rattle.engine_core.specs.declared.policy.Policy.{Policy}
-use Rattle.audit_rules.specs.Knowing.{under}
+use Rattle.audit_rules.specs.CheckerState.{checker_context}
 use Rattle.audit_rules.proofs.Asked.{All-at, map-at}
 use Rattle.audit_rules.proofs.Entries.{IsFound, found, none-found}
 use Rattle.audit_rules.proofs.Stepping.{entry-known, knows-upgraded, none-known, not-of-kind, not-upgraded, one-some, put-back, upgrade-keeps}
@@ -17,12 +17,12 @@ pub returns-in_default-clause-refuses : goal.returns-in_default-clause-refuses
 returns-in_default-clause-refuses c = λ T past label knows keeps.
     not-upgraded past c.args.name.now label c.args.policy (none-known T past c.args.self.now c.args.self.now knows c.args.name.now
     (subst (λ (es : List EngineParts). Contains (names_of (map (λ e. e.entry) es)) c.args.name.now → ⊥) c.deref.ensures.value
-    (none-found c.args.name.now c.deref.result.now (sym c.place_of.ensures ∙ c.in_default.is)))) keeps
+    (none-found c.args.name.now c.deref.result.now (sym c.position_of.ensures ∙ c.in_default.is)))) keeps
 
 pub returns-then-not-is_same_kind-clause-refuses : goal.returns-then-not-is_same_kind-clause-refuses
 returns-then-not-is_same_kind-clause-refuses c = λ T past label knows.
     (let it : IsFound c.args.name.now c.in-Some.at c.args.self.now.engines.items = subst (λ (es : List EngineParts). IsFound c.args.name.now c.in-Some.at es) c.deref.ensures.value
-    (found c.args.name.now c.in-Some.at c.deref.result.now (sym c.place_of.ensures ∙ c.in-Some.is)) in
+    (found c.args.name.now c.in-Some.at c.deref.result.now (sym c.position_of.ensures ∙ c.in-Some.is)) in
     let looked : slice_get c.args.self.now.engines.items c.in-Some.at ≡ Some c.index.result.now =
     there-at c.args.self.now.engines.items c.in-Some.at c.index.result.now it.within c.index.ensures in
     let same : it.engine ≡ c.index.result.now = one-some (slice_get c.args.self.now.engines.items c.in-Some.at) it.engine c.index.result.now it.at looked in
@@ -35,7 +35,7 @@ returns-then-not-is_same_kind-clause-refuses c = λ T past label knows.
 pub restore-requires-clause-kind : goal.restore-requires-clause-kind
 restore-requires-clause-kind c =
     let it : IsFound c.args.name.now c.in-Some.at c.args.self.now.engines.items = subst (λ (es : List EngineParts). IsFound c.args.name.now c.in-Some.at es) c.deref.ensures.value
-    (found c.args.name.now c.in-Some.at c.deref.result.now (sym c.place_of.ensures ∙ c.in-Some.is)) in
+    (found c.args.name.now c.in-Some.at c.deref.result.now (sym c.position_of.ensures ∙ c.in-Some.is)) in
     let looked : slice_get c.args.self.now.engines.items c.in-Some.at ≡ Some c.index.result.now =
     there-at c.args.self.now.engines.items c.in-Some.at c.index.result.now it.within c.index.ensures in
     let there : slice_get c.args.self.now.engines.items c.in-Some.at ≡ Some c.decompose-state.result =
@@ -47,7 +47,7 @@ restore-requires-clause-kind c =
 pub restore-requires-clause-number : goal.restore-requires-clause-number
 restore-requires-clause-number c =
     let it : IsFound c.args.name.now c.in-Some.at c.args.self.now.engines.items = subst (λ (es : List EngineParts). IsFound c.args.name.now c.in-Some.at es) c.deref.ensures.value
-    (found c.args.name.now c.in-Some.at c.deref.result.now (sym c.place_of.ensures ∙ c.in-Some.is)) in
+    (found c.args.name.now c.in-Some.at c.deref.result.now (sym c.position_of.ensures ∙ c.in-Some.is)) in
     let there : slice_get c.args.self.now.engines.items c.in-Some.at ≡ Some c.decompose-state.result =
     there-at c.args.self.now.engines.items c.in-Some.at c.remove.result it.within c.remove.ensures.value ∙ ap (λ (e : EngineParts). Some e) (sym c.decompose-state.ensures) in
     let past = c.requires.knowing.1.0 in
@@ -58,12 +58,12 @@ restore-requires-clause-number c =
 pub returns-clause-keeps : goal.returns-clause-keeps
 returns-clause-keeps c = λ T past label knows.
     (let it : IsFound c.args.name.now c.in-Some.at c.args.self.now.engines.items = subst (λ (es : List EngineParts). IsFound c.args.name.now c.in-Some.at es) c.deref.ensures.value
-    (found c.args.name.now c.in-Some.at c.deref.result.now (sym c.place_of.ensures ∙ c.in-Some.is)) in
+    (found c.args.name.now c.in-Some.at c.deref.result.now (sym c.position_of.ensures ∙ c.in-Some.is)) in
     let looked : slice_get c.args.self.now.engines.items c.in-Some.at ≡ Some c.index.result.now =
     there-at c.args.self.now.engines.items c.in-Some.at c.index.result.now it.within c.index.ensures in
     let same : it.engine ≡ c.index.result.now = one-some (slice_get c.args.self.now.engines.items c.in-Some.at) it.engine c.index.result.now it.at looked in
-    upgrade-keeps past c.change_is_changed.ensures.unless_refused
-    (c.chain_goes_on.ensures.is_chain (under T c.args.self.now) past knows.row.prefix) c.args.name.now label
+    upgrade-keeps past c.changed_is_the_change.ensures.unless_refused
+    (c.chain_after_event.ensures.is_chain (checker_context T c.args.self.now) past knows.row.prefix) c.args.name.now label
     c.args.policy c.in-Some.at
     it.engine.entry
     (entry-known T past c.args.self.now c.args.self.now knows c.in-Some.at it.engine.entry
@@ -74,19 +74,19 @@ returns-clause-keeps c = λ T past label knows.
 pub returns-clause-knows : goal.returns-clause-knows
 returns-clause-knows c = λ T past label knows may.
     (let it : IsFound c.args.name.now c.in-Some.at c.args.self.now.engines.items = subst (λ (es : List EngineParts). IsFound c.args.name.now c.in-Some.at es) c.deref.ensures.value
-    (found c.args.name.now c.in-Some.at c.deref.result.now (sym c.place_of.ensures ∙ c.in-Some.is)) in
+    (found c.args.name.now c.in-Some.at c.deref.result.now (sym c.position_of.ensures ∙ c.in-Some.is)) in
     let there : slice_get c.args.self.now.engines.items c.in-Some.at ≡ Some c.decompose-state.result =
     there-at c.args.self.now.engines.items c.in-Some.at c.remove.result it.within c.remove.ensures.value ∙ ap (λ (e : EngineParts). Some e) (sym c.decompose-state.ensures) in
     let same : c.decompose-state.result ≡ it.engine = one-some (slice_get c.args.self.now.engines.items c.in-Some.at) c.decompose-state.result it.engine there it.at in
     knows-upgraded T past c.args.self.now _ knows
-    (c.chain_goes_on.ensures.is_chain (under T c.args.self.now) past knows.row.prefix).names c.args.name.now
+    (c.chain_after_event.ensures.is_chain (checker_context T c.args.self.now) past knows.row.prefix).names c.args.name.now
     c.in-Some.at c.decompose-state.result there
     (entry-known T past c.args.self.now c.args.self.now knows c.in-Some.at c.decompose-state.result.entry
     (map-at (λ (e : EngineParts). e.entry) c.args.self.now.engines.items c.in-Some.at c.decompose-state.result there))
     (ap (λ (e : EngineParts). e.entry.name) same ∙ it.named) refl refl c.lower.ensures.items
-    (c.put.ensures.capacity ∙ c.remove.ensures.capacity) refl c.lower.ensures.capacity label c.args.policy
-    c.restore.result may c.ties_go_on.ensures.upgrades
-    (c.put.ensures.items
+    (c.insert_within_capacity.ensures.capacity ∙ c.remove.ensures.capacity) refl c.lower.ensures.capacity label c.args.policy
+    c.restore.result may c.ties_after_event.ensures.upgrades
+    (c.insert_within_capacity.ensures.items
     ∙ (ap (λ (es : List EngineParts). insert es c.in-Some.at c.restore.result) c.remove.ensures.items
     ∙ put-back c.args.self.now.engines.items c.in-Some.at c.restore.result it.within))
     refl c.restore.ensures.entry c.restore.ensures.level c.restore.ensures.last c.restore.ensures.stays_true)

@@ -1,5 +1,5 @@
 use Rattle.std.proofs.Common.{◌≡◌, ◌<◌, ℕ, List, length, refl, ap, sym, ◌∙◌, subst, slice_get, Some, vec_capacity}
-use Rattle.engine_core.specs.Marks.{StandingCall, seqs_of}
+use Rattle.engine_core.specs.Marks.{PendingCall, seqs_of}
 use Rattle.engine_core.specs.declared.outcome.Outcome.{Outcome}
 use Rattle.chain_upgrade.specs.Chains.{ChainParts, row_after}
 use Rattle.chain_upgrade.specs.Cuts.{row_from, taken_out}
@@ -27,7 +27,7 @@ drop_at-requires c = inside c.self.inside.engines.items (vec_capacity c.self.ins
 
 pub invariant_of-self-in-Refused : goal.invariant_of-self-in-Refused
 invariant_of-self-in-Refused c = (
-  kept-as _ _ _ _ _ _ _ _ _ refl refl c.drop_at.ensures c.take_out.ensures
+  kept-as _ _ _ _ _ _ _ _ _ refl refl c.drop_at.ensures c.remove_call.ensures
       (refused-kept c.self.inside.engines.items (vec_capacity c.self.inside.engines) c.self.inside.attached c.args.at c.args.place
       c.self.inside.row c.self.inside.cuts.behind c.args.self.now c.self.view_is c.self.invariant.0 c.requires.place c.requires.below),
   rw (c.drop_at.ensures, c.without-self-inside.ensures) (have-without c.self.inside.engines.items c.self.inside.stale c.args.place c.self.inside.row c.self.invariant.1),
@@ -52,8 +52,8 @@ returns-in-Passed-clause-row c s is =
 pub returns-in-Refused-clause-row : goal.returns-in-Refused-clause-row
 returns-in-Refused-clause-row c s is =
     let there : slice_get c.self.inside.row c.args.place ≡ Some s = ap (λ (v : ChainParts). slice_get v.calls c.args.place) c.self.view_is ∙ is in
-    ap (λ (cuts : List ℕ). row_from 0 cuts (seqs_of c.drop_at.new.self)) c.take_out.ensures
-    ∙ (ap (λ (calls : List StandingCall). row_from 0 (taken_out c.args.place c.self.inside.cuts.behind) (seqs_of calls)) c.drop_at.ensures
+    ap (λ (cuts : List ℕ). row_from 0 cuts (seqs_of c.drop_at.new.self)) c.remove_call.ensures
+    ∙ (ap (λ (calls : List PendingCall). row_from 0 (taken_out c.args.place c.self.inside.cuts.behind) (seqs_of calls)) c.drop_at.ensures
     ∙ (refused-row c.self.inside.engines.items (vec_capacity c.self.inside.engines) c.self.inside.attached c.args.at c.args.place
     c.self.inside.row c.self.inside.cuts.behind c.args.self.now c.self.view_is c.self.invariant.0 c.requires.place c.requires.below s there
     ∙ ap (λ (outcome : Outcome). row_after s.call.seq outcome c.args.self.now.row) (sym c.in-Refused.is)))

@@ -1,7 +1,7 @@
 use Rattle.std.proofs.Common.{◌≡◌, List, length, drop, slice_get, refl, ap, ◌∙◌, subst, arith, vec_capacity}
 use Rattle.std.proofs.lemmas.List.{length-set, take_at}
 use Rattle.engine_core.specs.Engines.{EngineParts}
-use Rattle.engine_core.specs.Working.{Works}
+use Rattle.engine_core.specs.Working.{HasWorked}
 use Rattle.chain_upgrade.specs.Chains.{ChainParts}
 use Rattle.chain_upgrade.proofs.AfterTurns.{work-kept, work-row}
 use Rattle.chain_upgrade.proofs.Keeping.{kept-as}
@@ -14,8 +14,8 @@ work-requires-clause-alone g c = where-behind c.self.inside.stale c.args.place (
 
 pub invariant_of-self : goal.invariant_of-self
 invariant_of-self g c =
-    let w : Works c.self.inside.engines.items c.self.inside.row c.args.at c.args.place c.args.now c.work.result c.work.new.engines c.work.new.self =
-    subst (λ (es : List EngineParts). Works es c.self.inside.row c.args.at c.args.place c.args.now c.work.result c.work.new.engines c.work.new.self)
+    let w : HasWorked c.self.inside.engines.items c.self.inside.row c.args.at c.args.place c.args.now c.work.result c.work.new.engines c.work.new.self =
+    subst (λ (es : List EngineParts). HasWorked es c.self.inside.row c.args.at c.args.place c.args.now c.work.result c.work.new.engines c.work.new.self)
     c.as_mut_slice.ensures.value c.work.ensures.works in
     let many : length c.work.new.engines ≡ c.self.inside.engines.len =
     omega (arith, ap (λ (es : List EngineParts). length es) w.others, length-set c.self.inside.engines.items c.args.at w.engine', c.self.inside.engines.ok.0) in (
@@ -30,8 +30,8 @@ invariant_of-self g c =
 
 pub returns-clause-row : goal.returns-clause-row
 returns-clause-row g c =
-    let w : Works c.self.inside.engines.items c.self.inside.row c.args.at c.args.place c.args.now c.work.result c.work.new.engines c.work.new.self =
-    subst (λ (es : List EngineParts). Works es c.self.inside.row c.args.at c.args.place c.args.now c.work.result c.work.new.engines c.work.new.self)
+    let w : HasWorked c.self.inside.engines.items c.self.inside.row c.args.at c.args.place c.args.now c.work.result c.work.new.engines c.work.new.self =
+    subst (λ (es : List EngineParts). HasWorked es c.self.inside.row c.args.at c.args.place c.args.now c.work.result c.work.new.engines c.work.new.self)
     c.as_mut_slice.ensures.value c.work.ensures.works in
     work-row c.self.inside.engines.items (vec_capacity c.self.inside.engines) c.self.inside.attached c.args.at c.args.place c.args.now
     c.self.inside.row c.self.inside.cuts.behind c.work.result c.work.new.engines c.work.new.self c.self.invariant.0 w c.args.self.now c.self.view_is

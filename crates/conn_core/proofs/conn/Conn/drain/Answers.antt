@@ -1,4 +1,4 @@
-use Rattle.conn_core.specs.Connections.{course}
+use Rattle.conn_core.specs.Connections.{conn_state}
 use Rattle.conn_core.proofs.TurnByTurn.{same-trans}
 use Rattle.conn_core.proofs.Whole.{begins, drains, draws-later, fails-in-drain, hands-from, settled}
 use Rattle.conn_core.proofs.conn.Conn.drain.Goals as goal
@@ -20,13 +20,13 @@ returns-clause-settled g c =
 
 pub returns-clause-failed : goal.returns-clause-failed
 returns-clause-failed g c =
-    λ is. fails-in-drain g.L.Link.refused g.L.Link.handed g.L.Link.faults g.L.Link.since c.args.self.now
+    λ is. fails-in-drain g.L.Link.refused g.L.Link.handed g.L.Link.failures g.L.Link.since c.args.self.now
     c.pass_all.new.conn c.send_all-drained.new.conn c.args.link.now c.send_all-drained.new.link
     c.pass_all.ensures.went.same c.pass_all.ensures.passes (c.send_all-drained.ensures.failed is)
 
 pub returns-clause-memory : goal.returns-clause-memory
 returns-clause-memory g c =
-    λ is. begins c.args.self.now c.pass_all.new.conn (course c.send_all-drained.new.conn) c.pass_all.ensures.went.same
+    λ is. begins c.args.self.now c.pass_all.new.conn (conn_state c.send_all-drained.new.conn) c.pass_all.ensures.went.same
     c.pass_all.ensures.passes
     (c.send_all-drained.ensures.memory is)
 

@@ -1,6 +1,6 @@
 use Rattle.std.proofs.Common.{◌≡◌, List, Some, length, set, slice_get, refl, ap, arith}
 use Rattle.std.proofs.lemmas.Option.{slice_get_read}
-use Rattle.engine_core.specs.Marks.{StandingCall}
+use Rattle.engine_core.specs.Marks.{PendingCall}
 use Rattle.engine_core.proofs.Passing.{seen-at, then-true, works-unnoted}
 use Rattle.engine_core.proofs.call_row.CallRow.pass_unnoted.Goals as goal
 
@@ -27,5 +27,5 @@ returns-clause-passed c =
     c.index-engines-at.result c.index_mut-call.result.now c.pass_unnoted.new.call
     (slice_get_read c.args.engines.now (length c.args.engines.now) c.args.at c.index-engines-at.result refl c.requires.engine
     c.index-engines-at.is) seen (c.requires.marks c.index_mut-call.result.now seen)
-    (ap (λ (calls : List StandingCall). set calls c.args.place c.pass_unnoted.new.call) c.self.view_is) (steps moment))
+    (ap (λ (calls : List PendingCall). set calls c.args.place c.pass_unnoted.new.call) c.self.view_is) (steps moment))
     c.pass_unnoted.ensures.passed

@@ -13,7 +13,7 @@ receive-tells g c =
       ends = λ _. c.ensures.ended;
       same_ended = λ other. absurd (other c.ensures.end);
       same_handed = c.ensures.same_handed;
-      same_link = λ first h. idle-later g.W.Sink.written g.W.Sink.faults first c.args.self.now c.new.self.now h
+      same_link = λ first h. idle-later g.W.Sink.written g.W.Sink.failures first c.args.self.now c.new.self.now h
           c.ensures.same_sink c.ensures.same_handed same_faults c.ensures.untouched;
       idle = λ e. cc;
       end = λ _. tt;
@@ -26,7 +26,7 @@ send-tells g c = record {
   kept = c.ensures.kept;
   same_given = refl;
   same_ended = c.ensures.same_ended;
-  same_link = λ first h. sent-later g.W.Sink.written g.W.Sink.faults first c.args.self.now c.new.self.now c.args.frame.now c.result h
+  same_link = λ first h. sent-later g.W.Sink.written g.W.Sink.failures first c.args.self.now c.new.self.now c.args.frame.now c.result h
       c.ensures.same_sink c.ensures.appended c.ensures.kept c.ensures.done c.ensures.counted c.ensures.cause c.ensures.raised
       c.ensures.memory;
   refused = λ failed. record {

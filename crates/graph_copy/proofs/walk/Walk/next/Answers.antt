@@ -1,5 +1,5 @@
 use Rattle.std.proofs.Common.{sym, subst, ◌∙◌}
-use Rattle.graph_copy.specs.Expects.{expected, frame_words, stack_words, AllFit}
+use Rattle.graph_copy.specs.Expected.{expected, frame_words, stack_words, AreInHeap}
 use Rattle.graph_copy.proofs.Fitting.{all_fit_left}
 use Rattle.graph_copy.proofs.Stacking.{stack_pop, first_found, none_found}
 use Rattle.graph_copy.proofs.walk.Walk.next.Goals as goal
@@ -8,8 +8,8 @@ pub open-requires-clause-fits : goal.open-requires-clause-fits
 open-requires-clause-fits c =
     let T = c.args.table.now in
     let all = stack_pop T c.loop-frame.self.frames c.pop.new.self c.in-Some-pop.frame (expected T c.args.self.now) c.in-Some-pop.ensures.some c.loop-frame.invariant.words in
-    let fits = subst (AllFit c.args.self.now.size) (sym all) c.requires.fits in
-    subst (λ H. AllFit H (frame_words T c.in-Some-pop.frame)) (sym c.loop-frame.invariant.size)
+    let fits = subst (AreInHeap c.args.self.now.size) (sym all) c.requires.fits in
+    subst (λ H. AreInHeap H (frame_words T c.in-Some-pop.frame)) (sym c.loop-frame.invariant.size)
     (all_fit_left c.args.self.now.size (frame_words T c.in-Some-pop.frame) (stack_words T c.pop.new.self) fits)
 
 pub returns-in-Some-2-clause-word : goal.returns-in-Some-2-clause-word

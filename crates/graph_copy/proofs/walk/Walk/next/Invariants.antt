@@ -1,5 +1,5 @@
 use Rattle.std.proofs.Common.{◌≡◌, length, None}
-use Rattle.graph_copy.specs.Expects.{expected, stack_words}
+use Rattle.graph_copy.specs.Expected.{expected, stack_words}
 use Rattle.graph_copy.proofs.walk.Walk.next.Given as goal
 
 -- the popped frames have no words

@@ -1,5 +1,5 @@
 use Rattle.std.proofs.Common.{ap, ◌∙◌}
-use Rattle.graph_copy.specs.Expects.{stack_words}
+use Rattle.graph_copy.specs.Expected.{stack_words}
 use Rattle.graph_copy.proofs.Stacking.{stack_push}
 use Rattle.graph_copy.proofs.walk.Walk.push.Goals as goal
 

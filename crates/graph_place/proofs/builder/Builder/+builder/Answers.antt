@@ -10,7 +10,7 @@ use Rattle.mrpc_table.specs.Words.{key_kind}
 use Rattle.mrpc_table.specs.Weight.{weight, content_weight, item_weight, items_weight, pairs_weight}
 use Rattle.mrpc_table.specs.declared.tree.FieldValue.{FieldValue}
 use Rattle.mrpc_table.specs.declared.tree.Value.{Value}
-use Rattle.graph_form.specs.Roles.{oneofs_of, is_member, run_words}
+use Rattle.graph_form.specs.Roles.{oneof_count, is_member, run_words}
 use Rattle.graph_place.specs.Laid.{is_member_at}
 use Rattle.graph_place.specs.Size.{item_words, content_words, many_words, pairs_words}
 use Rattle.graph_place.specs.declared.builder.Builder.{Builder}
@@ -122,55 +122,55 @@ cases-loop-oneof-init t c =
 pub cases-case-requires : goal.cases-case-requires
 cases-case-requires t c =
     let fits = case_fits c.args.table.now (fields_of c.args.table.now c.args.message) c.args.tree.now
-    (oneofs_of c.args.table.now c.args.message) c.args.at c.args.self.now.free c.args.self.now.words.items
+    (oneof_count c.args.table.now c.args.message) c.args.at c.args.self.now.free c.args.self.now.words.items
     c.loop-oneof.oneof c.loop-oneof.place c.loop-oneof.self.free
     (get_or c.members_of-members.result c.loop-oneof.oneof 0) c.loop-oneof.self.words.items c.requires.fields
     c.requires.oneofs c.requires.from_one c.requires.slots c.requires.room
-    (omega (arith, c.loop-oneof-test.true, c.oneofs_of-oneof-end.ensures.number)) (c.members_of-members.ensures c.loop-oneof.oneof) c.loop-oneof.invariant in
+    (omega (arith, c.loop-oneof-test.true, c.oneof_count-oneof-end.ensures.number)) (c.members_of-members.ensures c.loop-oneof.oneof) c.loop-oneof.invariant in
     (omega (arith, c.decreases), (c.requires.valid, (c.requires.fields, (fits.known, (fits.from, (fits.slot, fits.room))))))
 
 pub cases-overflow_add-place : goal.cases-overflow_add-place
 cases-overflow_add-place t c =
     let fits = case_fits c.args.table.now (fields_of c.args.table.now c.args.message) c.args.tree.now
-    (oneofs_of c.args.table.now c.args.message) c.args.at c.args.self.now.free c.args.self.now.words.items
+    (oneof_count c.args.table.now c.args.message) c.args.at c.args.self.now.free c.args.self.now.words.items
     c.loop-oneof.oneof c.loop-oneof.place c.loop-oneof.self.free
     (get_or c.members_of-members.result c.loop-oneof.oneof 0) c.loop-oneof.self.words.items c.requires.fields
     c.requires.oneofs c.requires.from_one c.requires.slots c.requires.room
-    (omega (arith, c.loop-oneof-test.true, c.oneofs_of-oneof-end.ensures.number)) (c.members_of-members.ensures c.loop-oneof.oneof) c.loop-oneof.invariant in
+    (omega (arith, c.loop-oneof-test.true, c.oneof_count-oneof-end.ensures.number)) (c.members_of-members.ensures c.loop-oneof.oneof) c.loop-oneof.invariant in
     omega (arith, fits.slot, fits.room)
 
 pub cases-loop-oneof-preserved : goal.cases-loop-oneof-preserved
 cases-loop-oneof-preserved t c =
     cases_step c.args.table.now (fields_of c.args.table.now c.args.message) c.args.tree.now
-    (oneofs_of c.args.table.now c.args.message) c.args.at c.args.self.now.free c.args.self.now.words.items
+    (oneof_count c.args.table.now c.args.message) c.args.at c.args.self.now.free c.args.self.now.words.items
     c.loop-oneof.oneof c.loop-oneof.place (c.loop-oneof.place + 3) c.loop-oneof.self.free c.case.new.self.free
     (get_or c.members_of-members.result c.loop-oneof.oneof 0) c.loop-oneof.self.words.items
     c.case.new.self.words.items
     c.requires.fields c.requires.oneofs c.requires.slots
-    (omega (arith, c.loop-oneof-test.true, c.oneofs_of-oneof-end.ensures.number))
+    (omega (arith, c.loop-oneof-test.true, c.oneof_count-oneof-end.ensures.number))
     (c.members_of-members.ensures c.loop-oneof.oneof) refl c.loop-oneof.invariant c.in_ok-case.ensures.free
     c.in_ok-case.ensures.puts
 
 pub cases-returns-clause-free : goal.cases-returns-clause-free
 cases-returns-clause-free t c =
-    let none : oneofs_of c.args.table.now c.args.message - c.loop-oneof.oneof ≡ 0 = omega (arith, c.loop-oneof-test.false, c.oneofs_of-oneof-end.ensures.number) in
+    let none : oneof_count c.args.table.now c.args.message - c.loop-oneof.oneof ≡ 0 = omega (arith, c.loop-oneof-test.false, c.oneof_count-oneof-end.ensures.number) in
     let last = subst (λ n. CasesOn c.args.table.now (fields_of c.args.table.now c.args.message) c.args.tree.now
-    (oneofs_of c.args.table.now c.args.message) c.args.at c.args.self.now.free c.args.self.now.words.items
+    (oneof_count c.args.table.now c.args.message) c.args.at c.args.self.now.free c.args.self.now.words.items
     c.loop-oneof.oneof n c.loop-oneof.place c.loop-oneof.self.free c.loop-oneof.self.words.items) none
     c.loop-oneof.invariant in
     cases_free c.args.table.now (fields_of c.args.table.now c.args.message) c.args.tree.now
-    (oneofs_of c.args.table.now c.args.message) c.args.at c.args.self.now.free c.args.self.now.words.items
+    (oneof_count c.args.table.now c.args.message) c.args.at c.args.self.now.free c.args.self.now.words.items
     c.loop-oneof.oneof c.loop-oneof.place c.loop-oneof.self.free c.loop-oneof.self.words.items last
 
 pub cases-returns-clause-puts : goal.cases-returns-clause-puts
 cases-returns-clause-puts t c =
-    let none : oneofs_of c.args.table.now c.args.message - c.loop-oneof.oneof ≡ 0 = omega (arith, c.loop-oneof-test.false, c.oneofs_of-oneof-end.ensures.number) in
+    let none : oneof_count c.args.table.now c.args.message - c.loop-oneof.oneof ≡ 0 = omega (arith, c.loop-oneof-test.false, c.oneof_count-oneof-end.ensures.number) in
     let last = subst (λ n. CasesOn c.args.table.now (fields_of c.args.table.now c.args.message) c.args.tree.now
-    (oneofs_of c.args.table.now c.args.message) c.args.at c.args.self.now.free c.args.self.now.words.items
+    (oneof_count c.args.table.now c.args.message) c.args.at c.args.self.now.free c.args.self.now.words.items
     c.loop-oneof.oneof n c.loop-oneof.place c.loop-oneof.self.free c.loop-oneof.self.words.items) none
     c.loop-oneof.invariant in
     cases_end c.args.table.now (fields_of c.args.table.now c.args.message) c.args.tree.now
-    (oneofs_of c.args.table.now c.args.message) c.args.at c.args.self.now.free c.args.self.now.words.items
+    (oneof_count c.args.table.now c.args.message) c.args.at c.args.self.now.free c.args.self.now.words.items
     c.loop-oneof.oneof c.loop-oneof.place c.loop-oneof.self.free c.loop-oneof.self.words.items last
 
 pub elements-overflow_mul-len : goal.elements-overflow_mul-len

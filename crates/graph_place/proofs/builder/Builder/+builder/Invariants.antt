@@ -2,7 +2,7 @@ use Rattle.std.proofs.Common.{◌+◌, ◌-◌, ◌*◌, drop}
 use Rattle.mrpc_table.specs.Normal.{fields_of}
 use Rattle.mrpc_table.specs.View.{item_of, items_of, pairs_of, content_of}
 use Rattle.mrpc_table.specs.Weight.{weight, content_weight, item_weight, items_weight, pairs_weight}
-use Rattle.graph_form.specs.Roles.{oneofs_of}
+use Rattle.graph_form.specs.Roles.{oneof_count}
 use Rattle.graph_place.proofs.Lists.{ElementsOn, EntriesOn}
 use Rattle.graph_place.proofs.Slots.{SlotsOn, CasesOn}
 use Rattle.graph_place.proofs.builder.Builder.+builder.Given as goal
@@ -15,8 +15,8 @@ invariant-slots-loop-field l =
 
 -- the slots of the oneofs so far are placed
 abbrev pub invariant-cases-loop-oneof : goal.invariant-cases-loop-oneof
-invariant-cases-loop-oneof l = CasesOn l.table (fields_of l.table l.message) l.tree (oneofs_of l.table l.message) l.at
-    l.fn.self.free l.fn.self.words.items l.oneof (oneofs_of l.table l.message - l.oneof) l.place l.self.free
+invariant-cases-loop-oneof l = CasesOn l.table (fields_of l.table l.message) l.tree (oneof_count l.table l.message) l.at
+    l.fn.self.free l.fn.self.words.items l.oneof (oneof_count l.table l.message - l.oneof) l.place l.self.free
     l.self.words.items
 
 abbrev pub invariant-elements-loop-value : goal.invariant-elements-loop-value

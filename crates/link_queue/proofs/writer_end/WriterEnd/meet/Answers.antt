@@ -1,12 +1,12 @@
 use Rattle.std.proofs.Common.{List, ℕ, ap, sym, ◌∙◌, subst}
 use mathlib.Core.List.{IsPrefix}
 use Rattle.spsc_queue.specs.declared.piece.Piece.{Piece}
-use Rattle.spsc_queue.specs.Ends.{put_of, taken_of}
-use Rattle.spsc_queue.specs.Pieces.{bytes_of}
-use Rattle.spsc_queue.specs.Readers.{given_by, taken_by}
-use Rattle.link_queue.specs.declared.marks.Order.{Order}
-use Rattle.link_queue.specs.declared.marks.News.{News}
-use Rattle.link_queue.specs.Inners.{passed_on}
+use Rattle.spsc_queue.specs.Ends.{pushed_of, popped_of}
+use Rattle.spsc_queue.specs.Pieces.{bytes_of_pieces}
+use Rattle.spsc_queue.specs.Readers.{delivered_by, popped_by}
+use Rattle.link_queue.specs.declared.orders.Order.{Order}
+use Rattle.link_queue.specs.declared.orders.News.{News}
+use Rattle.link_queue.specs.Inners.{forwarded}
 use Rattle.link_queue.proofs.Meeting.{raised_rose, passed_in_order, passed_whole, came_in_order, came_whole, ended_first, failed_first}
 use Rattle.link_queue.proofs.writer_end.WriterEnd.meet.Goals as goal
 
@@ -15,15 +15,15 @@ returns-clause-in_order g c =
     let w = c.args.self.now in
     let e = c.meet.ensures in
     let to = subst (λ (p : List (Piece Order) × List (Piece Order)). IsPrefix p.0 p.1) (λ i. (e.taken i, e.put i)) e.in_order in
-    subst (λ (l : List (List ℕ)). IsPrefix (passed_on w.inner) l) (ap (λ v. v.handed) c.passed.view_is)
-    (passed_in_order (taken_of w.orders) (put_of c.passed.inside.out) (passed_on w.inner) w.inner.health w.passes c.passed.invariant.closed_last to)
+    subst (λ (l : List (List ℕ)). IsPrefix (forwarded w.inner) l) (ap (λ v. v.handed) c.passed.view_is)
+    (passed_in_order (popped_of w.orders) (pushed_of c.passed.inside.out) (forwarded w.inner) w.inner.health w.passes c.passed.invariant.closed_last to)
 
 pub returns-clause-all_handed : goal.returns-clause-all_handed
 returns-clause-all_handed g c = λ well ample.
     let w = c.args.self.now in
     let e = c.meet.ensures in
     let to = subst (λ (p : List (Piece Order) × List (Piece Order)). IsPrefix p.0 p.1) (λ i. (e.taken i, e.put i)) e.in_order in
-    passed_whole (taken_of w.orders) (put_of c.passed.inside.out) (passed_on w.inner) w.inner.health w.passes c.passed.invariant.closed_last to
+    passed_whole (popped_of w.orders) (pushed_of c.passed.inside.out) (forwarded w.inner) w.inner.health w.passes c.passed.invariant.closed_last to
     well ample
     ∙ ap (λ v. v.handed) c.passed.view_is
 
@@ -31,9 +31,9 @@ pub returns-clause-came : goal.returns-clause-came
 returns-clause-came g c =
     let w = c.args.self.now in
     let e = c.meet-2.ensures in
-    let given = subst (λ (p : List ℕ × List (Piece News)). IsPrefix p.0 (bytes_of p.1)) (λ i. (e.given i, e.put i)) e.bytes in
+    let given = subst (λ (p : List ℕ × List (Piece News)). IsPrefix p.0 (bytes_of_pieces p.1)) (λ i. (e.given i, e.put i)) e.bytes in
     subst (λ (l : List ℕ). IsPrefix l w.inner.came.bytes) (ap (λ v. v.given) c.passed.view_is)
-    (came_in_order (given_by c.passed.inside.incoming) w.inner.came.bytes (put_of w.out) w.inner.ended w.inner.health w.brings given)
+    (came_in_order (delivered_by c.passed.inside.incoming) w.inner.came.bytes (pushed_of w.out) w.inner.ended w.inner.health w.brings given)
 
 pub returns-clause-all_came : goal.returns-clause-all_came
 returns-clause-all_came g c = λ ended.
@@ -42,8 +42,8 @@ returns-clause-all_came g c = λ ended.
     let back = subst (λ (p : List (Piece News) × List (Piece News)). IsPrefix p.0 p.1) (λ i. (e.taken i, e.put i)) e.in_order in
     let was = ap (λ v. v.ended) c.passed.view_is ∙ ended in
     ap (λ v. v.given) (sym c.passed.view_is)
-    ∙ came_whole (given_by c.passed.inside.incoming) w.inner.came.bytes (taken_by c.passed.inside.incoming)
-    (put_of w.out) w.inner.ended w.inner.health w.brings back (c.passed.invariant.ends was)
+    ∙ came_whole (delivered_by c.passed.inside.incoming) w.inner.came.bytes (popped_by c.passed.inside.incoming)
+    (pushed_of w.out) w.inner.ended w.inner.health w.brings back (c.passed.invariant.ends was)
     (c.passed.invariant.gave was)
 
 pub returns-clause-ended : goal.returns-clause-ended
@@ -52,7 +52,7 @@ returns-clause-ended g c = λ ended.
     let e = c.meet-2.ensures in
     let back = subst (λ (p : List (Piece News) × List (Piece News)). IsPrefix p.0 p.1) (λ i. (e.taken i, e.put i)) e.in_order in
     let was = ap (λ v. v.ended) c.passed.view_is ∙ ended in
-    w.inner.has_ended (ended_first w.inner.came.bytes (taken_by c.passed.inside.incoming) (put_of w.out) w.inner.ended w.inner.health w.brings back (c.passed.invariant.ends was))
+    w.inner.has_ended (ended_first w.inner.came.bytes (popped_by c.passed.inside.incoming) (pushed_of w.out) w.inner.ended w.inner.health w.brings back (c.passed.invariant.ends was))
 
 pub returns-clause-failed : goal.returns-clause-failed
 returns-clause-failed g c = λ failed.
@@ -60,9 +60,9 @@ returns-clause-failed g c = λ failed.
     let e = c.meet-2.ensures in
     let back = subst (λ (p : List (Piece News) × List (Piece News)). IsPrefix p.0 p.1) (λ i. (e.taken i, e.put i)) e.in_order in
     let fails = c.passed.invariant.fails (ap (λ v. v.failed) c.passed.view_is ∙ failed) in
-    failed_first w.inner.came.bytes (taken_by c.passed.inside.incoming) (put_of w.out) w.inner.ended w.inner.health w.brings back fails
+    failed_first w.inner.came.bytes (popped_by c.passed.inside.incoming) (pushed_of w.out) w.inner.ended w.inner.health w.brings back fails
 
 pub returns-clause-rose : goal.returns-clause-rose
 returns-clause-rose g c = λ fails.
     let w = c.args.self.now in
-    raised_rose (g.L.Link.faults w.inner.link.start) (g.L.Link.faults w.inner.link.now) (w.inner.failed fails)
+    raised_rose (g.L.Link.failures w.inner.link.start) (g.L.Link.failures w.inner.link.now) (w.inner.failed fails)

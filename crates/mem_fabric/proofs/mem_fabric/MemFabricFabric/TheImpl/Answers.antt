@@ -18,5 +18,5 @@ pub keep-tells : goal.keep-tells
 keep-tells g link c = record {
   back = c.ensures.back;
   away = c.ensures.away;
-  same_faults = ap (λ f. f.faults) c.ensures.same;
+  same_faults = ap (λ f. f.failures) c.ensures.same;
 }

@@ -1,5 +1,5 @@
 use Rattle.std.proofs.Common.{ap, refl, sym, subst, false, ◌∙◌}
-use Rattle.spsc_queue.specs.Pieces.{bytes_of, frames_of}
+use Rattle.spsc_queue.specs.Pieces.{bytes_of_pieces, frames_of_pieces}
 use Rattle.mem_fabric.specs.Pair.{IsOutgoing}
 use Rattle.mem_fabric.proofs.pair_link.PairLink.new.Goals as goal
 
@@ -13,4 +13,4 @@ invariant_of-result g c = (
 
 pub returns : goal.returns
 returns g c =
-    cc (ap frames_of c.requires.put, c.new.ensures.given, ap bytes_of (c.new.ensures.told ∙ c.requires.told), c.new.ensures.queue)
+    cc (ap frames_of_pieces c.requires.put, c.new.ensures.given, ap bytes_of_pieces (c.new.ensures.told ∙ c.requires.told), c.new.ensures.queue)

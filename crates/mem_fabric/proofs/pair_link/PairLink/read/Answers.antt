@@ -1,5 +1,5 @@
 use Rattle.std.proofs.Common.{ap, sym, subst, refl, ◌∙◌}
-use Rattle.spsc_queue.specs.Readers.{given_by, taken_by, told_by}
+use Rattle.spsc_queue.specs.Readers.{delivered_by, popped_by, known_pushed_by}
 use Rattle.mem_fabric.specs.Pair.{IsOutgoing}
 use Rattle.mem_fabric.proofs.Outgoing.{ends_with_all, finds_all}
 use Rattle.mem_fabric.proofs.pair_link.PairLink.read.Goals as goal
@@ -24,15 +24,15 @@ invariant_of-self-in-Nothing g c =
       inv.3,
     )
 
-pub invariant_of-self-in-Mark : goal.invariant_of-self-in-Mark
-invariant_of-self-in-Mark g c =
+pub invariant_of-self-in-Sentinel : goal.invariant_of-self-in-Sentinel
+invariant_of-self-in-Sentinel g c =
     let inv = c.self.invariant in
     let before = c.self.inside.incoming in
     let after = c.read.new.self in
-    let e = c.in-Mark.ensures in (
+    let e = c.in-Sentinel.ensures in (
       inv.0,
       (inv.1.0, subst (IsOutgoing inv.1.0) (sym e.told) inv.1.1),
-      λ _. ends_with_all inv.1.0 (told_by before) (told_by after) (taken_by before) (taken_by after) (given_by after) c.in-Mark.field-0 inv.1.1 e.told e.mark e.agree e.all,
+      λ _. ends_with_all inv.1.0 (known_pushed_by before) (known_pushed_by after) (popped_by before) (popped_by after) (delivered_by after) c.in-Sentinel.field-0 inv.1.1 e.told e.mark e.agree e.all,
       inv.3,
     )
 
@@ -64,13 +64,13 @@ returns-in-Nothing g c =
       same = refl;
     })
 
-pub returns-in-Mark : goal.returns-in-Mark
-returns-in-Mark g c =
+pub returns-in-Sentinel : goal.returns-in-Sentinel
+returns-in-Sentinel g c =
     let inv = c.self.invariant in
     let before = c.self.inside.incoming in
     let after = c.read.new.self in
-    let e = c.in-Mark.ensures in
-    let all = ends_with_all inv.1.0 (told_by before) (told_by before) (taken_by before) (taken_by after) (given_by after) c.in-Mark.field-0 inv.1.1 refl e.mark e.agree e.all in
+    let e = c.in-Sentinel.ensures in
+    let all = ends_with_all inv.1.0 (known_pushed_by before) (known_pushed_by before) (popped_by before) (popped_by after) (delivered_by after) c.in-Sentinel.field-0 inv.1.1 refl e.mark e.agree e.all in
     rw (e.told, e.queue, ← c.self.view_is) (record {
       answer = (λ x. cc (x), λ x. cc (x));
       count = tt;

@@ -17,7 +17,7 @@ returns-then-receive_fails g c =
       idle = λ e. absurd (cc (e));
       end = λ e. absurd (cc (e));
       receives = refl;
-      faults = λ _. refl;
+      failures = λ _. refl;
       cause = failed_cause _ _ refl (calls.never_falls refl);
       same = refl;
     })
@@ -37,7 +37,7 @@ returns-then-self g c =
       idle = λ e. absurd (cc (e));
       end = λ _. (c.self.invariant.2 c.if-self.true).knows;
       receives = refl;
-      faults = λ e. absurd (cc (e));
+      failures = λ e. absurd (cc (e));
       cause = no_cause _ _ (λ e. cc (e));
       same = refl;
     })
@@ -58,7 +58,7 @@ returns g c =
       idle = λ e. rw e at read.told;
       end = λ e. rw e at read.told;
       receives = refl;
-      faults = λ e. absurd (read.answer.0 e);
+      failures = λ e. absurd (read.answer.0 e);
       cause = no_cause _ _ read.answer.0;
       same = refl;
     })

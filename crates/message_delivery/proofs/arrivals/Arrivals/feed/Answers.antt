@@ -5,7 +5,7 @@ use Rattle.message_delivery.proofs.arrivals.Arrivals.feed.Goals as goal
 
 pub bytes-requires : goal.bytes-requires
 bytes-requires c =
-    few-bytes c.requires.lived.0 c.args.self.now c.args.piece.now c.life_of_receiver.ensures.short c.requires.lived.1
+    few-bytes c.requires.lived.0 c.args.self.now c.args.piece.now c.trace_of_receiver.ensures.short c.requires.lived.1
     c.requires.partial (open-uncut c.args.self.now.stream c.requires.open) c.requires.most
 
 pub returns-in_default : goal.returns-in_default

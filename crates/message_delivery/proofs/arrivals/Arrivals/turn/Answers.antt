@@ -1,13 +1,13 @@
 use Rattle.std.proofs.Common.{List, sym, subst, refl, arith, option_copied}
-use Rattle.receive_core.specs.Life.{Fated, Tells, fated}
-use Rattle.message_delivery.specs.Arriving.{AreTurned, HaveLived, Holds}
+use Rattle.receive_core.specs.ReceiverTraces.{Fated, IsAnswerFor, after_fates}
+use Rattle.message_delivery.specs.Arriving.{AreFatesOf, IsArrivalTrace, HasHeld}
 use Rattle.message_delivery.specs.declared.arrivals.Arrivals.{Arrivals}
-use Rattle.message_delivery.specs.declared.arrivals.Turned.TheVariants.{Delivered}
+use Rattle.message_delivery.specs.declared.arrivals.DeliveryOutcome.TheVariants.{Delivered}
 use Rattle.message_delivery.proofs.Lived.{few-blocks, few-stores, held-arrived, held-dropped, held-none, held-waiting, same-heap, turned-arrived, turned-dropped, turned-nothing}
 use Rattle.message_delivery.proofs.arrivals.Arrivals.turn.Goals as goal
 
 pub turn-requires-clause-few : goal.turn-requires-clause-few
-turn-requires-clause-few c = few-stores c.requires.0 c.args.self.now c.life_of_receiver.ensures.stores c.requires.1
+turn-requires-clause-few c = few-stores c.requires.0 c.args.self.now c.trace_of_receiver.ensures.stores c.requires.1
 
 pub turn-requires-clause-blocks : goal.turn-requires-clause-blocks
 turn-requires-clause-blocks c = few-blocks c.requires.0 c.args.self.now c.requires.1
@@ -23,8 +23,8 @@ returns-in_ok-push-in-Arrived-clause-lived c life h =
       stream = c.args.self.now.stream;
       fault = c.args.self.now.fault;
     } in
-    subst (λ d. (more : List Fated) × AreTurned (Delivered d) more × HaveLived (fated life more) new)
-    (sym c.message_in.ensures)
+    subst (λ d. (more : List Fated) × AreFatesOf (Delivered d) more × IsArrivalTrace (after_fates life more) new)
+    (sym c.placed_message.ensures)
     (turned-arrived life c.args.self.now new c.in_ok-turn.field-0 c.in-Arrived.kind c.in-Arrived.method c.in-Arrived.number
     c.in-Arrived.block c.in-Arrived.tree h (c.in_ok-turn.ensures.life life h.lives) c.in-Arrived.is
     (record { table = refl; policy = refl; words = c.turn.ensures.words; places = c.turn.ensures.places; stream = refl; fault = refl })
@@ -106,7 +106,7 @@ pub returns-in-None-clause-lived : goal.returns-in-None-clause-lived
 returns-in-None-clause-lived c life h =
     let m = c.in_ok-turn.ensures.life life h.lives in
     turned-nothing life c.args.self.now _ c.in_ok-turn.field-0 h m
-    (subst (λ x. Tells (option_copied c.args.self.now.policy) x m.0) c.in-None.is m.1)
+    (subst (λ x. IsAnswerFor (option_copied c.args.self.now.policy) x m.0) c.in-None.is m.1)
     (record { table = refl; policy = refl; words = c.turn.ensures.words; places = c.turn.ensures.places; stream = refl; fault = refl })
     refl
 
@@ -114,7 +114,7 @@ pub returns-in-Waiting-clause-lived : goal.returns-in-Waiting-clause-lived
 returns-in-Waiting-clause-lived c life h =
     let m = c.in_ok-turn.ensures.life life h.lives in
     turned-nothing life c.args.self.now _ c.in_ok-turn.field-0 h m
-    (subst (λ x. Tells (option_copied c.args.self.now.policy) x m.0) c.in-Waiting.is m.1)
+    (subst (λ x. IsAnswerFor (option_copied c.args.self.now.policy) x m.0) c.in-Waiting.is m.1)
     (record { table = refl; policy = refl; words = c.turn.ensures.words; places = c.turn.ensures.places; stream = refl; fault = refl })
     refl
 
@@ -137,8 +137,8 @@ returns-in_ok-push-in-Dropped-clause-held c =
 
 pub returns-in_ok-push-in-Arrived-clause-held : goal.returns-in_ok-push-in-Arrived-clause-held
 returns-in_ok-push-in-Arrived-clause-held c =
-    subst (λ d. Holds (Delivered d) c.args.self.now.inbound.heap.held c.turn.new.self.heap.held)
-    (sym c.message_in.ensures) (
+    subst (λ d. HasHeld (Delivered d) c.args.self.now.inbound.heap.held c.turn.new.self.heap.held)
+    (sym c.placed_message.ensures) (
       c.in-Arrived.block,
       refl,
       refl,

@@ -1,5 +1,5 @@
 use Rattle.std.proofs.Common.{◌≡◌, ◌≢◌, All, ap, sym, ◌∙◌, subst, refl, List, [], ◌∷◌, ◌++◌}
-use Rattle.receive_core.specs.Turns.{Receiving}
+use Rattle.receive_core.specs.Turns.{ReceiverState}
 use Rattle.receive_heap.specs.declared.extents.Block.{Block}
 use Rattle.message_delivery.proofs.Reclaiming.{HasJudged, HasJudgedEach, each-back, each-refused, each-same, err-of, judged-back, judged-not, judged-same, ok-of}
 use Rattle.message_delivery.proofs.reclaims.Reclaims.reclaim.Goals as goal
@@ -13,7 +13,7 @@ loop-number-preserved-in_ok-push g c = record {
       judged-not c.args.self.now c.loop-number.self _ c.args.inbound.now.heap.held c.reclaim.new.self.heap.held
       c.in-Some.number
       (subst (λ (b : List Block). HasJudged c.args.self.now c.loop-number.self c.args.inbound.now.heap.held b)
-      (sym (ap (λ (i : Receiving). i.heap.held) held)) c.loop-number.invariant.judged)
+      (sym (ap (λ (i : ReceiverState). i.heap.held) held)) c.loop-number.invariant.judged)
       (λ numbers h. let k = c.in-Some.ensures.some numbers h in record {
         taken = k.taken;
         count = k.count;
@@ -23,7 +23,7 @@ loop-number-preserved-in_ok-push g c = record {
   each =
       let held : c.reclaim.new.self ≡ c.loop-number.inbound =
       err-of c.reclaim.result (sym c.is_err.ensures.value ∙ c.if-is_err.true) c.reclaim.ensures.err in
-      let blocks = sym (ap (λ (i : Receiving). i.heap.held) held) in
+      let blocks = sym (ap (λ (i : ReceiverState). i.heap.held) held) in
       each-refused c.args.self.now c.loop-number.self _ c.args.inbound.now.heap.held c.reclaim.new.self.heap.held
       c.in-Some.number
       (subst (λ (b : List Block). HasJudgedEach c.args.self.now c.loop-number.self c.args.inbound.now.heap.held b)

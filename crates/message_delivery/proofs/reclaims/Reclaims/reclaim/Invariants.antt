@@ -1,6 +1,6 @@
 use Rattle.std.proofs.Common.{◌≡◌, ◌+◌, ◌-◌, ◌≤◌}
 use Rattle.mrpc_table.specs.declared.table.Table.{Table}
-use Rattle.receive_core.specs.Life.{Life, Lives}
+use Rattle.receive_core.specs.ReceiverTraces.{ReceiverTrace, IsTraceOf}
 use Rattle.message_delivery.proofs.Reclaiming.{HasJudged, HasJudgedEach}
 use Rattle.message_delivery.proofs.reclaims.Reclaims.reclaim.Given as goal
 
@@ -12,7 +12,7 @@ invariant-loop-number g l = record {
   few : l.fn.self.judged ≤ l.most → l.self.judged ≤ l.most;
   programmed : l.self.programmed ≡ l.fn.self.programmed;
   ring : l.self.numbers.ring ≡ l.fn.self.numbers.ring;
-  life : (T : Table) (life : Life) → Lives T life l.fn.inbound → Lives T life l.inbound;
+  life : (T : Table) (life : ReceiverTrace) → IsTraceOf T life l.fn.inbound → IsTraceOf T life l.inbound;
   conn : l.inbound.conn ≡ l.fn.inbound.conn;
   fed : l.inbound.fed ≡ l.fn.inbound.fed;
   words : l.inbound.heap.words ≡ l.fn.inbound.heap.words;

@@ -1,6 +1,6 @@
 use Rattle.std.proofs.Common.{◌+◌, sym, ap, ◌∙◌, subst, map}
 use Rattle.mrpc_base.specs.Heap.{races_with}
-use Rattle.mrpc_base.specs.Parts.{AreListedBelow, Waiting, race_of}
+use Rattle.mrpc_base.specs.Parts.{AreListedBelow, ScheduledRaces, race_of}
 use Rattle.mrpc_base.proofs.Listing.{listed_more, map-insert_entry}
 use Rattle.mrpc_base.proofs.races.Races.list.Goals as goal
 
@@ -15,4 +15,4 @@ pub returns-in-Ok-clause-made : goal.returns-in-Ok-clause-made
 returns-in-Ok-clause-made c = λ _.
     ap (map race_of) c.in-Ok.ensures.entries
     ∙ map-insert_entry c.self.inside.waiting.entries c.args.load c.self.inside.listed c.args.place c.args.value c.self.invariant c.in-Ok.ensures.was_ordered
-    ∙ ap (λ (waiting : Waiting). races_with waiting.races (record { load = c.args.load; place = c.args.place; value = c.args.value })) c.self.view_is
+    ∙ ap (λ (waiting : ScheduledRaces). races_with waiting.races (record { load = c.args.load; place = c.args.place; value = c.args.value })) c.self.view_is

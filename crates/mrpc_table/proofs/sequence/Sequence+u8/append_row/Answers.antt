@@ -2,11 +2,11 @@ use Rattle.std.proofs.Common.{◌≡◌, ℕ, List, [], ◌∷◌, ◌++◌, ref
 use Rattle.std.specs.List.{flat_map}
 use Rattle.std.proofs.lemmas.Grind.{common_steps}
 use Rattle.std.specs.Fmt.{decimal}
-use Rattle.mrpc_table.specs.Lines.{behind_spaces}
+use Rattle.mrpc_table.specs.Lines.{after_spaces}
 use Rattle.mrpc_table.proofs.sequence.Sequence+u8.append_row.Goals as goal
 
 -- numbers, each after a space
-numbers-spaced : (ns : List ℕ) → flat_map (λ n. 32 ∷ decimal n) ns ≡ behind_spaces (map decimal ns)
+numbers-spaced : (ns : List ℕ) → flat_map (λ n. 32 ∷ decimal n) ns ≡ after_spaces (map decimal ns)
 numbers-spaced [] = refl
 numbers-spaced (n ∷ ns) = ap (λ l. 32 ∷ decimal n ++ l) (numbers-spaced ns)
 

@@ -1,7 +1,7 @@
 use Rattle.std.proofs.Common.{◌≡◌, ◌<◌, ◌+◌, List, length, get_or, take, ap, sym, ◌∙◌, subst, refl}
 use Rattle.mrpc_table.specs.Node.{Node}
 use Rattle.mrpc_table.specs.Calls.{message_at}
-use Rattle.mrpc_table.specs.PathTrees.{IsAscending}
+use Rattle.mrpc_table.specs.PathTrees.{IsAscendingTree}
 use Rattle.mrpc_table.specs.declared.call.Call.{Call}
 use Rattle.mrpc_table.specs.Calls.{IsCallOf}
 use Rattle.policy_redact.specs.Redacting.{cleared_call}
@@ -23,7 +23,7 @@ remove_from-changed-requires c =
     let fits = c.requires in
     let start = c.args.call.now in
     let up = c.normal_ascends.ensures fits.0 (message_at fits.0 start.method start.number) start.tree fits.1.tree in
-    subst (λ (call : Call). IsAscending call.tree) (sym c.loop-clear.invariant.left) (cleared-ascends _ start up)
+    subst (λ (call : Call). IsAscendingTree call.tree) (sym c.loop-clear.invariant.left) (cleared-ascends _ start up)
 
 pub loop-clear-preserved : goal.loop-clear-preserved
 loop-clear-preserved c =

@@ -5,10 +5,10 @@ use Rattle.receive_core.proofs.inbound.Inbound.turn.Goals as goal
 pub returns-clause-life : goal.returns-clause-life
 returns-clause-life g c life lives =
     let known : Known = record {
-      stays = c.one_split.ensures.stays;
-      once = c.one_split.ensures.once;
-      ends = c.one_split.ensures.one_end;
-      frame = c.one_frame.ensures.once;
+      stays = c.split_is_unique.ensures.stays;
+      once = c.split_is_unique.ensures.once;
+      ends = c.split_is_unique.ensures.one_end;
+      frame = c.frame_is_unique.ensures.once;
       places = c.frames_join.ensures.places;
       sizes = c.frames_join.ensures.size;
       splits = c.frames_join.ensures.splits;

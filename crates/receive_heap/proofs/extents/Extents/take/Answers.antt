@@ -18,8 +18,8 @@ returns-then-is_err-clause-no_hole c =
           (subst (λ holes. All (λ hole. hole.words < c.args.words) holes) (sym seen) all),
     )
 
-pub cut-requires-clause-holes : goal.cut-requires-clause-holes
-cut-requires-clause-holes c = rw c.reserve.ensures.items
+pub shrink_hole-requires-clause-holes : goal.shrink_hole-requires-clause-holes
+shrink_hole-requires-clause-holes c = rw c.reserve.ensures.items
     (are_holes (record {
       words = c.self.inside.words;
       holes = c.self.inside.holes.items;
@@ -60,15 +60,15 @@ invariant_of-self-2 c =
     let last = entries ∙ insert_entry-last c.self.inside.held.entries c.self.inside.next
     (record { number = c.self.inside.next; at = c.index.result.now.at; words = c.args.words })
     c.self.invariant.known in
-    let len : length c.cut.new.holes.items ≤ length c.self.inside.holes.items = search rules in
-    let room : length c.self.inside.holes.items + (length c.self.inside.held.entries + 1) ≤ vec_capacity c.cut.new.holes = search rules in
+    let len : length c.shrink_hole.new.holes.items ≤ length c.self.inside.holes.items = search rules in
+    let room : length c.self.inside.holes.items + (length c.self.inside.held.entries + 1) ≤ vec_capacity c.shrink_hole.new.holes = search rules in
     rw last
-    (take_keeps c.self.inside.words c.self.inside.next c.self.inside.holes.items c.cut.new.holes.items
+    (take_keeps c.self.inside.words c.self.inside.next c.self.inside.holes.items c.shrink_hole.new.holes.items
     c.self.inside.held.entries (record {
       number = c.self.inside.next;
       at = c.index.result.now.at;
       words = c.args.words;
-    }) _ _ c.self.invariant refl c.requires.some c.cut.ensures.holes
-    (places_taken c.reserve.new.self.items c.self.inside.holes.items c.cut.new.holes.items c.in-Some.index
-    c.args.words c.index.result.now c.reserve.ensures.items (search rules) c.index.ensures c.cut.ensures.places)
+    }) _ _ c.self.invariant refl c.requires.some c.shrink_hole.ensures.holes
+    (places_taken c.reserve.new.self.items c.self.inside.holes.items c.shrink_hole.new.holes.items c.in-Some.index
+    c.args.words c.index.result.now c.reserve.ensures.items (search rules) c.index.ensures c.shrink_hole.ensures.places)
     len room)

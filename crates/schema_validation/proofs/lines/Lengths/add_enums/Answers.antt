@@ -2,7 +2,7 @@ use Rattle.std.proofs.Common.{◌≡◌, ◌<◌, ◌++◌, ◌∷◌, [], ◌�
 use Rattle.std.specs.Prelude.{Some, slice_get}
 use Rattle.schema_validation.proofs.Meetings.{item_at}
 use Rattle.schema_validation.specs.Lengths.{full_length, IsKeptHome}
-use Rattle.proto_ast.specs.declared.joined.Home.{Home}
+use Rattle.proto_ast.specs.declared.joined.Enclosing.{Enclosing}
 use Rattle.schema_validation.proofs.FullLengths.{keeps_enum, enum_home_kept}
 use Rattle.schema_validation.proofs.lines.Lengths.add_enums.Goals as goal
 
@@ -16,7 +16,7 @@ loop-i-preserved c =
     (record { fronts = c.loop-i.self.fronts; messages = c.loop-i.self.messages; enums = c.push.new.self })
     c.loop-i.i c.index-all-i.result c.requires.formed c.loop-i.invariant at refl refl
     (c.in_ok-push.ensures.items ∙ ap (λ (n : ℕ). c.loop-i.self.enums.items ++ n ∷ [])
-    (c.full-length.ensures ∙ ap (λ (h : Home). full_length c.loop-i.self h c.index-all-i.result.name) c.home.ensures))
+    (c.full-length.ensures ∙ ap (λ (h : Enclosing). full_length c.loop-i.self h c.index-all-i.result.name) c.enclosing.ensures))
 
 pub full-length-requires : goal.full-length-requires
 full-length-requires c =
@@ -25,6 +25,6 @@ full-length-requires c =
     let l : c.loop-i.i < length F.enums = omega (arith, ap length c.enums-all.ensures, c.loop-i-test.true) in
     let at : slice_get F.enums c.loop-i.i ≡ Some x =
     item_at c.enums-all.result.now F.enums c.loop-i.i x c.enums-all.ensures l c.index-all-i.is in
-    subst (IsKeptHome c.loop-i.self) (sym c.home.ensures)
+    subst (IsKeptHome c.loop-i.self) (sym c.enclosing.ensures)
     (enum_home_kept F (length F.messages) c.loop-i.i c.loop-i.self c.loop-i.invariant c.requires.formed c.loop-i.i x at
     refl)

@@ -2,7 +2,7 @@ use Rattle.std.proofs.Common.{◌≡◌, ◌<◌, ◌++◌, ◌∷◌, [], ◌�
 use Rattle.std.specs.Prelude.{Some, slice_get}
 use Rattle.schema_validation.proofs.Meetings.{item_at}
 use Rattle.schema_validation.specs.Lengths.{full_length, IsKeptHome}
-use Rattle.proto_ast.specs.declared.joined.Home.{Home}
+use Rattle.proto_ast.specs.declared.joined.Enclosing.{Enclosing}
 use Rattle.schema_validation.proofs.FullLengths.{keeps_message, message_home_kept}
 use Rattle.schema_validation.proofs.lines.Lengths.add_messages.Goals as goal
 
@@ -16,7 +16,7 @@ loop-i-preserved c =
     (record { fronts = c.loop-i.self.fronts; messages = c.push.new.self; enums = c.loop-i.self.enums })
     c.loop-i.i c.index-all-i.result c.requires.formed c.loop-i.invariant at refl
     (c.in_ok-push.ensures.items ∙ ap (λ (n : ℕ). c.loop-i.self.messages.items ++ n ∷ [])
-    (c.full-length.ensures ∙ ap (λ (h : Home). full_length c.loop-i.self h c.index-all-i.result.name) c.home.ensures))
+    (c.full-length.ensures ∙ ap (λ (h : Enclosing). full_length c.loop-i.self h c.index-all-i.result.name) c.enclosing.ensures))
     refl
 
 pub full-length-requires : goal.full-length-requires
@@ -26,5 +26,5 @@ full-length-requires c =
     let l : c.loop-i.i < length F.messages = omega (arith, ap length c.messages-all.ensures, c.loop-i-test.true) in
     let at : slice_get F.messages c.loop-i.i ≡ Some m =
     item_at c.messages-all.result.now F.messages c.loop-i.i m c.messages-all.ensures l c.index-all-i.is in
-    subst (IsKeptHome c.loop-i.self) (sym c.home.ensures)
+    subst (IsKeptHome c.loop-i.self) (sym c.enclosing.ensures)
     (message_home_kept F c.loop-i.i 0 c.loop-i.self c.loop-i.invariant c.requires.formed c.loop-i.i m at (omega arith))

@@ -1,7 +1,7 @@
 use Rattle.std.proofs.Common.{◌≡◌, ◌<◌, ℕ, length, ap, arith}
 use Rattle.std.specs.Prelude.{Some, slice_get}
 use Rattle.proto_ast.specs.declared.file.ServiceDecl.{ServiceDecl}
-use Rattle.proto_ast.specs.declared.joined.Home.TheVariants as home
+use Rattle.proto_ast.specs.declared.joined.Enclosing.TheVariants as home
 use Rattle.schema_validation.specs.Lengths.{IsLongName}
 use Rattle.schema_validation.proofs.Meetings.{meets_next, meets_elements, item_at}
 use Rattle.schema_validation.proofs.Formed.{service_file}

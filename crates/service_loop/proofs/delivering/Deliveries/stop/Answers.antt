@@ -1,5 +1,5 @@
 use Rattle.std.proofs.Common.{◌≡◌, inl}
-use Rattle.message_delivery.specs.declared.arrivals.Stream.TheVariants.{Ended, Failed, Open}
+use Rattle.message_delivery.specs.declared.arrivals.StreamState.TheVariants.{Ended, Failed, Open}
 use Rattle.service_loop.proofs.Delivered.{not-counted, stopped}
 use Rattle.service_loop.proofs.delivering.Deliveries.stop.Goals as goal
 

@@ -1,13 +1,13 @@
 use Rattle.std.proofs.Common.{◌≡◌, ◌+◌, ◌-◌, ◌≤◌, false}
-use Rattle.service_loop.specs.Rounds.{GoesOn, IsSame, IsWhole}
+use Rattle.service_loop.specs.Rounds.{HasAdvanced, HasSameIdentity, IsConsistent}
 use Rattle.service_loop.proofs.endpoint.Endpoint.make_rounds.Given as goal
 
 abbrev pub invariant-rounds : goal.invariant-rounds
 invariant-rounds g l = record {
-  whole : IsWhole g.C.Clock g.Q.Tickets g.L.Link l.self;
+  whole : IsConsistent g.C.Clock g.Q.Tickets g.L.Link l.self;
   memory : l.self.memory ≡ false;
-  goes_on : GoesOn g.C.Clock g.Q.Tickets g.L.Link l.fn.self l.self;
-  same : IsSame g.C.Clock g.Q.Tickets g.L.Link l.fn.self l.self;
+  goes_on : HasAdvanced g.C.Clock g.Q.Tickets g.L.Link l.fn.self l.self;
+  same : HasSameIdentity g.C.Clock g.Q.Tickets g.L.Link l.fn.self l.self;
   share : l.self.share ≡ l.fn.self.share;
   accepted : l.self.submissions.accepted ≤ l.fn.self.submissions.accepted + l.given;
   within : l.given ≤ l.grant;

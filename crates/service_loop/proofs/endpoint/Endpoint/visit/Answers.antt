@@ -1,9 +1,9 @@
 use Rattle.std.proofs.Common.{◌≡◌, ◌-◌, ℕ, Option, ap, refl, subst, sym, ◌∙◌}
 use Rattle.std.specs.Prelude.{IfSome}
-use Rattle.qos_order.specs.Account.{Visit, kept_of}
-use Rattle.service_loop.specs.Rounds.{weight_of_share}
-use Rattle.service_loop.specs.Within.{CanCount, Counts}
-use Rattle.service_loop.specs.declared.share.Share.{Share}
+use Rattle.qos_order.specs.Account.{Visit, kept_rounds}
+use Rattle.service_loop.specs.Rounds.{weight_of_visits}
+use Rattle.service_loop.specs.Within.{CanCount, IsVisitCounted}
+use Rattle.service_loop.specs.declared.visit_account.VisitAccount.{VisitAccount}
 use Rattle.service_loop.proofs.Onward.{goes-kept, same-kept, whole-kept}
 use Rattle.service_loop.proofs.Shares.{can-count, counted-so, grants-later, kept-so, shares-again, weight-stays}
 use Rattle.service_loop.proofs.endpoint.Endpoint.visit.Goals as goal
@@ -22,7 +22,7 @@ count-share-requires-clause-share g c =
     let old = c.args.self.now in
     let visited = c.make_rounds-visited.result in
     let visit : Visit = record { given = visited.given; ending = visited.ending } in
-    subst (λ (share : Option Share). IfSome share (CanCount visit)) (sym c.make_rounds-visited.ensures.share)
+    subst (λ (share : Option VisitAccount). IfSome share (CanCount visit)) (sym c.make_rounds-visited.ensures.share)
     (can-count old.kept old.submissions.accepted old.share (g.O.ReadyOrder.grant_of c.args.order.now)
     old.submissions.conn.conn c.grant-grant.result visit
     (c.grant-grant.ensures
@@ -40,7 +40,7 @@ returns-clause-endpoint g c has =
           (c.make_rounds-visited.ensures.whole has),
       shares-again old.kept c.count-share.result.1 old.submissions.accepted new.submissions.accepted left old.share
           c.count-share.result.0 visit (c.requires.endpoint c.if-self.false).1 (c.make_rounds-visited.ensures.accepted has)
-          (subst (λ (share : Option Share). Counts visit left share c.count-share.result.0 c.count-share.result.1)
+          (subst (λ (share : Option VisitAccount). IsVisitCounted visit left share c.count-share.result.0 c.count-share.result.1)
           c.make_rounds-visited.ensures.share c.count-share.ensures),
     )
 
@@ -52,7 +52,7 @@ returns-clause-order g c =
     grants-later (g.O.ReadyOrder.grant_of c.args.order.now) c.args.self.now
     (record new { kept = c.count-share.result.1; share = c.count-share.result.0 })
     (weight-stays new.share c.count-share.result.0 (c.grant-grant.result - visited.given) c.count-share.result.1 visit
-    c.count-share.ensures ∙ ap weight_of_share c.make_rounds-visited.ensures.share)
+    c.count-share.ensures ∙ ap weight_of_visits c.make_rounds-visited.ensures.share)
     c.make_rounds-visited.ensures.same.submissions.conn.conn c.requires.order
 
 pub returns-clause-goes_on : goal.returns-clause-goes_on
@@ -80,9 +80,9 @@ returns-clause-kept g c = λ below.
     kept-so old.kept old.submissions.accepted old.share c.count-share.result.0
     (g.O.ReadyOrder.grant_of c.args.order.now) old.submissions.conn.conn c.grant-grant.result c.count-share.result.1 visit
     granted (c.requires.endpoint c.if-self.false).1 c.requires.order
-    (subst (λ (share : Option Share). Counts visit (c.grant-grant.result - visited.given) share c.count-share.result.0
+    (subst (λ (share : Option VisitAccount). IsVisitCounted visit (c.grant-grant.result - visited.given) share c.count-share.result.0
     c.count-share.result.1) c.make_rounds-visited.ensures.share c.count-share.ensures) below
-    ∙ ap (λ (grant : ℕ). kept_of visited.ending (grant - visited.given)) granted
+    ∙ ap (λ (grant : ℕ). kept_rounds visited.ending (grant - visited.given)) granted
 
 pub returns-clause-counted : goal.returns-clause-counted
 returns-clause-counted g c has =
@@ -90,5 +90,5 @@ returns-clause-counted g c has =
     let visit : Visit = record { given = visited.given; ending = visited.ending } in
     let left : ℕ = c.grant-grant.result - visited.given in
     counted-so c.args.self.now.share c.count-share.result.0 left c.count-share.result.1 visit
-    (subst (λ (share : Option Share). Counts visit left share c.count-share.result.0 c.count-share.result.1)
+    (subst (λ (share : Option VisitAccount). IsVisitCounted visit left share c.count-share.result.0 c.count-share.result.1)
     c.make_rounds-visited.ensures.share c.count-share.ensures)

@@ -17,7 +17,7 @@ returns-in-Ok-clause-serving c =
     c.args.self.now.calls c.args.self.now.steps.now c.args.self.now.applied c.args.self.now.accepted c.in-Ok.seq
     c.meet.new.self.heap.words c.args.call _ c.accept.ensures.same linked
     (ap (λ (x : HeapId). x.words) c.meet.ensures.heap) c.in-Ok.ensures.accepted
-    (read-by c.calls_are_fresh.ensures.after_note c.calls_are_fresh.ensures.later c.loads_change_no_more.ensures
+    (read-by c.calls_are_fresh.ensures.after_note c.calls_are_fresh.ensures.later c.loads_preserve_reader.ensures
     c.args.call.stores c.args.call.note.stores _ c.args.self.now.reader c.meet.new.self c.accept.new.words
     h.of_heap.stores c.meet.ensures.heap c.meet.ensures.loads c.meet.ensures.told c.meet.ensures.grows
     c.accept.ensures.reads)

@@ -1,8 +1,8 @@
 use Rattle.std.proofs.Common.{◌≡◌, false, inl, inr, refl, sym, ◌∙◌}
 use Rattle.engine_core.specs.Policies.{KnowsTenantOf}
-use Rattle.conn_core.specs.Connections.{behind}
+use Rattle.conn_core.specs.Connections.{conn_trace}
 use Rattle.conn_core.specs.declared.answers.Drained.TheVariants as drained
-use Rattle.service_loop.specs.Steps.{all_taken}
+use Rattle.service_loop.specs.ScheduledOps.{all_taken}
 use Rattle.service_loop.proofs.Chained.{engines-first}
 use Rattle.service_loop.proofs.Ending.{Ends, cause-ends, drained-ends, ends-done, ends-failed, serves-ends}
 use Rattle.service_loop.proofs.Taking.{untrue}
@@ -11,7 +11,7 @@ use Rattle.service_loop.proofs.submissions.Submissions.drain.Goals as goal
 pub drain-drained-requires : goal.drain-drained-requires
 drain-drained-requires g c = record {
   known = (engines-first (KnowsTenantOf (g.Q.Tickets.knows c.args.tickets.now))
-      (all_taken c.args.self.now.calls.closed (behind c.args.self.now.conn)) c.args.self.now.conn
+      (all_taken c.args.self.now.calls.closed (conn_trace c.args.self.now.conn)) c.args.self.now.conn
       c.args.self.now.steps.now c.args.self.now.applied c.is_connection.ensures c.requires.serving.came
       c.requires.known).policies;
 }
@@ -27,7 +27,7 @@ returns-in-Done g c =
           (c.drain-drained.ensures.done is) (c.drain-drained.ensures.settled is)
       | inr is ↦ ends-failed (c.drain-drained.result ≡ drained.Failed) c.args.self.now.conn c.drain-drained.new.self
           (c.drain-drained.ensures.failed is).between unended is (c.drain-drained.ensures.failed is).front
-          (c.drain-drained.ensures.failed is).failed c.is_connection-2.ensures.is_course
+          (c.drain-drained.ensures.failed is).failed c.is_connection-2.ensures.is_valid_state
     ] in
     record {
       serving = serves-ends (c.drain-drained.result ≡ drained.Failed) c.args.self.now.conn c.drain-drained.new.self
@@ -39,7 +39,7 @@ returns-in-Done g c =
       handed = c.drain-drained.ensures.handed;
       draws = c.drain-drained.ensures.draws;
       cause = cause-ends (c.drain-drained.result ≡ drained.Failed) c.args.self.now.conn c.drain-drained.new.self
-          (g.L.Link.faults c.args.link.now) (g.L.Link.faults c.drain-drained.new.link) ends
+          (g.L.Link.failures c.args.link.now) (g.L.Link.failures c.drain-drained.new.link) ends
           c.drain-drained.ensures.cause;
       same = record {
         conn = c.drain-drained.ensures.same;

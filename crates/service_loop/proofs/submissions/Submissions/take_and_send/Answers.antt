@@ -6,23 +6,23 @@ pub returns-clause-moments : goal.returns-clause-moments
 returns-clause-moments g c =
     λ all. moments-through (g.C.Clock.gives c.args.clock.now) c.now.result c.args.self.now.conn
     c.apply_due.new.self.conn
-    c.show.new.self.conn c.take_call.new.self.conn c.go_on.new.self.conn (record {
+    c.set_timestamp.new.self.conn c.take_call.new.self.conn c.advance.new.self.conn (record {
       steps = (c.in_ok-apply_due.ensures.only.beside.moments, c.in_ok-apply_due.ensures.only.at_calls);
-      shows = c.in_ok-show.ensures.shown;
+      shows = c.in_ok-set_timestamp.ensures.shown;
       beside = c.in_ok-next.ensures.beside;
       takes = c.in_ok-next.ensures.now;
-      drains = c.in_ok-go_on.ensures.drained;
+      drains = c.in_ok-advance.ensures.drained;
     }) c.now.ensures.gives all
 
 pub returns-clause-least : goal.returns-clause-least
 returns-clause-least g c =
     λ all. calls-through (g.C.Clock.least c.args.clock.now) c.now.result c.args.self.now.conn c.apply_due.new.self.conn
-    c.show.new.self.conn c.take_call.new.self.conn c.go_on.new.self.conn (record {
+    c.set_timestamp.new.self.conn c.take_call.new.self.conn c.advance.new.self.conn (record {
       steps = (c.in_ok-apply_due.ensures.only.beside.moments, c.in_ok-apply_due.ensures.only.at_calls);
-      shows = c.in_ok-show.ensures.shown;
+      shows = c.in_ok-set_timestamp.ensures.shown;
       beside = c.in_ok-next.ensures.beside;
       takes = c.in_ok-next.ensures.now;
-      drains = c.in_ok-go_on.ensures.drained;
+      drains = c.in_ok-advance.ensures.drained;
     }) c.now.ensures.least all
 
 one-through : (before stepped shown took after : ℕ) → stepped ≡ before → shown ≡ stepped → took ≤ shown + 1
@@ -31,5 +31,5 @@ one-through before stepped shown took after steps shows one on = omega (arith, s
 
 pub returns-clause-one : goal.returns-clause-one
 returns-clause-one g c =
-    one-through _ _ _ _ _ c.in_ok-apply_due.ensures.only.accepted c.show.ensures.accepted c.in_ok-next.ensures.one
-    c.in_ok-go_on.ensures.accepted
+    one-through _ _ _ _ _ c.in_ok-apply_due.ensures.only.accepted c.set_timestamp.ensures.accepted c.in_ok-next.ensures.one
+    c.in_ok-advance.ensures.accepted

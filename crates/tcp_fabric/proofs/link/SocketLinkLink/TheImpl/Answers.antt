@@ -37,6 +37,6 @@ finish-tells g c =
       same_handed = ap (λ l. l.handed) same;
       same_given = ap (λ l. Some l.given) same;
       same_ended = ap (λ l. l.ended) same;
-      same_faults = ap (λ l. l.faults) same;
+      same_faults = ap (λ l. l.failures) same;
       same_link = λ first h. (ap (λ l. l.local) same ∙ h.0, ap (λ l. l.peer) same ∙ h.1);
     }

@@ -14,12 +14,12 @@ put_items-requires-clause-room g c =
 
 pub returns-clause-each : goal.returns-clause-each
 returns-clause-each g c =
-    let place = in_place g.T.Visited.since (view c.args.self.pass).firsts c.args.self.kept.items
+    let place = in_place g.T.PoolItem.since (view c.args.self.pass).firsts c.args.self.kept.items
     c.by_number.result.items c.requires.once c.by_number.ensures.same c.by_number.ensures.order
     c.requires.worker.ones in
-    subst (λ items. AllZip (IsLater g.T.Visited.since) (view c.args.self.pass).firsts items) (sym c.put_items.ensures) place
+    subst (λ items. AllZip (IsLater g.T.PoolItem.since) (view c.args.self.pass).firsts items) (sym c.put_items.ensures) place
 
 pub returns-clause-over : goal.returns-clause-over
 returns-clause-over g c on =
-    let ends = every_permutation (λ x. g.T.Visited.over x.item.value) c.args.self.kept.items c.by_number.result.items c.by_number.ensures.same (c.requires.worker.ends on) in
-    subst (λ items. All g.T.Visited.over items) (sym c.put_items.ensures) (all_of_items g.T.Visited.over c.by_number.result.items ends)
+    let ends = every_permutation (λ x. g.T.PoolItem.over x.item.value) c.args.self.kept.items c.by_number.result.items c.by_number.ensures.same (c.requires.worker.ends on) in
+    subst (λ items. All g.T.PoolItem.over items) (sym c.put_items.ensures) (all_of_items g.T.PoolItem.over c.by_number.result.items ends)

@@ -1,8 +1,0 @@
-use Rattle.audit_check.proofs.Rows.{row_first}
-use Rattle.audit_check.proofs.row.Row.new.Goals as goal
-
-pub returns : goal.returns
-returns c T limit h known prefixes settled =
-    row_first c.nothing_told.ensures T limit h settled c.args.checkers
-    c.pop-current.result c.pop-current.new.rest c.pop-current.ensures.popped c.pop-current.ensures.rise known
-    prefixes

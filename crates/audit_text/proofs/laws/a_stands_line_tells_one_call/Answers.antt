@@ -1,5 +1,0 @@
-use Rattle.audit_text.proofs.Texts.{standing-same}
-use Rattle.audit_text.proofs.laws.a_stands_line_tells_one_call.Goals as goal
-
-pub returns-clause-one : goal.returns-clause-one
-returns-clause-one c = standing-same

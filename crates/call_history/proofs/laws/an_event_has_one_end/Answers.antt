@@ -1,8 +1,0 @@
-use Rattle.call_history.proofs.Determined.{one-end, one-turn}
-use Rattle.call_history.proofs.laws.an_event_has_one_end.Goals as goal
-
-pub returns-clause-end : goal.returns-clause-end
-returns-clause-end c = one-end
-
-pub returns-clause-turn : goal.returns-clause-turn
-returns-clause-turn c = one-turn c.one_outcome.ensures

@@ -1,5 +1,0 @@
-use Rattle.call_history.proofs.Framed.{frames-more}
-use Rattle.call_history.proofs.laws.frames_go_on.Goals as goal
-
-pub returns : goal.returns
-returns c = frames-more

@@ -1,0 +1,8 @@
+use Rattle.std.proofs.Common.{◌∙◌}
+use Rattle.command_diagnostics.proofs.Pointing.{also_of}
+use Rattle.command_diagnostics.proofs.set.line_diagnostic.Goals as goal
+
+pub returns : goal.returns
+returns c =
+    λ input within.
+    c.in_line.ensures input (also_of input c.trimmed.result.text.now c.args.text.now (c.trimmed.ensures ∙ c.of.ensures.text) within)

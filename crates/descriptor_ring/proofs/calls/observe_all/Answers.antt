@@ -1,0 +1,11 @@
+use Rattle.descriptor_ring.proofs.Moves.{merges_it, learns_in_order}
+use Rattle.descriptor_ring.proofs.calls.observe_all.Goals as goal
+
+pub absorb-requires-clause-rule : goal.absorb-requires-clause-rule
+absorb-requires-clause-rule g c =
+    let r = c.requires in
+    merges_it g.T.RingItem.fits g.T.RingItem.most _ _ _ _ r.takes r.sends
+
+pub learn_as-requires-clause-rule : goal.learn_as-requires-clause-rule
+learn_as-requires-clause-rule g c =
+    rw c.absorb.ensures.rule (learns_in_order g.T.RingItem.fits g.T.RingItem.most _ _ c.requires.takes)

@@ -1,7 +1,0 @@
-use Rattle.std.proofs.Common.{◌≡◌, ◌++◌, take}
-use Rattle.std.specs.List.{flat_map}
-use Rattle.diagnostics.specs.Pointing.{under}
-use Rattle.diagnostics.proofs.pointing.put_under.Given as goal
-
-abbrev pub invariant-loop-byte : goal.invariant-loop-byte
-invariant-loop-byte l = l.out ≡ l.fn.out ++ flat_map (under l.fn.mark l.fn.is_utf8) (take l.byte-index l.fn.bytes)

@@ -1,0 +1,9 @@
+use Rattle.std.proofs.Common.{◌≤◌}
+use Rattle.diagnostics.specs.Snippets.{IsWithinLine}
+use Rattle.diagnostics.proofs.source_line.line_start.Given as goal
+
+abbrev pub invariant-loop-start : goal.invariant-loop-start
+invariant-loop-start l = (l.start ≤ l.at) × IsWithinLine l.text l.start l.at
+
+abbrev pub decreases-loop-start : goal.decreases-loop-start
+decreases-loop-start l = l.start

@@ -1,8 +1,0 @@
-use Rattle.engine_core.proofs.AnswerLaws.{one_answer, some_answer}
-use Rattle.engine_core.proofs.laws.one_answer.Goals as goal
-
-pub returns-clause-at_most : goal.returns-clause-at_most
-returns-clause-at_most c = one_answer
-
-pub returns-clause-at_least : goal.returns-clause-at_least
-returns-clause-at_least c = some_answer

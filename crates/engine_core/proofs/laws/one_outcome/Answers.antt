@@ -1,5 +1,0 @@
-use Rattle.engine_core.proofs.OutcomeLaws.{one_outcome}
-use Rattle.engine_core.proofs.laws.one_outcome.Goals as goal
-
-pub returns : goal.returns
-returns c = one_outcome

@@ -1,5 +1,0 @@
-use Rattle.engine_core.proofs.ChainLaws.{stays_chain}
-use Rattle.engine_core.proofs.laws.stays_chain.Goals as goal
-
-pub returns : goal.returns
-returns c = stays_chain

@@ -1,5 +1,0 @@
-use Rattle.policy_redact.proofs.ReadLemmas.{one-policy}
-use Rattle.policy_redact.proofs.laws.one_policy.Goals as goal
-
-pub returns : goal.returns
-returns c = one-policy

@@ -1,5 +1,0 @@
-use Rattle.proto_lexer.proofs.NextLemmas.{a_list, one_list}
-use Rattle.proto_lexer.proofs.laws.one_list.Goals as goal
-
-pub returns : goal.returns
-returns c = record { some = a_list; one = one_list }

@@ -1,5 +1,0 @@
-use Rattle.proto_lexer.proofs.NextLemmas.{next_exists, one_token}
-use Rattle.proto_lexer.proofs.laws.one_token.Goals as goal
-
-pub returns : goal.returns
-returns c = record { some = next_exists; one = one_token }

@@ -1,9 +1,0 @@
-use Rattle.proto_set.proofs.PathLemmas.{never_right_and_refused, refused_once, right_or_refused}
-use Rattle.proto_set.proofs.bundle_laws.one_refused.Goals as goal
-
-pub returns : goal.returns
-returns c = record {
-  once = refused_once;
-  never_both = never_right_and_refused;
-  never_neither = right_or_refused;
-}

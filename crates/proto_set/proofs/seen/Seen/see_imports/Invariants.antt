@@ -1,7 +1,0 @@
-use Rattle.std.proofs.Common.{take}
-use Rattle.proto_set.specs.Seeing.{MarksMore, IsLinked}
-use Rattle.proto_set.proofs.seen.Seen.see_imports.Given as goal
-
--- the imports up to here
-abbrev pub invariant-loop-link : goal.invariant-loop-link
-invariant-loop-link l = MarksMore (IsLinked (take l.link-index l.links)) l.fn.self l.self

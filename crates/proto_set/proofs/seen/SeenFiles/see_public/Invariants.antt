@@ -1,0 +1,7 @@
+use Rattle.std.proofs.Common.{take}
+use Rattle.proto_set.specs.Seeing.{HasSeenMore, IsLinkedPublicly}
+use Rattle.proto_set.proofs.seen.SeenFiles.see_public.Given as goal
+
+-- the imports up to here
+abbrev pub invariant-loop-link : goal.invariant-loop-link
+invariant-loop-link l = HasSeenMore (IsLinkedPublicly (take l.link-index l.links)) l.fn.self l.self

@@ -1,6 +1,0 @@
-use Rattle.std.proofs.Common.{◌≡◌, replicate}
-use Rattle.proto_set.specs.declared.walk.Mark.TheVariants.{New}
-use Rattle.proto_set.proofs.walk.all_new.Given as goal
-
-abbrev pub invariant-loop : goal.invariant-loop
-invariant-loop l = l.marks.items ≡ replicate l.counter New

@@ -1,6 +1,0 @@
-use Rattle.std.proofs.Common.{◌≡◌, take}
-use Rattle.qos_order.specs.Weights.{conns_of}
-use Rattle.qos_order.proofs.seats.conns.Given as goal
-
-abbrev pub invariant-loop-weight : goal.invariant-loop-weight
-invariant-loop-weight l = l.order.items ≡ conns_of (take l.weight-index l.weights)

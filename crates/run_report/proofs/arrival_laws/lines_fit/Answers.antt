@@ -1,5 +1,0 @@
-use Rattle.run_report.proofs.Fitting.{lived-fit}
-use Rattle.run_report.proofs.arrival_laws.lines_fit.Goals as goal
-
-pub returns : goal.returns
-returns c = lived-fit

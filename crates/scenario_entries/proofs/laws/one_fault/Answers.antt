@@ -1,5 +1,0 @@
-use Rattle.scenario_entries.proofs.OneFault.{one_fault_of}
-use Rattle.scenario_entries.proofs.laws.one_fault.Goals as goal
-
-pub returns : goal.returns
-returns c text a b q r one other = one_fault_of text a b q r one other

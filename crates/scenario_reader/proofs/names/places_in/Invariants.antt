@@ -1,7 +1,0 @@
-use Rattle.std.proofs.Common.{◌≡◌, map, take}
-use Rattle.std.specs.Prelude.{filter_map}
-use Rattle.policy_declarations.specs.Declarations.{policy_place}
-use Rattle.scenario_reader.proofs.names.places_in.Given as goal
-
-abbrev pub invariant-loop-name : goal.invariant-loop-name
-invariant-loop-name l = l.places ≡ filter_map (policy_place l.declared) (map (λ n. n.now) (take l.name-index l.names))

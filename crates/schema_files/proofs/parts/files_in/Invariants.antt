@@ -1,8 +1,0 @@
-use Rattle.std.proofs.Common.{◌≡◌, map}
-use Rattle.std.specs.Prelude.{Some}
-use Rattle.proto_set.specs.declared.set.Member.{Member}
-use Rattle.schema_files.proofs.parts.files_in.Given as goal
-
--- the files of the members so far
-abbrev pub invariant-loop-member : goal.invariant-loop-member
-invariant-loop-member l = l.files.items ≡ map (λ (m : Member). Some m.file) l.yielded

@@ -1,7 +1,0 @@
-use Rattle.proto_ast.specs.Joined.{alone}
-use Rattle.schema_resolve.proofs.OneOffence.{one_offence_of}
-use Rattle.schema_resolve.proofs.laws.one_offence.Goals as goal
-
-pub returns : goal.returns
-returns c = λ F q r s t ordered a b.
-    one_offence_of F q r s t (λ p u x y f g. c.one_offence.ensures (alone F) p u x y ordered f g) a b

@@ -1,5 +1,0 @@
-use Rattle.schema_symbols.proofs.OnlyOne.{name_one}
-use Rattle.schema_symbols.proofs.laws.one_name.Goals as goal
-
-pub returns : goal.returns
-returns c F file scope name a b f g starts m n = name_one starts m n

@@ -1,5 +1,0 @@
-use Rattle.schema_validation.proofs.Standing.{offends_stands}
-use Rattle.schema_validation.proofs.laws.offences_stand.Goals as goal
-
-pub returns : goal.returns
-returns c = offends_stands

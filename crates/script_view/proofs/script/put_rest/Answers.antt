@@ -1,4 +1,0 @@
-use Rattle.script_view.proofs.script.put_rest.Goals as goal
-
-pub returns : goal.returns
-returns c = rw (c.as_slice.ensures, c.in_ok-table.ensures) at c.put_parts.ensures

@@ -1,9 +1,0 @@
-use Rattle.std.proofs.Common.{take}
-use Rattle.std.specs.List.{AllZip}
-use Rattle.run_plan.specs.Ports.{all_ends}
-use Rattle.service.specs.Prepared.{HasSteps}
-use Rattle.service.proofs.prepared.prepare.Given as goal
-
-abbrev pub invariant-pairs : goal.invariant-pairs
-invariant-pairs l =
-    AllZip (λ conn steps. HasSteps l.plan conn steps.items) (all_ends (take l.pair-index l.links)) l.steps.items

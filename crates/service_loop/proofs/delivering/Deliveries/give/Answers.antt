@@ -1,5 +1,0 @@
-use Rattle.service_loop.proofs.delivering.Deliveries.give.Goals as goal
-
-pub returns-clause-delivered : goal.returns-clause-delivered
-returns-clause-delivered g c life numbers back h =
-    c.close-closed.ensures.delivered life numbers back (c.give_notices-given.ensures.delivered life numbers back h)

@@ -1,4 +1,0 @@
-use Rattle.service_wiring.proofs.turned.Turned+R+C+Seats+QueueLink+R+G+O.close.Goals as goal
-
-pub returns-clause-endpoint : goal.returns-clause-endpoint
-returns-clause-endpoint g c = rw (← c.self.view_is) c.self.invariant.0

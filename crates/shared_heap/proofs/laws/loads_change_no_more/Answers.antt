@@ -1,5 +1,0 @@
-use Rattle.shared_heap.proofs.Calls.{has_loaded}
-use Rattle.shared_heap.proofs.laws.loads_change_no_more.Goals as goal
-
-pub returns : goal.returns
-returns c = has_loaded

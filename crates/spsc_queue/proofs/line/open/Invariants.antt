@@ -1,5 +1,0 @@
-use Rattle.spsc_queue.proofs.line.open.Given as goal
-
--- the credits belong to the queue
-abbrev pub ghosts-ends_back : goal.ghosts-ends_back
-ghosts-ends_back g a = record { queue = a._queue.now.table.shared.table_id }

@@ -1,5 +1,0 @@
-use Rattle.text_format.proofs.Fields.{valid-ascends}
-use Rattle.text_format.proofs.said.fields_at.Goals as goal
-
-pub returns-clause-ascend : goal.returns-clause-ascend
-returns-clause-ascend c = c.fields.ensures.ascend (valid-ascends c.args.table.now c.requires)
