@@ -7,6 +7,7 @@
 
 mod file_sink;
 mod locking;
+mod reading;
 mod standard_input;
 mod standard_output;
 mod system_clock;

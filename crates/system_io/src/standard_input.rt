@@ -5,11 +5,12 @@ ghost use Rattle.std.specs.Io.KnownBytes.{Consumes, IsAtEnd, Keeps};
 ghost use Rattle.mrpc_base.specs.Failures.{HasCause, raised};
 ghost use Rattle.mrpc_base.specs.Sources.{OnBytes, OnNoBytes};
 
+use crate::reading::read_once;
 use mrpc_base::{Got, Source};
 use std::io::Read;
 use std::marker::Model;
 
-/// Standard input, or another reader, as a source. It reveals the remaining bytes if the reader does; the system's
+/// Standard input, or another reader, as a source. A read that a signal interrupts is tried again. It reveals the remaining bytes if the reader does; the system's
 /// reader reveals nothing. Contracts see an `InputState`.
 #[derive(Drop)]
 pub struct StandardInput<R: Read + Drop> {
@@ -56,13 +57,10 @@ impl<R: Read + Drop> Source for StandardInput<R> {
         ensures failures { result ≡ Got.Failed → self.new.failures ≡ raised self.old.failures }
         ensures cause { HasCause (result ≡ Got.Failed) self.old.failures self.new.failures }
     {
-        match self.reader.read(buf) {
-            Ok(0) => Got::End,
-            Ok(n) => Got::Bytes(n),
-            Err(_) => {
-                self.failures = self.failures.saturating_add(1);
-                Got::Failed
-            }
+        let got = read_once(&mut self.reader, buf);
+        if got == Got::Failed {
+            self.failures = self.failures.saturating_add(1);
         }
+        got
     }
 }

@@ -11,7 +11,7 @@ use std::io::Write;
 use std::marker::Model;
 
 /// Standard output, or another writer, as a sink. Each write goes to the writer at once, so that each reports its own
-/// failure. It reveals its contents if the writer does; the system's writer reveals nothing. Contracts see an `OutputState`.
+/// failure. A write that a signal interrupts is tried again. It reveals its contents if the writer does; the system's writer reveals nothing. Contracts see an `OutputState`.
 #[derive(Drop)]
 pub struct StandardOutput<W: Write + Drop> {
     writer: W,

@@ -5,9 +5,10 @@ ghost use Rattle.std.specs.Io.KnownBytes.{Appends, Keeps};
 ghost use Rattle.mrpc_base.specs.Sinks.{OnTook};
 
 use mrpc_base::Put;
-use std::io::Write;
+use std::io::{ErrorKind, Write};
 
-// Writes once to a writer. Taking no bytes of the piece counts as a failure.
+// Writes once to a writer, and again while a signal interrupts the write. Taking no bytes of the piece counts as a
+// failure.
 pub(crate) fn write_once<W: Write>(writer: &mut W, piece: &[u8]) -> Put
     requires some { 0 < length piece.now }
 
@@ -15,8 +16,13 @@ pub(crate) fn write_once<W: Write>(writer: &mut W, piece: &[u8]) -> Put
     ensures appended { OnTook result (λ n. Appends (W.contents writer.old) (W.contents writer.new) (take n piece.now)) }
     ensures kept { result ≡ Put.Failed → Keeps (W.contents writer.old) (W.contents writer.new) }
 {
-    match writer.write(piece) {
-        Ok(0) | Err(_) => Put::Failed,
-        Ok(n) => Put::Took(n),
+    for _ in 0..u64::MAX {
+        match writer.write(piece) {
+            Ok(0) => return Put::Failed,
+            Ok(n) => return Put::Took(n),
+            Err(error) if error.kind() == ErrorKind::Interrupted => {}
+            Err(_) => return Put::Failed,
+        }
     }
+    Put::Failed
 }

@@ -6,15 +6,23 @@ use std::io;
 use std::io::{ErrorKind, Read, Write};
 use system_io::{StandardInput, StandardOutput, SystemClock};
 
-// A device that answers its calls from a list: a count, or a failure.
+// The answer of a device to a call.
+#[derive(Clone, Copy)]
+enum Answer {
+    Count(usize),
+    Interrupted,
+    Broken,
+}
+
+// A device that answers its calls from a list.
 #[derive(Drop)]
 struct Device {
-    answers: [Option<usize>; 3],
+    answers: [Answer; 5],
     calls: usize,
 }
 
 impl Device {
-    fn new(answers: [Option<usize>; 3]) -> Self {
+    fn new(answers: [Answer; 5]) -> Self {
         Device { answers, calls: 0 }
     }
 
@@ -22,11 +30,16 @@ impl Device {
     fn next(&mut self, most: usize) -> io::Result<usize>
         ensures { IfOk result (λ n. n ≤ most) }
     {
-        let answer = self.answers.get(self.calls).copied().unwrap_or(Some(0));
+        let answer = self
+            .answers
+            .get(self.calls)
+            .copied()
+            .unwrap_or(Answer::Count(0));
         self.calls = self.calls.saturating_add(1);
         match answer {
-            Some(n) => Ok(n.min(most)),
-            None => Err(io::Error::from(ErrorKind::BrokenPipe)),
+            Answer::Count(n) => Ok(n.min(most)),
+            Answer::Interrupted => Err(io::Error::from(ErrorKind::Interrupted)),
+            Answer::Broken => Err(io::Error::from(ErrorKind::BrokenPipe)),
         }
     }
 }
@@ -53,7 +66,13 @@ impl Write for Device {
 
 #[test]
 fn reads_are_answered(rt: HostRuntime) {
-    let mut source = StandardInput::new(Device::new([Some(9), None, Some(1)]));
+    let mut source = StandardInput::new(Device::new([
+        Answer::Count(9),
+        Answer::Broken,
+        Answer::Interrupted,
+        Answer::Interrupted,
+        Answer::Count(1),
+    ]));
     let mut buf = [0; 4];
     assert!(rt; source.read(&mut buf) == Got::Bytes(4));
     assert!(rt; buf[3] == b'x');
@@ -64,7 +83,13 @@ fn reads_are_answered(rt: HostRuntime) {
 
 #[test]
 fn a_writer_that_takes_nothing_has_failed(rt: HostRuntime) {
-    let mut sink = StandardOutput::new(Device::new([Some(2), None, Some(0)]));
+    let mut sink = StandardOutput::new(Device::new([
+        Answer::Interrupted,
+        Answer::Count(2),
+        Answer::Broken,
+        Answer::Interrupted,
+        Answer::Count(0),
+    ]));
     assert!(rt; sink.write(b"abc") == Put::Took(2));
     assert!(rt; sink.write(b"c") == Put::Failed);
     assert!(rt; sink.write(b"c") == Put::Failed);

@@ -1,0 +1,6 @@
+-- An interrupted write keeps the contents.
+use Rattle.std.specs.Io.KnownBytes.{Keeps}
+use Rattle.system_io.proofs.writing.write_once.Given as goal
+
+abbrev pub invariant-loop : goal.invariant-loop
+invariant-loop g l = Keeps (g.W.Write.contents l.initial.writer) (g.W.Write.contents l.writer)
