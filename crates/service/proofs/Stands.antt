@@ -262,6 +262,7 @@ module _ {L : Type 0} (of_link : LinkMembers L) (plan : Plan) (e : OpenedEnd L) 
         table = heard.table;
         policy = heard.policy;
         words = heard.words;
+        one_heap = sym heard.one_heap;
         not_loaded = heard.not_loaded;
         seats = tenants;
         not_drawn = none;

@@ -70,7 +70,7 @@ pub record WasRefused {L : Type 0} (of_link : LinkMembers L) (plan : Plan) (app 
 -- A connection was bound with this opening: by the hello that is a prefix of what its link gave, after which its
 -- receiver continues with the remaining bytes. Its own hello was handed over, and its link had no failure. It has the
 -- operations that the plan schedules for it, the policy that judges deliveries to its application, a new heap for
--- these, and seats of all tenants without draws.
+-- these, which its application reads, and seats of all tenants without draws.
 pub record WasBound {C L : Type 0} (of_link : LinkMembers L) (plan : Plan) (clock : C) (app : Application) (start : L)
     (opening : Opening C L) : Type 0 where
   pub its_plan : opening.plan ≡ plan
@@ -88,6 +88,7 @@ pub record WasBound {C L : Type 0} (of_link : LinkMembers L) (plan : Plan) (cloc
   pub table : opening.begun.arrivals.table.now ≡ app_table plan app
   pub policy : option_copied opening.begun.arrivals.policy ≡ inbound_of plan app
   pub words : opening.begun.reader.heap.words ≡ app.receive
+  pub one_heap : opening.begun.arrivals.writer.heap ≡ opening.begun.reader.heap
   pub not_loaded : opening.begun.reader.loads ≡ []
   pub seats : length opening.begun.seats ≡ length plan.declared.tenants
   pub not_drawn : All (λ seat. seat.draws ≡ []) opening.begun.seats

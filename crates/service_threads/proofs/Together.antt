@@ -332,6 +332,9 @@ module _ {C L : Type 0} {of_clock : ClockMembers C} {of_quotas : TicketMembers (
             ∙ same.limit ∙ conn.limit;
         steps = met.knows.steps ∙ met.fails.same.steps ∙ ap (λ s. s.steps.now) c.parts.submissions
             ∙ c.turned.same.submissions.steps ∙ conn.its_scheduled;
+        send_heap = ap (λ (heap : HeapId). heap.words) (met.knows.heap ∙ met.fails.same.heap
+            ∙ ap (λ s. s.reader.heap) c.parts.submissions ∙ c.turned.same.submissions.heap ∙ job.send_heap) ∙ job.heap;
+        receive_heap = ap (λ r. r.heap) met.reader ∙ left.end_of.of_port.reader ∙ ap (λ r. r.heap) job.reader;
         served = met.knows.served;
         finished = met.knows.finished ∙ met.fails.finished ∙ ap (λ s. s.finished) c.parts.submissions ∙ over.finished;
         known = met.knows.known ∙ sym (ap (λ n. n.stores) met.note);

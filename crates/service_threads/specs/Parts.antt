@@ -48,6 +48,7 @@ pub record HasPassed {L : Type 0} (g : LinkMembers L) (start : L) (passed : Clos
 pub record KnowsAll (note : Noting) (sent : AllSent) (old new : Submissions) : Type 0 where
   pub served : IsServed new
   pub known : new.reader.known ≡ note.stores
+  pub heap : new.reader.heap ≡ old.reader.heap
   pub taken : new.calls.taken ≡ sent.items
   pub conn : new.conn ≡ old.conn
   pub steps : new.steps.now ≡ old.steps.now

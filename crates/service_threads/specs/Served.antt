@@ -120,6 +120,10 @@ module _ {C L : Type 0} (of_clock : ClockMembers C) (of_link : LinkMembers L) wh
     pub table : b.submissions.conn.table ≡ app_table opening.plan opening.app
     pub limit : b.submissions.conn.limit ≡ opening.plan.loads
     pub steps : b.submissions.steps.now ≡ opening.begun.steps
+    -- The heap that its calls are loaded from has the size of the plan. The application read the heap that its messages
+    -- were placed in.
+    pub send_heap : b.submissions.reader.heap.words ≡ opening.app.heap
+    pub receive_heap : b.reader.heap ≡ opening.begun.reader.heap
     -- Its calls are those that its application submitted, in order, all of them or, if the connection has ended, a
     -- prefix. Its loads are fresh, and all scheduled operations were applied where they were due.
     pub served : IsServed b.submissions

@@ -8,6 +8,7 @@ returns-clause-knows c = record {
       c.observe.ensures.loads c.observe.ensures.grows c.meet.ensures.heap c.meet.ensures.taken c.meet.ensures.closed
       c.calls_are_fresh.ensures.later;
   known = c.observe.ensures.last c.requires.last;
+  heap = c.observe.ensures.heap;
   taken = c.meet.ensures.taken ∙ c.meet.ensures.all;
   conn = refl;
   steps = refl;
